@@ -1,0 +1,13 @@
+//! What the outside may do: files and standard streams behind one trait, whose clauses say what each
+//! call does and that it fails only where the faults of what it reached for rose.
+//!
+//! `specs/Outside.antt` has the words of the clauses; `Host` in `src/host.rt` carries them. `MemHost`
+//! keeps its files and streams in memory and tells them all, and `FileHost` works on real ones and
+//! tells nothing but its faults.
+#![tactic(auto)]
+
+mod host;
+mod target;
+
+pub use host::Host;
+pub use target::{HostRefusal, ReadRefusal, Stream, Target};
