@@ -1,0 +1,6 @@
+pub mod Steps
+pub mod Pieces
+pub mod Lists
+pub mod Statements
+pub mod Exact
+pub mod Digits
