@@ -4,3 +4,4 @@ pub mod Lists
 pub mod Statements
 pub mod Exact
 pub mod Digits
+pub mod Constants

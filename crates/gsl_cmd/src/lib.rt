@@ -2,6 +2,8 @@
 //! a status.
 #![tactic(auto)]
 
+mod code;
+mod lowering;
 mod program;
 mod reading;
 

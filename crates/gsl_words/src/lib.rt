@@ -5,6 +5,7 @@
 #![tactic(auto)]
 
 mod encoding;
+pub mod enumerant;
 mod module;
 pub mod op;
 mod string;

@@ -1,5 +1,7 @@
 ghost use Rattle.std.specs.Prelude.{◌≡◌, ◌<◌, [], ◌∷◌, ◌++◌, List, length, slice_get, Some, IfOk, OnOk, OnErr, IsSomeAnd};
+ghost use Rattle.gsl_words.specs.Strings.{string_words};
 
+use crate::string::push_string;
 use gsl_base::{List, Memory};
 use std::alloc::Global;
 use std::marker::Model;
@@ -70,6 +72,17 @@ impl Instrs {
     {
         let args = Args::from_slice(self.alloc, args)?;
         self.items.push(Instr { op, args })
+    }
+
+    /// Adds an instruction whose last operand is a text at the end (SPIR-V 1.0, 2.2.1). After `Memory`
+    /// the list is as before.
+    pub fn put_text(&mut self, op: u16, args: &[u32], text: &str) -> Result<(), Memory>
+        ensures ok { OnOk result (self.new ≡ self.old ++ record { op = op; args = args.now ++ string_words text.now } ∷ []) }
+        ensures memory { OnErr result (self.new ≡ self.old) }
+    {
+        let mut operands = Args::from_slice(self.alloc, args)?;
+        push_string(&mut operands, text)?;
+        self.items.push(Instr { op, args: operands })
     }
 
     /// Lends the instructions.
