@@ -5,3 +5,4 @@ pub mod Statements
 pub mod Exact
 pub mod Digits
 pub mod Constants
+pub mod Encodable
