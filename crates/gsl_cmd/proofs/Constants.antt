@@ -13,7 +13,7 @@ pub place_of : {X : Type 0} (p : X → Bool) (xs : List X) → unwrap_or (positi
 place_of p xs =
     let within = prefix_len-le-length (λ x. not (p x)) xs in
     elim (ltb (position_or_len p xs) (length xs)) as (λ b. ltb (position_or_len p xs) (length xs) ≡ b → unwrap_or (cond b (Some (position_or_len p xs)) None) (length xs) ≡ position_or_len p xs)
-      [ true ↦ λ e. refl | false ↦ λ e. let past : length xs ≤ position_or_len p xs = ltb-false _ _ e in omega arith ] refl
+    [ true ↦ λ e. refl | false ↦ λ e. let past : length xs ≤ position_or_len p xs = ltb-false _ _ e in omega arith ] refl
 
 pub place_within : {X : Type 0} (p : X → Bool) (xs : List X) → position_or_len p xs ≤ length xs
 place_within p xs = prefix_len-le-length (λ x. not (p x)) xs
@@ -22,7 +22,7 @@ pub range_more : (a n : ℕ) → range_with_len a (n + 1) ≡ range_with_len a n
 range_more a zero = ap (λ k. k ∷ []) (omega arith)
 range_more a (suc n) =
     ap (range_with_len a) (add-one (suc n)) ∙ ap (λ rest. a ∷ rest) (ap (range_with_len (a + 1)) (sym (add-one n)) ∙ range_more (a + 1) n
-      ∙ ap (λ k. range_with_len (a + 1) n ++ k ∷ []) (let e : (a + 1) + n ≡ a + suc n = omega arith in e))
+    ∙ ap (λ k. range_with_len (a + 1) n ++ k ∷ []) (let e : (a + 1) + n ≡ a + suc n = omega arith in e))
 
 pub map_range_more : {A : Type 0} (f : ℕ → A) (n : ℕ) → map f (range_with_len 0 (n + 1)) ≡ map f (range_with_len 0 n) ++ f n ∷ []
 map_range_more f n =

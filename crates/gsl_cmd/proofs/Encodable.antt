@@ -101,28 +101,38 @@ member_name i name block good =
     let some = words_some name in
     let few = words_few name in
     record {
-      row = _; found = refl; counted = le-leb _ _ (omega arith); short = omega (arith, plainly.1);
+      row = _;
+      found = refl;
+      counted = le-leb _ _ (omega arith);
+      short = omega (arith, plainly.1);
       texts = (name, plain_text name plainly.0, refl);
     }
 
 names_fit : (members : List Name) → AllByRecursion (λ name. IsTrue (is_name name)) members → AllFit (name_code members)
-names_fit members all =
-    ( record { row = _; found = refl; counted = refl; short = omega arith; texts = (codes "B", plain_text (codes "B") refl, refl) }
-    , range_fits _ 0 (length members)
-        (λ i low high. member_name i (name_of members i) id.BLOCK (all_at (λ name. IsTrue (is_name name)) members i [] all (omega arith))))
+names_fit members all = (
+  record { row = _; found = refl; counted = refl; short = omega arith; texts = (codes "B", plain_text (codes "B") refl, refl) },
+  range_fits _ 0 (length members)
+      (λ i low high. member_name i (name_of members i) id.BLOCK (all_at (λ name. IsTrue (is_name name)) members i [] all (omega arith))),
+)
 
 preamble_fits : AllFit preamble
-preamble_fits =
-    ( numbers _ (Exactly 2) refl refl refl
-    , ( numbers _ (Exactly 3) refl refl refl
-      , ( record { row = _; found = refl; counted = refl; short = omega arith; texts = (codes "main", [], plain_text (codes "main") refl, refl) }
-        , (numbers _ (Either 3 6) refl refl refl, tt))))
+preamble_fits = (
+  numbers _ (Exactly 2) refl refl refl,
+  (
+    numbers _ (Exactly 3) refl refl refl,
+    (
+      record { row = _; found = refl; counted = refl; short = omega arith; texts = (codes "main", [], plain_text (codes "main") refl, refl) },
+      (numbers _ (Either 3 6) refl refl refl, tt),
+    ),
+  ),
+)
 
 decorations_fit : (members : ℕ) → AllFit (decoration_code members)
-decorations_fit members =
-    ( numbers _ (Between 3 4) refl refl refl
-    , appended _ _ (range_fits _ 0 members (λ i low high. numbers _ (Between 4 5) refl refl refl))
-        (numbers _ (Between 3 4) refl refl refl, (numbers _ (Between 3 4) refl refl refl, tt)))
+decorations_fit members = (
+  numbers _ (Between 3 4) refl refl refl,
+  appended _ _ (range_fits _ 0 members (λ i low high. numbers _ (Between 4 5) refl refl refl))
+      (numbers _ (Between 3 4) refl refl refl, (numbers _ (Between 3 4) refl refl refl, tt)),
+)
 
 struct_fits : (members block int : ℕ) → 1 ≤ members → members ≤ 64 → IsInTable (instr op.TYPE_STRUCT (block ∷ replicate members int))
 struct_fits members block int some few =
@@ -130,12 +140,19 @@ struct_fits members block int some few =
     record { row = _; found = refl; counted = le-leb _ _ (omega arith); short = omega arith; texts = tt }
 
 types_fit : (members : ℕ) → 1 ≤ members → members ≤ 64 → AllFit (type_code members)
-types_fit members some few =
-    ( numbers _ (Exactly 2) refl refl refl
-    , ( numbers _ (AtLeast 3) refl refl refl
-      , ( numbers _ (Exactly 4) refl refl refl
-        , ( struct_fits members _ _ some few
-          , (numbers _ (Exactly 4) refl refl refl, (numbers _ (Exactly 4) refl refl refl, tt))))))
+types_fit members some few = (
+  numbers _ (Exactly 2) refl refl refl,
+  (
+    numbers _ (AtLeast 3) refl refl refl,
+    (
+      numbers _ (Exactly 4) refl refl refl,
+      (
+        struct_fits members _ _ some few,
+        (numbers _ (Exactly 4) refl refl refl, (numbers _ (Exactly 4) refl refl refl, tt)),
+      ),
+    ),
+  ),
+)
 
 variable_fits : AllFit variable_code
 variable_fits = (numbers _ (Between 4 5) refl refl refl, tt)
@@ -164,10 +181,13 @@ module _ (constants : List ℕ) where
       sum_fits next s.terms _ (numbers _ (AtLeast 5) refl refl refl, (numbers _ (Exactly 3) refl refl refl, statements_fit (next + statement_ids constants s) statements follows fit))
 
   function_fits : (statements : List Statement) → AllFit (function_code constants statements)
-  function_fits statements =
-      ( numbers _ (Exactly 5) refl refl refl
-      , ( numbers _ (Exactly 2) refl refl refl
-        , statements_fit _ statements _ (numbers _ (Exactly 1) refl refl refl, (numbers _ (Exactly 1) refl refl refl, tt))))
+  function_fits statements = (
+    numbers _ (Exactly 5) refl refl refl,
+    (
+      numbers _ (Exactly 2) refl refl refl,
+      statements_fit _ statements _ (numbers _ (Exactly 1) refl refl refl, (numbers _ (Exactly 1) refl refl refl, tt)),
+    ),
+  )
 
 code_fits : (p : Program) → IsProgram p → AllFit (code_of p)
 code_fits p fits =
@@ -178,16 +198,16 @@ code_fits p fits =
     let typed = decorated ++ type_code members in
     let whole = typed ++ constant_code constants in
     appended (whole ++ variable_code) (function_code constants p.statements)
-      (appended whole variable_code
-        (appended typed (constant_code constants)
-          (appended decorated (type_code members)
-            (appended named (decoration_code members)
-              (appended preamble (name_code p.members) preamble_fits (names_fit p.members fits.names))
-              (decorations_fit members))
-            (types_fit members fits.some fits.most))
-          (constants_fit constants))
-        variable_fits)
-      (function_fits constants p.statements)
+    (appended whole variable_code
+    (appended typed (constant_code constants)
+    (appended decorated (type_code members)
+    (appended named (decoration_code members)
+    (appended preamble (name_code p.members) preamble_fits (names_fit p.members fits.names))
+    (decorations_fit members))
+    (types_fit members fits.some fits.most))
+    (constants_fit constants))
+    variable_fits)
+    (function_fits constants p.statements)
 
 -- Each program's module has a file.
 pub module_has_file : (p : Program) → IsProgram p → HasFile (module_of p)

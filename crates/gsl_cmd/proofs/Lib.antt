@@ -6,3 +6,4 @@ pub mod Exact
 pub mod Digits
 pub mod Constants
 pub mod Encodable
+pub mod Verdicts

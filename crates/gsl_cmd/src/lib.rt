@@ -3,6 +3,7 @@
 #![tactic(auto)]
 
 mod code;
+mod compiling;
 mod lowering;
 mod program;
 mod reading;

@@ -11,20 +11,30 @@ ghost use Rattle.gsl_cmd.specs.Lowering as spec;
 use crate::code::Code;
 use crate::program::{Names, Program, Statement, Term};
 use gsl_base::{List, Memory};
-use gsl_words::enumerant::{capability, decoration, execution_mode, execution_model, memory_model, storage_class};
+use gsl_words::enumerant::{
+    capability, decoration, execution_mode, execution_model, memory_model, storage_class,
+};
 use gsl_words::{Module, VERSION_1_0, op};
 use std::alloc::Global;
 
 /// The ids that every module has.
 pub mod id {
     pub const MAIN: u32 = 1;
+
     pub const VOID: u32 = 2;
+
     pub const MAIN_TYPE: u32 = 3;
+
     pub const ENTRY: u32 = 4;
+
     pub const INT: u32 = 5;
+
     pub const BLOCK: u32 = 6;
+
     pub const BLOCK_POINTER: u32 = 7;
+
     pub const MEMBER_POINTER: u32 = 8;
+
     pub const BUFFER: u32 = 9;
     /// The constants take the ids from here on, and then the function's code.
     pub const FIRST_CONSTANT: u32 = 10;
@@ -62,7 +72,10 @@ fn put_pointer(code: &mut Code, constants: &Constants, member: u32) -> Result<u3
 {
     let index = constant_id(constants, member);
     let pointer = code.id();
-    code.put(op::ACCESS_CHAIN, &[id::MEMBER_POINTER, pointer, id::BUFFER, index])?;
+    code.put(
+        op::ACCESS_CHAIN,
+        &[id::MEMBER_POINTER, pointer, id::BUFFER, index],
+    )?;
     Ok(pointer)
 }
 
@@ -87,7 +100,12 @@ fn put_term(code: &mut Code, constants: &Constants, term: Term) -> Result<u32, M
 }
 
 /// Adds terms to a value, from left to right, and gives the id of the sum.
-fn put_more(code: &mut Code, constants: &Constants, value: u32, terms: &[Term]) -> Result<u32, Memory>
+fn put_more(
+    code: &mut Code,
+    constants: &Constants,
+    value: u32,
+    terms: &[Term],
+) -> Result<u32, Memory>
     requires constants { length constants.now < 2 ^ 31 }
     requires room { code.old.next + 3 * length terms.now < 2 ^ 32 }
     ensures code { OnOk result ((follows : List Instr) → code.new.instrs ++ follows ≡ code.old.instrs ++ spec.more_code constants.now code.old.next value terms.now follows) }
@@ -125,7 +143,11 @@ fn put_sum(code: &mut Code, constants: &Constants, terms: &[Term]) -> Result<u32
 }
 
 /// Puts a statement: the sum, and then its store to the target.
-fn put_statement(code: &mut Code, constants: &Constants, statement: &Statement) -> Result<(), Memory>
+fn put_statement(
+    code: &mut Code,
+    constants: &Constants,
+    statement: &Statement,
+) -> Result<(), Memory>
     requires constants { length constants.now < 2 ^ 31 }
     requires room { code.old.next + 3 * length statement.now.terms + 1 < 2 ^ 32 }
     ensures code { OnOk result ((follows : List Instr) → code.new.instrs ++ follows ≡ code.old.instrs ++ spec.statement_code constants.now code.old.next statement.now follows) }
@@ -138,7 +160,11 @@ fn put_statement(code: &mut Code, constants: &Constants, statement: &Statement) 
 }
 
 /// Puts statements one after the other.
-fn put_statements(code: &mut Code, constants: &Constants, statements: &[Statement]) -> Result<(), Memory>
+fn put_statements(
+    code: &mut Code,
+    constants: &Constants,
+    statements: &[Statement],
+) -> Result<(), Memory>
     requires constants { length constants.now < 2 ^ 31 }
     requires few { length statements.now ≤ 256 }
     requires short { All (λ s. length s.terms ≤ 64) statements.now }
@@ -153,7 +179,11 @@ fn put_statements(code: &mut Code, constants: &Constants, statements: &[Statemen
 }
 
 /// Puts the function `main`.
-fn put_function(code: &mut Code, constants: &Constants, statements: &[Statement]) -> Result<(), Memory>
+fn put_function(
+    code: &mut Code,
+    constants: &Constants,
+    statements: &[Statement],
+) -> Result<(), Memory>
     requires constants { length constants.now < 2 ^ 31 }
     requires few { length statements.now ≤ 256 }
     requires short { All (λ s. length s.terms ≤ 64) statements.now }
@@ -174,9 +204,19 @@ fn put_preamble(code: &mut Code) -> Result<(), Memory>
     ensures { OnOk result (code.new ≡ record code.old { instrs = code.old.instrs ++ spec.preamble }) }
 {
     code.put(op::CAPABILITY, &[capability::SHADER])?;
-    code.put(op::MEMORY_MODEL, &[memory_model::LOGICAL, memory_model::GLSL450])?;
-    code.put_text(op::ENTRY_POINT, &[execution_model::GL_COMPUTE, id::MAIN], "main")?;
-    code.put(op::EXECUTION_MODE, &[id::MAIN, execution_mode::LOCAL_SIZE, 1, 1, 1])
+    code.put(
+        op::MEMORY_MODEL,
+        &[memory_model::LOGICAL, memory_model::GLSL450],
+    )?;
+    code.put_text(
+        op::ENTRY_POINT,
+        &[execution_model::GL_COMPUTE, id::MAIN],
+        "main",
+    )?;
+    code.put(
+        op::EXECUTION_MODE,
+        &[id::MAIN, execution_mode::LOCAL_SIZE, 1, 1, 1],
+    )
 }
 
 /// Puts the names of the block and of its members.
@@ -198,7 +238,10 @@ fn put_decorations(code: &mut Code, members: u32) -> Result<(), Memory>
 {
     code.put(op::DECORATE, &[id::BLOCK, decoration::BUFFER_BLOCK])?;
     for i in 0..members {
-        code.put(op::MEMBER_DECORATE, &[id::BLOCK, i, decoration::OFFSET, 4 * i])?;
+        code.put(
+            op::MEMBER_DECORATE,
+            &[id::BLOCK, i, decoration::OFFSET, 4 * i],
+        )?;
     }
     code.put(op::DECORATE, &[id::BUFFER, decoration::DESCRIPTOR_SET, 0])?;
     code.put(op::DECORATE, &[id::BUFFER, decoration::BINDING, 0])
@@ -213,8 +256,14 @@ fn put_types(code: &mut Code, members: u32) -> Result<(), Memory>
     code.put(op::TYPE_FUNCTION, &[id::MAIN_TYPE, id::VOID])?;
     code.put(op::TYPE_INT, &[id::INT, 32, 1])?;
     put_block_type(code, members)?;
-    code.put(op::TYPE_POINTER, &[id::BLOCK_POINTER, storage_class::UNIFORM, id::BLOCK])?;
-    code.put(op::TYPE_POINTER, &[id::MEMBER_POINTER, storage_class::UNIFORM, id::INT])
+    code.put(
+        op::TYPE_POINTER,
+        &[id::BLOCK_POINTER, storage_class::UNIFORM, id::BLOCK],
+    )?;
+    code.put(
+        op::TYPE_POINTER,
+        &[id::MEMBER_POINTER, storage_class::UNIFORM, id::INT],
+    )
 }
 
 /// Puts the block's type, of as many `int` members.
@@ -233,7 +282,10 @@ fn put_constants(code: &mut Code, constants: &Constants) -> Result<(), Memory>
     ensures { OnOk result (code.new ≡ record code.old { instrs = code.old.instrs ++ spec.constant_code constants.now }) }
 {
     for i in 0..constants.len() {
-        code.put(op::CONSTANT, &[id::INT, id::FIRST_CONSTANT + i as u32, constants[i]])?;
+        code.put(
+            op::CONSTANT,
+            &[id::INT, id::FIRST_CONSTANT + i as u32, constants[i]],
+        )?;
     }
     Ok(())
 }
@@ -295,7 +347,10 @@ pub fn lower(alloc: Global, program: &Program) -> Result<Module, Memory>
     put_decorations(&mut code, members)?;
     put_types(&mut code, members)?;
     put_constants(&mut code, &constants)?;
-    code.put(op::VARIABLE, &[id::BLOCK_POINTER, id::BUFFER, storage_class::UNIFORM])?;
+    code.put(
+        op::VARIABLE,
+        &[id::BLOCK_POINTER, id::BUFFER, storage_class::UNIFORM],
+    )?;
     put_function(&mut code, &constants, program.statements.as_slice())?;
     let Code { instrs, next } = code;
     Ok(Module {

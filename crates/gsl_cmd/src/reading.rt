@@ -1,7 +1,7 @@
 //! The reader of the form, from left to right. Each function takes the bytes that are left, and gives
 //! what it read with the bytes after it, or `None` where they do not begin with it.
 
-ghost use Rattle.std.specs.Prelude.{◌≡◌, ◌≤◌, ◌+◌, ◌<◌, List, length, take, drop, IfOk, IfSome, IsTrue, MatchOption};
+ghost use Rattle.std.specs.Prelude.{◌≡◌, ◌≤◌, ◌+◌, ◌<◌, List, length, take, drop, IfOk, IfSome, IfNone, IsTrue, MatchOption};
 ghost use Rattle.std.specs.Option.{option_map};
 ghost use Rattle.std.specs.List.{list_any};
 ghost use Rattle.std.specs.Str.{all_ascii_digits, bytes_eq, IsAscii};
@@ -363,6 +363,14 @@ fn program(alloc: Global, source: &[u8]) -> Result<Option<Program>, Memory>
         members,
         statements,
     }))
+}
+
+/// The program that the source spells, or `None` where it is not of the form.
+pub fn read_program(alloc: Global, source: &[u8]) -> Result<Option<Program>, Memory>
+    ensures found { IfOk result (λ found. IfSome found (λ p. Spells source.now p)) }
+    ensures none { IfOk result (λ found. IfNone found ((p : Program) → Spells source.now p → ⊥)) }
+{
+    program(alloc, source)
 }
 
 /// The lines up to the first member.

@@ -10,4 +10,4 @@ returns c =
     let test = λ (other : ℕ). other == c.args.value in
     let found = c.place_of.ensures.place ∙ ap (position test) c.as_slice.ensures in
     ap (λ n. 10 + n) (c.unwrap_or-place.ensures ∙ ap (λ (o : Option ℕ). unwrap_or o c.len.result) found
-      ∙ ap (unwrap_or (position test c.args.constants.now)) c.len.ensures ∙ place_of test c.args.constants.now)
+    ∙ ap (unwrap_or (position test c.args.constants.now)) c.len.ensures ∙ place_of test c.args.constants.now)

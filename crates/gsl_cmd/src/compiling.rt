@@ -1,0 +1,70 @@
+//! Compiling: from the sources of a stage to the bytes of a module.
+
+ghost use Rattle.std.specs.Prelude.{◌≡◌, length, IfOk, IfSome, IfNone};
+ghost use Rattle.gsl_words.specs.Bytes.{bytes_of};
+ghost use Rattle.gsl_cmd.specs.declared.program.Program.{Program};
+ghost use Rattle.gsl_cmd.specs.Form.{IsProgram, Spells};
+ghost use Rattle.gsl_cmd.specs.Lowering.{module_of};
+ghost use Rattle.gsl_cmd.specs.Verdict.{Compiles, fault_in as first_line};
+
+use crate::lowering::lower;
+use crate::program::Program;
+use crate::reading::read_program;
+use gsl_base::{Bytes, Code, Fault, Memory, Place, Refusal, Sources, Stage};
+use gsl_words::encode;
+use std::alloc::Global;
+
+/// The most bytes of a source file.
+pub const MAX_SOURCE_BYTES: usize = 1_048_576;
+
+/// The bytes of the module that the sources of a stage compile to, or their first fault.
+///
+/// One source is taken so far. `Refusal::Source` comes exactly where the sources have a fault: `E0900`
+/// where one is longer than `MAX_SOURCE_BYTES`, and else `E0001` where it is not of the form that
+/// `docs/LANGUAGE.md` describes.
+pub fn compile(alloc: Global, stage: Stage, sources: &Sources) -> Result<Bytes, Refusal>
+    requires { length sources.now ≡ 1 }
+    ensures { Compiles stage sources.now result }
+{
+    let source = sources[0].as_slice();
+    if source.len() > MAX_SOURCE_BYTES {
+        return Err(Refusal::Source(fault_in(0, Code::E0900)));
+    }
+    match accepted(alloc, stage, source)? {
+        None => Err(Refusal::Source(fault_in(0, Code::E0001))),
+        Some(program) => Ok(file_of(alloc, &program)?),
+    }
+}
+
+/// The program of a source, or `None` where it has no program of this stage.
+fn accepted(alloc: Global, stage: Stage, source: &[u8]) -> Result<Option<Program>, Memory>
+    ensures found { IfOk result (λ found. IfSome found (λ p. (stage ≡ Stage.Compute) × Spells source.now p)) }
+    ensures none { IfOk result (λ found. IfNone found ((p : Program) → stage ≡ Stage.Compute → Spells source.now p → ⊥)) }
+{
+    match stage {
+        Stage::Compute => read_program(alloc, source),
+        Stage::Vertex | Stage::Fragment => Ok(None),
+    }
+}
+
+/// The fault of this code at the first line of a unit.
+pub fn fault_in(unit: u32, code: Code) -> Fault
+    ensures { result ≡ first_line unit code }
+{
+    Fault {
+        place: Place { unit, line: 1 },
+        code,
+    }
+}
+
+/// The file of a program's module.
+#[tactic(auto, using(crate::proofs::Encodable::module_has_file))]
+fn file_of(alloc: Global, program: &Program) -> Result<Bytes, Memory>
+    requires { IsProgram program.now }
+    ensures { IfOk result (λ bytes. bytes ≡ bytes_of (module_of program.now)) }
+{
+    let module = lower(alloc, program)?;
+    let mut bytes = Bytes::new(alloc);
+    encode(&module, &mut bytes)?;
+    Ok(bytes)
+}
