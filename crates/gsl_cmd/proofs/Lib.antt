@@ -7,3 +7,5 @@ pub mod Digits
 pub mod Constants
 pub mod Encodable
 pub mod Verdicts
+pub mod Jobs
+pub mod Ends

@@ -2,3 +2,8 @@ pub mod Form
 pub mod Reading
 pub mod Lowering
 pub mod Verdict
+pub mod Texts
+pub mod Plan
+pub mod Job
+pub mod Performs
+pub mod Command

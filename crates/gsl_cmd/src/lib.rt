@@ -3,10 +3,13 @@
 #![tactic(auto)]
 
 mod code;
+mod command;
 mod compiling;
 mod lowering;
+mod plan;
 mod program;
 mod reading;
+mod text;
 
 pub use program::{
     MAX_MEMBERS, MAX_STATEMENTS, MAX_TERMS, Names, Program, Statement, Statements, Term, Terms,

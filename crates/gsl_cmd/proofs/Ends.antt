@@ -1,0 +1,118 @@
+-- A command that came to its end, and what was printed then, perform its job.
+use Rattle.std.proofs.Common.{◌≡◌, ◌≢◌, ℕ, zero, ◌+◌, ◌<◌, ◌≤◌, List, [], ◌∷◌, ◌++◌, take, Option, Some, None, Ok, Err, refl, ap, sym, subst, ◌∙◌, arith, inl, inr, ◌⊎◌, append-nil}
+use Rattle.std.specs.Prelude.{Result, Contains}
+use Rattle.std.specs.Option.{option_map}
+use Rattle.gsl_base.specs.declared.fault.Fault.{Fault}
+use Rattle.gsl_host.specs.declared.target.Stream.{Stream}
+use Rattle.gsl_host.specs.declared.target.Stream.TheVariants as stream
+use Rattle.gsl_host.specs.declared.target.Target.{Target}
+use Rattle.gsl_host.specs.declared.target.Target.TheVariants.{Printing}
+use Rattle.gsl_host.specs.Outside.{Files, Appends, AppendsSome, NeverFall, Rose}
+use Rattle.gsl_cmd.specs.declared.plan.Stop.{Stop}
+use Rattle.gsl_cmd.specs.declared.plan.Stop.TheVariants as stop
+use Rattle.gsl_cmd.specs.Form.{Name}
+use Rattle.gsl_cmd.specs.Job.{Job, Effect, IsJob}
+use Rattle.gsl_cmd.specs.Plan.{Plan}
+use Rattle.gsl_cmd.specs.Performs.{Performs, Prints, effect_on, KeepsAllBut}
+use Rattle.gsl_cmd.specs.Command.{Did, Ended, Said, Reported}
+use Rattle.gsl_cmd.specs.Texts.{fault_text, host_text}
+use Rattle.gsl_cmd.proofs.Jobs.{later_rise}
+
+appends_none : (before after : Option (List ℕ)) → after ≡ before → Appends before after []
+appends_none None after same = same
+appends_none (Some shown) after same = same ∙ ap Some (sym (append-nil shown))
+
+appends_no_text : (before after : Option (List ℕ)) (text : List ℕ) → text ≡ [] → after ≡ before → Appends before after text
+appends_no_text before after text none same = subst (Appends before after) (sym none) (appends_none before after same)
+
+appends_some : (before after : Option (List ℕ)) (text : List ℕ) → after ≡ before → AppendsSome before after text
+appends_some before after text same = (0, appends_none before after same)
+
+earlier_rise : (first then last : Target → ℕ) (target : Target) → Rose first then target → NeverFall then last → Rose first last target
+earlier_rise first then last target rose never = omega (arith, never target)
+
+prints_over : (first then last : Target → ℕ) (before after : Option (List ℕ)) (text : List ℕ) → NeverFall first then →
+    Prints then last stream.Err before after text → Prints first last stream.Err before after text
+prints_over first then last before after text never (inl whole) = inl whole
+prints_over first then last before after text never (inr (rose, part)) = inr (later_rise first then last (Printing stream.Err) never rose, part)
+
+module _ (plan : Plan) (file : Name) (before : Files) (after : Option Files) (first then last : Target → ℕ) (printed printed' : Stream → Option (List ℕ))
+    (up : NeverFall first then) (over : NeverFall then last) (quiet : printed' stream.Out ≡ printed stream.Out) where
+  abbrev Done : ℕ → Type 0
+  Done status = (job : Job) × IsJob plan before job × Performs job before after first last printed printed' status
+
+  abbrev Came : Result (Unit {0}) Stop → Type 0
+  Came end = Ended plan file before after first then end
+
+  memory : {end : Result (Unit {0}) Stop} (e : Came end) → AppendsSome (printed stream.Err) (printed' stream.Err) e.job.err ⊎ AppendsSome (printed stream.Err) (printed' stream.Err) host_text → Done 4
+  memory e some = (
+    e.job,
+    e.is_job,
+    record {
+      status_is = λ n3 n4. absurd (n4 refl);
+      cause = λ is. absurd (let no : 4 ≡ 3 = is in cc);
+      files = λ n3 n4. absurd (n4 refl);
+      kept = e.kept;
+      err = λ n4. absurd (n4 refl);
+      err_memory = λ is. some;
+      out = λ n3 n4. absurd (n4 refl);
+      out_part = appends_some _ _ e.job.out quiet;
+    },
+  )
+
+  pub done_ok : Came (Ok tt) → printed' stream.Err ≡ printed stream.Err → Done 0
+  done_ok e silent = (
+    e.job,
+    e.is_job,
+    record {
+      status_is = λ n3 n4. sym e.did.0;
+      cause = λ is. absurd (let no : 0 ≡ 3 = is in cc);
+      files = λ n3 n4. e.did.2;
+      kept = e.kept;
+      err = λ n4. inl (appends_no_text _ _ e.job.err e.did.1 silent);
+      err_memory = λ is. absurd (let no : 0 ≡ 4 = is in cc);
+      out = λ n3 n4. appends_no_text _ _ e.job.out e.out quiet;
+      out_part = appends_some _ _ e.job.out quiet;
+    },
+  )
+
+  host : Came (Err stop.Host) → Prints then last stream.Err (printed stream.Err) (printed' stream.Err) host_text → Done 3
+  host e said = (
+    e.job,
+    e.is_job,
+    record {
+      status_is = λ n3 n4. absurd (n3 refl);
+      cause = λ is. (e.did.0, e.did.1, earlier_rise first then last e.did.0 e.did.2 over);
+      files = λ n3 n4. absurd (n3 refl);
+      kept = e.kept;
+      err = λ n4. prints_over first then last _ _ host_text up said;
+      err_memory = λ is. absurd (let no : 3 ≡ 4 = is in cc);
+      out = λ n3 n4. absurd (n3 refl);
+      out_part = appends_some _ _ e.job.out quiet;
+    },
+  )
+
+  fault : (f : Fault) → (e : Came (Err (stop.Fault f))) → Prints then last stream.Err (printed stream.Err) (printed' stream.Err) (fault_text file f) → Done 1
+  fault f e said = (
+    e.job,
+    e.is_job,
+    record {
+      status_is = λ n3 n4. sym e.did.0;
+      cause = λ is. absurd (let no : 1 ≡ 3 = is in cc);
+      files = λ n3 n4. e.did.3 ∙ ap Some (ap (λ (effect : Effect). effect_on effect before) (sym e.did.2));
+      kept = e.kept;
+      err = λ n4. prints_over first then last _ _ e.job.err up (subst (Prints then last stream.Err (printed stream.Err) (printed' stream.Err)) (sym e.did.1) said);
+      err_memory = λ is. absurd (let no : 1 ≡ 4 = is in cc);
+      out = λ n3 n4. appends_no_text _ _ e.job.out e.out quiet;
+      out_part = appends_some _ _ e.job.out quiet;
+    },
+  )
+
+  pub done_err : (why : Stop) (result : ℕ) → Came (Err why) → Reported file why then last (printed stream.Err) (printed' stream.Err) result → Done result
+  done_err stop.Memory result e (is, silent) = subst Done (sym is) (memory e (inl (appends_some _ _ e.job.err silent)))
+  done_err stop.Host result e (inl (is, said)) = subst Done (sym is) (host e said)
+  done_err stop.Host result e (inr (is, part)) = subst Done (sym is) (memory e (inr part))
+  done_err (stop.Fault f) result e (inl (inl (is, said))) = subst Done (sym is) (fault f e said)
+  done_err (stop.Fault f) result e (inl (inr (is, part))) =
+      subst Done (sym is) (memory e (inl (subst (AppendsSome (printed stream.Err) (printed' stream.Err)) (sym e.did.1) part)))
+  done_err (stop.Fault f) result e (inr (is, silent)) = subst Done (sym is) (memory e (inl (appends_some _ _ e.job.err silent)))

@@ -1,0 +1,71 @@
+-- The steps of a command in the code, against the job of its plan.
+use Rattle.std.specs.Prelude.{◌≡◌, ◌≢◌, ◌<◌, ◌≤◌, length, IsSomeAnd, ℕ, List, [], ◌∷◌, ◌++◌, Option, Some, None, Result, Ok, Err, Contains, ◌⊎◌}
+use Rattle.gsl_host.specs.declared.target.Stream.{Stream}
+use Rattle.gsl_host.specs.declared.target.Stream.TheVariants as stream
+use Rattle.gsl_host.specs.declared.target.Target.{Target}
+use Rattle.gsl_host.specs.Outside.{Files, AppendsSome, NeverFall, Rose}
+use Rattle.gsl_cmd.specs.declared.plan.Command.{Command}
+use Rattle.gsl_cmd.specs.declared.plan.Command.TheVariants as command
+use Rattle.gsl_cmd.specs.declared.plan.Stop.{Stop}
+use Rattle.gsl_cmd.specs.declared.plan.Stop.TheVariants as stop
+use Rattle.gsl_cmd.specs.Form.{Name}
+use Rattle.gsl_cmd.specs.Job.{Job, IsJob, Effect}
+use Rattle.gsl_cmd.specs.Performs.{effect_on, KeepsAllBut, Prints}
+use Rattle.gsl_cmd.specs.Plan.{Plan}
+use Rattle.gsl_cmd.specs.Texts.{fault_text, host_text}
+use Rattle.gsl_cmd.specs.declared.compiling.TheConstants.{MAX_SOURCE_BYTES}
+use Rattle.gsl_cmd.specs.Verdict.{fault_in, Compiles, FirstFault}
+use Rattle.gsl_base.specs.declared.stage.Stage.{Stage}
+use Rattle.gsl_base.specs.declared.fault.Code.TheVariants.{E0900}
+use Rattle.std.specs.FinMap.{get}
+
+-- the plan of a command in the code
+abbrev pub plan_in : Command → Option Plan
+plan_in command.Usage = None
+plan_in (command.Compile stage out file) = Some (Plan.Compile stage out.now (file.now ∷ []))
+
+-- What a step that ended so has done of the job.
+abbrev pub Did : Name → Job → Files → Option Files → (Target → ℕ) → (Target → ℕ) → Result (Unit {0}) Stop → Type 0
+Did file job before after faults faults' (Ok done) = (job.status ≡ 0) × (job.err ≡ []) × (after ≡ Some (effect_on job.effect before))
+Did file job before after faults faults' (Err (stop.Fault fault)) =
+    (job.status ≡ 1) × (job.err ≡ fault_text file fault) × (job.effect ≡ Effect.Keeps) × (after ≡ Some before)
+Did file job before after faults faults' (Err stop.Host) = (target : Target) × Contains job.targets target × Rose faults faults' target
+Did file job before after faults faults' (Err stop.Memory) = Unit {0}
+
+-- A command of the plan has come to this end, and there is a job of which it has done so much.
+pub record Ended (plan : Plan) (file : Name) (before : Files) (after : Option Files) (faults faults' : Target → ℕ) (end : Result (Unit {0}) Stop) : Type 0 where
+  pub job : Job
+  pub is_job : IsJob plan before job
+  pub out : job.out ≡ []
+  pub did : Did file job before after faults faults' end
+  pub kept : KeepsAllBut job.effect before after
+
+-- A text was printed on standard error, and the status is the one that it was printed for, or 4.
+abbrev pub Said : (Target → ℕ) → (Target → ℕ) → Option (List ℕ) → Option (List ℕ) → List ℕ → ℕ → ℕ → Type 0
+Said faults faults' before after text status result =
+    ((result ≡ status) × Prints faults faults' stream.Err before after text) ⊎ ((result ≡ 4) × AppendsSome before after text)
+
+-- Why a command stopped was printed, with the status that belongs to it.
+abbrev pub Reported : Name → Stop → (Target → ℕ) → (Target → ℕ) → Option (List ℕ) → Option (List ℕ) → ℕ → Type 0
+Reported file stop.Memory faults faults' before after result = (result ≡ 4) × (after ≡ before)
+Reported file stop.Host faults faults' before after result = Said faults faults' before after host_text 3 result
+Reported file (stop.Fault fault) faults faults' before after result =
+    Said faults faults' before after (fault_text file fault) 1 result ⊎ ((result ≡ 4) × (after ≡ before))
+
+-- What reading a source file answers where the files are told.
+abbrev pub ReadsSourceTold : Files → Name → Result (List ℕ) Stop → Type 0
+ReadsSourceTold files name (Ok bytes) = (get files name ≡ Some bytes) × (length bytes ≤ MAX_SOURCE_BYTES)
+ReadsSourceTold files name (Err (stop.Fault fault)) =
+    IsSomeAnd (get files name) (λ bytes. MAX_SOURCE_BYTES < length bytes) × (fault ≡ fault_in 0 E0900)
+ReadsSourceTold files name (Err _) = Unit {0}
+
+abbrev pub ReadsSource : Option Files → Name → Result (List ℕ) Stop → Type 0
+ReadsSource (Some files) name answer = ReadsSourceTold files name answer
+ReadsSource None name answer = Unit {0}
+
+-- What compiling one source answers.
+abbrev pub CompilesSource : Stage → List ℕ → Result (List ℕ) Stop → Type 0
+CompilesSource stage source (Ok bytes) = Compiles stage (source ∷ []) (Ok bytes)
+CompilesSource stage source (Err (stop.Fault fault)) = FirstFault stage (source ∷ []) fault
+CompilesSource stage source (Err stop.Memory) = Unit {0}
+CompilesSource stage source (Err stop.Host) = ⊥

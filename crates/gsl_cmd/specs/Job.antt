@@ -1,0 +1,86 @@
+-- What a command does where no call of the host fails but the reading of an absent name: its status, the
+-- texts on the streams, what becomes of the files, and what it reaches for.
+use Rattle.std.specs.Prelude.{◌≡◌, ℕ, ◌+◌, Bool, false, not, nat_lt, List, [], ◌∷◌, ◌++◌, length, Option, Some, None, Result, Ok, Err, if◌then◌else◌, slice_index_or}
+use Rattle.std.specs.FinMap.{get}
+use Rattle.gsl_base.specs.declared.stage.Stage.{Stage}
+use Rattle.gsl_base.specs.declared.fault.Code.TheVariants.{E0900}
+use Rattle.gsl_base.specs.declared.fault.Fault.{Fault}
+use Rattle.gsl_base.specs.Checked.{Checked}
+use Rattle.gsl_host.specs.declared.target.Target.{Target}
+use Rattle.gsl_host.specs.declared.target.Target.TheVariants.{Reading, Writing}
+use Rattle.gsl_host.specs.Outside.{Files}
+use Rattle.gsl_words.specs.Bytes.{bytes_of}
+use Rattle.gsl_cmd.specs.declared.compiling.TheConstants.{MAX_SOURCE_BYTES}
+use Rattle.gsl_cmd.specs.declared.program.Program.{Program}
+use Rattle.gsl_cmd.specs.Form.{Name}
+use Rattle.gsl_cmd.specs.Lowering.{module_of}
+use Rattle.gsl_cmd.specs.Plan.{Plan}
+use Rattle.gsl_cmd.specs.Texts.{fault_text, host_text}
+use Rattle.gsl_cmd.specs.Verdict.{Judges, fault_in}
+
+-- What becomes of the files.
+pub data Effect : Type 0 where
+  Keeps : Effect
+  Writes : (name : Name) (bytes : List ℕ) → Effect
+
+pub record Job : Type 0 where
+  pub status : ℕ
+  pub out : List ℕ
+  pub err : List ℕ
+  pub effect : Effect
+  pub targets : List Target
+
+-- What reading source files one after the other gives, up to the first that is absent or too long.
+pub data Gathered : Type 0 where
+  Sources : List (List ℕ) → Gathered
+  Absent : Gathered
+  TooLong : (unit : ℕ) → Gathered
+
+abbrev pub with_source : List ℕ → Gathered → Gathered
+with_source source (Sources sources) = Sources (source ∷ sources)
+with_source source Absent = Absent
+with_source source (TooLong unit) = TooLong unit
+
+abbrev pub gather_one : ℕ → Option (List ℕ) → Gathered → Gathered
+gather_one unit None others = Absent
+gather_one unit (Some bytes) others = if nat_lt MAX_SOURCE_BYTES (length bytes) then TooLong unit else with_source bytes others
+
+-- the files of these names, numbered from a unit on
+abbrev pub gather : Files → ℕ → List Name → Gathered
+gather files unit [] = Sources []
+gather files unit (name ∷ names) = gather_one unit (get files name) (gather files (unit + 1) names)
+
+-- whether reading goes on after a file
+abbrev pub is_source : Option (List ℕ) → Bool
+is_source None = false
+is_source (Some bytes) = not (nat_lt MAX_SOURCE_BYTES (length bytes))
+
+-- what is read up to the answer
+abbrev pub reads : Files → List Name → List Target
+reads files [] = []
+reads files (name ∷ names) = Reading name ∷ (if is_source (get files name) then reads files names else [])
+
+-- the job where a file is absent
+abbrev pub failed : List Target → Job
+failed targets = record { status = 3; out = []; err = host_text; effect = Keeps; targets = targets }
+
+-- the job where the sources have a fault
+abbrev pub refused : List Name → List Target → Fault → Job
+refused names targets fault =
+    record { status = 1; out = []; err = fault_text (slice_index_or names fault.place.unit []) fault; effect = Keeps; targets = targets }
+
+-- the job where the sources are judged so
+abbrev pub compiled : Name → List Name → List Target → Checked Program → Job
+compiled out names targets (Ok p) =
+    record { status = 0; out = []; err = []; effect = Writes out (bytes_of (module_of p)); targets = targets ++ Writing out ∷ [] }
+compiled out names targets (Err fault) = refused names targets fault
+
+abbrev pub IsCompileJob : Stage → Name → List Name → List Target → Job → Gathered → Type 0
+IsCompileJob stage out names targets job Absent = job ≡ failed targets
+IsCompileJob stage out names targets job (TooLong unit) = job ≡ refused names targets (fault_in unit E0900)
+IsCompileJob stage out names targets job (Sources sources) =
+    (verdict : Checked Program) × Judges stage sources verdict × (job ≡ compiled out names targets verdict)
+
+-- The job of a command over the files that are told.
+abbrev pub IsJob : Plan → Files → Job → Type 0
+IsJob (Plan.Compile stage out names) files job = IsCompileJob stage out names (reads files names) job (gather files 0 names)

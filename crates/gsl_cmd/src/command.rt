@@ -1,0 +1,191 @@
+//! The commands of the program.
+
+ghost use Rattle.std.specs.Prelude.{ℕ, ◌≡◌, ◌≢◌, ◌≤◌, ◌⊎◌, [], ◌∷◌, List, Option, Some, Ok, Err, length, Contains, IfOk, OnOk};
+ghost use Rattle.std.specs.FinMap.{get};
+ghost use Rattle.std.specs.Option.{option_map};
+ghost use Rattle.gsl_base.specs.declared.fault.Fault.{Fault};
+ghost use Rattle.gsl_host.specs.declared.target.Stream.{Stream};
+ghost use Rattle.gsl_host.specs.declared.target.Target.{Target};
+ghost use Rattle.gsl_host.specs.Outside.{Files, NeverFall, Rose, Sets, KeepsOthers};
+ghost use Rattle.gsl_cmd.specs.Job.{Job, IsJob};
+ghost use Rattle.gsl_cmd.specs.Plan.{Plan, plan_of, targets_of};
+ghost use Rattle.gsl_cmd.specs.Plan as spec;
+ghost use Rattle.gsl_cmd.specs.Command.{plan_in, Ended, Said, Reported, ReadsSource, CompilesSource};
+ghost use Rattle.gsl_cmd.specs.Performs.{Performs};
+
+use crate::compiling::{MAX_SOURCE_BYTES, compile, fault_in};
+use crate::plan::{Command, Stop};
+use crate::text::{HOST_TEXT, USAGE_TEXT, fault_text};
+use gsl_base::{Bytes, Code, Fault, Refusal, Sources, Stage, Text, Words};
+use gsl_host::{Host, HostRefusal, ReadRefusal, Stream};
+use std::alloc::Global;
+
+/// The command that the words are, if they are one: `compile comp OUT FILE` behind the program's name.
+fn plan(words: &Words) -> Command<'_>
+    ensures { plan_in result ≡ plan_of words.now }
+{
+    match words.as_slice() {
+        [_, command, stage, out, file] => plan_of_five(command, stage, out, file),
+        _ => Command::Usage,
+    }
+}
+
+fn plan_of_five<'a>(command: &Text, stage: &Text, out: &'a Text, file: &'a Text) -> Command<'a>
+    ensures { plan_in result ≡ spec.plan_of_five command.now stage.now out.now file.now }
+{
+    if command.as_str() == "compile" && stage.as_str() == "comp" {
+        Command::Compile {
+            stage: Stage::Compute,
+            out,
+            file,
+        }
+    } else {
+        Command::Usage
+    }
+}
+
+/// Prints a text on standard error. The status is the one given, or 4 where memory was wanting.
+fn say<H: Host>(alloc: Global, text: &[u8], status: u8, host: &mut H) -> u8
+    ensures said { Said (H.faults host.old) (H.faults host.new) (H.printed host.old Stream.Err) (H.printed host.new Stream.Err) text.now status result }
+    ensures out { H.printed host.new Stream.Out ≡ H.printed host.old Stream.Out }
+    ensures files { H.files host.new ≡ H.files host.old }
+    ensures faults { NeverFall (H.faults host.old) (H.faults host.new) }
+{
+    match host.print(alloc, Stream::Err, text) {
+        Ok(()) | Err(HostRefusal::Failed) => status,
+        Err(HostRefusal::Memory) => 4,
+    }
+}
+
+/// Prints how the program is called.
+fn usage<H: Host>(alloc: Global, host: &mut H) -> u8
+    ensures status { (result ≡ 2) ⊎ (result ≡ 4) }
+    ensures out { H.printed host.new Stream.Out ≡ H.printed host.old Stream.Out }
+    ensures files { H.files host.new ≡ H.files host.old }
+    ensures faults { NeverFall (H.faults host.old) (H.faults host.new) }
+{
+    say(alloc, USAGE_TEXT, 2, host)
+}
+
+/// Reports why a command stopped, and gives the status.
+fn report<H: Host>(alloc: Global, file: &Text, stop: Stop, host: &mut H) -> u8
+    ensures reported { Reported file.now stop (H.faults host.old) (H.faults host.new) (H.printed host.old Stream.Err) (H.printed host.new Stream.Err) result }
+    ensures out { H.printed host.new Stream.Out ≡ H.printed host.old Stream.Out }
+    ensures files { H.files host.new ≡ H.files host.old }
+    ensures faults { NeverFall (H.faults host.old) (H.faults host.new) }
+{
+    match stop {
+        Stop::Memory => 4,
+        Stop::Host => say(alloc, HOST_TEXT, 3, host),
+        Stop::Fault(fault) => match fault_text(alloc, file, &fault) {
+            Ok(text) => say(alloc, text.as_slice(), 1, host),
+            Err(_) => 4,
+        },
+    }
+}
+
+/// Reads a source file.
+fn read_source<H: Host>(alloc: Global, file: &Text, host: &mut H) -> Result<Bytes, Stop>
+    ensures told { ReadsSource (H.files host.old) file.now result }
+    ensures failed { result ≡ Err Stop.Host → Rose (H.faults host.old) (H.faults host.new) (Target.Reading file.now) }
+    ensures faults { NeverFall (H.faults host.old) (H.faults host.new) }
+    ensures files { H.files host.new ≡ H.files host.old }
+    ensures streams { (stream : Stream) → H.printed host.new stream ≡ H.printed host.old stream }
+{
+    match host.read_file(alloc, file, MAX_SOURCE_BYTES) {
+        Ok(bytes) => Ok(bytes),
+        Err(ReadRefusal::TooLong) => Err(Stop::Fault(fault_in(0, Code::E0900))),
+        Err(ReadRefusal::Failed) => Err(Stop::Host),
+        Err(ReadRefusal::Memory) => Err(Stop::Memory),
+    }
+}
+
+/// Compiles a file and writes its module.
+fn compile_file<H: Host>(
+    alloc: Global,
+    stage: Stage,
+    out: &Text,
+    file: &Text,
+    host: &mut H,
+) -> Result<(), Stop>
+    ensures told { (files : Files) → H.files host.old ≡ Some files →
+        Ended (Plan.Compile stage out.now (file.now ∷ [])) file.now files (H.files host.new) (H.faults host.old) (H.faults host.new) result }
+    ensures cause { result ≡ Err Stop.Host → (target : Target) × Contains (targets_of (Plan.Compile stage out.now (file.now ∷ []))) target × Rose (H.faults host.old) (H.faults host.new) target }
+    ensures faults { NeverFall (H.faults host.old) (H.faults host.new) }
+    ensures streams { (stream : Stream) → H.printed host.new stream ≡ H.printed host.old stream }
+{
+    let source = read_source(alloc, file, host)?;
+    let bytes = compile_source(alloc, stage, source)?;
+    write_module(alloc, out, &bytes, host)
+}
+
+/// Compiles one source.
+fn compile_source(alloc: Global, stage: Stage, source: Bytes) -> Result<Bytes, Stop>
+    ensures { CompilesSource stage source result }
+{
+    let mut sources = Sources::new(alloc);
+    sources.push(source)?;
+    match compile(alloc, stage, &sources) {
+        Ok(bytes) => Ok(bytes),
+        Err(Refusal::Source(fault)) => Err(Stop::Fault(fault)),
+        Err(Refusal::Memory) => Err(Stop::Memory),
+    }
+}
+
+/// Writes the file of a module.
+fn write_module<H: Host>(alloc: Global, out: &Text, bytes: &Bytes, host: &mut H) -> Result<(), Stop>
+    ensures ok { OnOk result (Sets (H.files host.old) (H.files host.new) out.now bytes.now) }
+    ensures others { KeepsOthers (H.files host.old) (H.files host.new) out.now }
+    ensures failed { result ≡ Err Stop.Host → Rose (H.faults host.old) (H.faults host.new) (Target.Writing out.now) }
+    ensures no_fault { (fault : Fault) → result ≡ Err (Stop.Fault fault) → ⊥ }
+    ensures faults { NeverFall (H.faults host.old) (H.faults host.new) }
+    ensures streams { (stream : Stream) → H.printed host.new stream ≡ H.printed host.old stream }
+{
+    match host.write_file(alloc, out, bytes.as_slice()) {
+        Ok(()) => Ok(()),
+        Err(HostRefusal::Failed) => Err(Stop::Host),
+        Err(HostRefusal::Memory) => Err(Stop::Memory),
+    }
+}
+
+/// Compiles a file, writes its module and gives the status.
+fn compile_command<H: Host>(
+    alloc: Global,
+    stage: Stage,
+    out: &Text,
+    file: &Text,
+    host: &mut H,
+) -> u8
+    ensures told { (files : Files) → H.files host.old ≡ Some files → (job : Job) × IsJob (Plan.Compile stage out.now (file.now ∷ [])) files job
+        × Performs job files (H.files host.new) (H.faults host.old) (H.faults host.new) (H.printed host.old) (H.printed host.new) result }
+    ensures cause { result ≡ 3 → (target : Target) × Contains (targets_of (Plan.Compile stage out.now (file.now ∷ []))) target × Rose (H.faults host.old) (H.faults host.new) target }
+    ensures planned { result ≢ 2 }
+{
+    match compile_file(alloc, stage, out, file, host) {
+        Ok(()) => 0,
+        Err(stop) => report(alloc, file, stop, host),
+    }
+}
+
+/// Runs the command that the words are, and gives the program's status. The first word is the program's
+/// own name.
+pub fn glsl_main<H: Host>(alloc: Global, words: &Words, host: &mut H) -> u8
+    // Status 2 comes exactly where the words are no command, unless memory was wanting; all stays then.
+    ensures usage { result ≡ 2 → plan_of words.now ≡ None }
+    ensures unplanned { plan_of words.now ≡ None → ((result ≡ 2) ⊎ (result ≡ 4)) × (H.files host.new ≡ H.files host.old)
+        × (H.printed host.new Stream.Out ≡ H.printed host.old Stream.Out) }
+
+    // The command has done its job, or as much of it as the host and the memory let it.
+    ensures told { (plan : Plan) → plan_of words.now ≡ Some plan → (files : Files) → H.files host.old ≡ Some files →
+        (job : Job) × IsJob plan files job
+        × Performs job files (H.files host.new) (H.faults host.old) (H.faults host.new) (H.printed host.old) (H.printed host.new) result }
+
+    // On every host, status 3 comes only where something failed that the command reaches for.
+    ensures cause { result ≡ 3 → (plan : Plan) × (target : Target) × (plan_of words.now ≡ Some plan) × Contains (targets_of plan) target
+        × Rose (H.faults host.old) (H.faults host.new) target }
+{
+    match plan(words) {
+        Command::Usage => usage(alloc, host),
+        Command::Compile { stage, out, file } => compile_command(alloc, stage, out, file, host),
+    }
+}
