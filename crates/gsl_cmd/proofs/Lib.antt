@@ -9,3 +9,4 @@ pub mod Encodable
 pub mod Verdicts
 pub mod Jobs
 pub mod Ends
+pub mod Unique

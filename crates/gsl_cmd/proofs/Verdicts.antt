@@ -29,7 +29,7 @@ one_source [] source one first = absurd (cc)
 one_source (s ∷ []) source one first = let same : s ≡ source = cc in ap (λ x. x ∷ []) same
 one_source (s ∷ t ∷ sources) source one first = absurd (omega arith)
 
-first_same : {a b : List ℕ} → a ∷ [] ≡ b ∷ [] → a ≡ b
+pub first_same : {a b : List ℕ} → a ∷ [] ≡ b ∷ [] → a ≡ b
 first_same e = cc
 
 module _ (stage : Stage) (sources : List (List ℕ)) (source : List ℕ) (one : sources ≡ source ∷ []) where

@@ -1,16 +1,26 @@
 //! The compiler: from the words of a command line and the files that they name to a module's file and
 //! a status.
+//!
+//! `glsl_main` carries what a run does, against the job of its words and files (`specs/Job.antt`,
+//! `specs/Performs.antt`), and `compile` what a source compiles to (`specs/Verdict.antt`). The sources
+//! that are taken so far are those of `specs/Form.antt`, and `specs/Lowering.antt` has the module of each.
 #![tactic(auto)]
 
 mod code;
 mod command;
 mod compiling;
+mod laws;
 mod lowering;
 mod plan;
 mod program;
 mod reading;
 mod text;
 
+pub use command::glsl_main;
+pub use compiling::{MAX_SOURCE_BYTES, compile};
+pub use laws::{one_job, one_program, one_verdict};
+pub use lowering::lower;
 pub use program::{
     MAX_MEMBERS, MAX_STATEMENTS, MAX_TERMS, Names, Program, Statement, Statements, Term, Terms,
 };
+pub use reading::read_program;
