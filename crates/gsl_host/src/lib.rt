@@ -6,8 +6,12 @@
 //! tells nothing but its faults.
 #![tactic(auto)]
 
+mod faults;
+mod file_table;
 mod host;
+mod mem;
 mod target;
 
 pub use host::Host;
+pub use mem::MemHost;
 pub use target::{HostRefusal, ReadRefusal, Stream, Target};
