@@ -49,7 +49,7 @@ abbrev pub next_number : ℕ → ℕ
 next_number calls = min (calls + 1) (2 ^ 64 - 1)
 
 -- whether the next call is to fail
-abbrev pub will_fail : Held → Bool
+unfoldable pub will_fail : Held → Bool
 will_fail held = list_any (λ n. n == next_number held.calls) held.planned
 
 -- after a call that changed nothing else
@@ -66,18 +66,18 @@ bounded None most = Err read.Failed
 bounded (Some bytes) most = if nat_le (length bytes) most then Ok bytes else Err read.TooLong
 
 -- what a read answers, unless memory is wanting
-abbrev pub read_of : Held → Name → ℕ → Result (List ℕ) ReadRefusal
+unfoldable pub read_of : Held → Name → ℕ → Result (List ℕ) ReadRefusal
 read_of held name most = if will_fail held then Err read.Failed else bounded (get held.files name) most
 
 -- what a host holds after a read that answered so
-abbrev pub after_read : Held → Name → Result (List ℕ) ReadRefusal → Held
+unfoldable pub after_read : Held → Name → Result (List ℕ) ReadRefusal → Held
 after_read held name (Ok bytes) = counted held
 after_read held name (Err read.Failed) = faulted held (Reading name)
 after_read held name (Err read.TooLong) = counted held
 after_read held name (Err read.Memory) = counted held
 
 -- what a host holds after a write that answered so
-abbrev pub after_write : Held → Name → List ℕ → Result (Unit {0}) HostRefusal → Held
+unfoldable pub after_write : Held → Name → List ℕ → Result (Unit {0}) HostRefusal → Held
 after_write held name bytes (Ok done) = record (counted held) { files = insert held.files name bytes }
 after_write held name bytes (Err refusal.Failed) = faulted held (Writing name)
 after_write held name bytes (Err refusal.Memory) = counted held
@@ -88,7 +88,7 @@ appended held stream.Out bytes = record held { out = held.out ++ bytes }
 appended held stream.Err bytes = record held { err = held.err ++ bytes }
 
 -- what a host holds after a print that answered so
-abbrev pub after_print : Held → Stream → List ℕ → Result (Unit {0}) HostRefusal → Held
+unfoldable pub after_print : Held → Stream → List ℕ → Result (Unit {0}) HostRefusal → Held
 after_print held stream bytes (Ok done) = appended (counted held) stream bytes
 after_print held stream bytes (Err refusal.Failed) = faulted held (Printing stream)
 after_print held stream bytes (Err refusal.Memory) = counted held

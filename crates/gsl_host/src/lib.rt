@@ -15,3 +15,6 @@ mod target;
 pub use host::Host;
 pub use mem::MemHost;
 pub use target::{HostRefusal, ReadRefusal, Stream, Target};
+
+#[cfg(test)]
+mod tests;

@@ -120,7 +120,7 @@ impl Host for MemHost {
     ghost faults = { told_faults };
 
     /// An absent file is a fault of reading it.
-    #[tactic(auto, using(crate::proofs::Targets::fault_counts))]
+    #[tactic(auto, using(crate::proofs::Targets::fault_counts), unfolding(crate::specs::Held::will_fail, crate::specs::Held::read_of, crate::specs::Held::after_read))]
     fn read_file(&mut self, alloc: Global, name: &Text, most: usize) -> Result<Bytes, ReadRefusal>
         ensures answer { Reads (told_files self.old) name.now most result }
         ensures within { IfOk result (λ bytes. length bytes ≤ most) }
@@ -148,7 +148,7 @@ impl Host for MemHost {
         Ok(List::from_slice(alloc, bytes)?)
     }
 
-    #[tactic(auto, using(crate::proofs::Targets::fault_counts, crate::proofs::Names::other_files))]
+    #[tactic(auto, using(crate::proofs::Targets::fault_counts, crate::proofs::Names::other_files), unfolding(crate::specs::Held::will_fail, crate::specs::Held::after_write))]
     fn write_file(&mut self, alloc: Global, name: &Text, bytes: &[u8]) -> Result<(), HostRefusal>
         ensures ok { OnOk result (Sets (told_files self.old) (told_files self.new) name.now bytes.now) }
         ensures others { KeepsOthers (told_files self.old) (told_files self.new) name.now }
@@ -170,7 +170,7 @@ impl Host for MemHost {
         Ok(())
     }
 
-    #[tactic(auto, using(crate::proofs::Targets::fault_counts))]
+    #[tactic(auto, using(crate::proofs::Targets::fault_counts), unfolding(crate::specs::Held::will_fail, crate::specs::Held::after_print))]
     fn print(&mut self, _alloc: Global, stream: Stream, bytes: &[u8]) -> Result<(), HostRefusal>
         ensures ok { OnOk result (Appends (told_streams self.old stream) (told_streams self.new stream) bytes.now) }
         ensures refused { OnErr result (AppendsSome (told_streams self.old stream) (told_streams self.new stream) bytes.now) }
