@@ -7,11 +7,13 @@
 #![tactic(auto)]
 
 mod faults;
+mod file;
 mod file_table;
 mod host;
 mod mem;
 mod target;
 
+pub use file::FileHost;
 pub use host::Host;
 pub use mem::MemHost;
 pub use target::{HostRefusal, ReadRefusal, Stream, Target};
