@@ -1,7 +1,9 @@
 ghost use Rattle.std.specs.Prelude.{◌≡◌, ◌+◌, ◌≤◌, [], length, IfOk, IsTrue};
 ghost use Rattle.std.specs.Io.KnownBytes.{Appends};
 ghost use Rattle.gsl_host.specs.Told.{no_files, no_streams, ReadsLeft, ReadsUpTo};
-ghost use Rattle.gsl_host.specs.Faults.{faults_of};
+ghost use Rattle.gsl_host.specs.declared.target.Target.{Target};
+ghost use Rattle.gsl_host.specs.Outside.{NeverFall, Rose};
+ghost use Rattle.gsl_host.specs.Faults.{faults_of, with_fault, failed, read_failed};
 
 use crate::faults::Faults;
 use crate::host::Host;
@@ -56,7 +58,12 @@ impl<R: Runtime> Host for FileHost<R> {
     ghost faults = { faults_of };
 
     #[tactic(auto, using(crate::proofs::Targets::fault_counts))]
-    fn read_file(&mut self, alloc: Global, name: &Text, most: usize) -> Result<Bytes, ReadRefusal> {
+    fn read_file(&mut self, alloc: Global, name: &Text, most: usize) -> Result<Bytes, ReadRefusal>
+        ensures within { IfOk result (λ bytes. length bytes ≤ most) }
+        ensures failed { result ≡ Err ReadRefusal.Failed → Rose (faults_of self.old) (faults_of self.new) (Target.Reading name.now) }
+        ensures faults { NeverFall (faults_of self.old) (faults_of self.new) }
+        ensures after { self.new ≡ with_fault self.old (Target.Reading name.now) (read_failed result) }
+    {
         let reading = Target::Reading(Text::from_str(alloc, name.as_str())?);
         self.faults.expect(reading)?;
         match open_and_read(&self.rt, alloc, name.as_str(), most) {
@@ -69,7 +76,11 @@ impl<R: Runtime> Host for FileHost<R> {
     }
 
     #[tactic(auto, using(crate::proofs::Targets::fault_counts))]
-    fn write_file(&mut self, alloc: Global, name: &Text, bytes: &[u8]) -> Result<(), HostRefusal> {
+    fn write_file(&mut self, alloc: Global, name: &Text, bytes: &[u8]) -> Result<(), HostRefusal>
+        ensures failed { result ≡ Err HostRefusal.Failed → Rose (faults_of self.old) (faults_of self.new) (Target.Writing name.now) }
+        ensures faults { NeverFall (faults_of self.old) (faults_of self.new) }
+        ensures after { self.new ≡ with_fault self.old (Target.Writing name.now) (failed result) }
+    {
         let writing = Target::Writing(Text::from_str(alloc, name.as_str())?);
         self.faults.expect(writing)?;
         if !create_and_write(&self.rt, name.as_str(), bytes) {
@@ -80,7 +91,11 @@ impl<R: Runtime> Host for FileHost<R> {
     }
 
     #[tactic(auto, using(crate::proofs::Targets::fault_counts))]
-    fn print(&mut self, _alloc: Global, stream: Stream, bytes: &[u8]) -> Result<(), HostRefusal> {
+    fn print(&mut self, _alloc: Global, stream: Stream, bytes: &[u8]) -> Result<(), HostRefusal>
+        ensures failed { result ≡ Err HostRefusal.Failed → Rose (faults_of self.old) (faults_of self.new) (Target.Printing stream) }
+        ensures faults { NeverFall (faults_of self.old) (faults_of self.new) }
+        ensures after { self.new ≡ with_fault self.old (Target.Printing stream) (failed result) }
+    {
         self.faults.expect(Target::Printing(stream))?;
         let done = match stream {
             Stream::Out => write_all(&mut io::writer(&self.rt), bytes),

@@ -65,3 +65,34 @@ fn mem_host_fails_the_planned_calls(rt: HostRuntime) -> Result<(), Fail> {
     assert_eq!(rt; host.faults(), 3);
     Ok(())
 }
+
+#[test]
+fn file_host_writes_and_reads_files(rt: HostRuntime) -> Result<(), Fail> {
+    let alloc = rt.alloc();
+    let mut host = FileHost::new(rt, alloc);
+    let name = Text::from_str(alloc, "file_host_test.tmp")?;
+    let bytes = vec![in alloc; 7u8; 5000]?;
+    host.write_file(alloc, &name, bytes.as_slice())?;
+    let read = host.read_file(alloc, &name, 5000);
+    let long = host.read_file(alloc, &name, 4999).err();
+    std::fs::remove_file(&rt, name.as_str())?;
+    let absent = host.read_file(alloc, &name, 5000).err();
+    assert_eq!(rt; read?.as_slice(), bytes.as_slice());
+    assert_eq!(rt;
+        [long, absent],
+        [Some(ReadRefusal::TooLong), Some(ReadRefusal::Failed)]
+    );
+    Ok(())
+}
+
+#[test]
+fn file_host_prints(rt: HostRuntime) {
+    let alloc = rt.alloc();
+    let mut host = FileHost::new(rt, alloc);
+    let answers = [
+        host.print(alloc, Stream::Out, b"out \xff\n"),
+        host.print(alloc, Stream::Err, b"err\n"),
+        host.print(alloc, Stream::Err, b"\xff"),
+    ];
+    assert_eq!(rt; answers, [Ok(()), Ok(()), Err(HostRefusal::Failed)]);
+}
