@@ -1,1 +1,4 @@
 pub mod Outside
+pub mod Faults
+pub mod Held
+pub mod Told

@@ -6,8 +6,17 @@
 //! tells nothing but its faults.
 #![tactic(auto)]
 
+mod faults;
+mod file;
+mod file_table;
 mod host;
+mod mem;
 mod target;
 
+pub use file::FileHost;
 pub use host::Host;
+pub use mem::MemHost;
 pub use target::{HostRefusal, ReadRefusal, Stream, Target};
+
+#[cfg(test)]
+mod tests;

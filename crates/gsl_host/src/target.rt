@@ -1,6 +1,10 @@
 //! What a call of a host reaches for, and how it may refuse.
 
-use gsl_base::Text;
+ghost use Rattle.std.specs.Prelude.{◌≡◌};
+ghost use Rattle.gsl_host.specs.declared.target.ReadRefusal.TheVariants.{Memory as ReadWantsMemory};
+ghost use Rattle.gsl_host.specs.declared.target.HostRefusal.TheVariants.{Memory as HostWantsMemory};
+
+use gsl_base::{Memory, Text};
 
 /// A standard stream.
 #[derive(Clone, Copy, Debug, PartialEq, Eq)]
@@ -33,4 +37,20 @@ pub enum HostRefusal {
     /// The outside failed: the faults of the call's target rose.
     Failed,
     Memory,
+}
+
+impl From<Memory> for ReadRefusal {
+    ghost from_gives = { λ _ refusal. refusal ≡ ReadWantsMemory };
+
+    fn from(_error: Memory) -> ReadRefusal {
+        ReadRefusal::Memory
+    }
+}
+
+impl From<Memory> for HostRefusal {
+    ghost from_gives = { λ _ refusal. refusal ≡ HostWantsMemory };
+
+    fn from(_error: Memory) -> HostRefusal {
+        HostRefusal::Memory
+    }
 }
