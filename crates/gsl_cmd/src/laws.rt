@@ -14,19 +14,16 @@ ghost use Rattle.gsl_cmd.specs.Verdict.{Accepts, FirstFault, Judges};
 /// Programs of one text are one program.
 pub fn one_program()
     ensures { (p q : Program) → IsProgram p → IsProgram q → text_of p ≡ text_of q → p ≡ q }
-{
-}
+{}
 
 /// The rules give one program or one first fault, whatever the sources are.
 pub fn one_verdict()
     ensures some { (stage : Stage) (sources : List (List ℕ)) → (verdict : Checked Program) × Judges stage sources verdict }
     ensures one { (stage : Stage) (sources : List (List ℕ)) (v w : Checked Program) → Judges stage sources v → Judges stage sources w → v ≡ w }
-{
-}
+{}
 
 /// A command has one job over any files.
 pub fn one_job()
     ensures some { (plan : Plan) (files : Files) → (job : Job) × IsJob plan files job }
     ensures one { (plan : Plan) (files : Files) (j k : Job) → IsJob plan files j → IsJob plan files k → j ≡ k }
-{
-}
+{}
