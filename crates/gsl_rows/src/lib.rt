@@ -1,0 +1,12 @@
+//! Worked examples of whole runs: command lines over hosts in memory, and what they give. It has no
+//! call of its own.
+#![tactic(auto)]
+
+#[cfg(test)]
+mod compiling;
+#[cfg(test)]
+mod faults;
+#[cfg(test)]
+mod form;
+#[cfg(test)]
+mod runs;

@@ -1,0 +1,5 @@
+#version 450
+layout(local_size_x = 1) in;
+
+layout(set = 0, binding = 0, std430) buffer B { int a; int b; int c; };
+void main() { c = a + b; a = b; b = c; c = a + b; a = b; b = c; }
