@@ -28,10 +28,12 @@ same_target-refl (Printing stream) = same_stream-refl stream
 
 -- a further fault lowers no count
 pub faults_of-push : (failed : List Target) (t target : Target) → faults_of failed target ≤ faults_of (failed ++ t ∷ []) target
+unfolding faults_of
 faults_of-push failed t target = omega (arith, sum_by-append (λ u. cond (same_target target u) 1 0) failed (t ∷ []))
 
 -- and raises that of its own target
 pub faults_of-same : (failed : List Target) (target : Target) → faults_of failed target < faults_of (failed ++ target ∷ []) target
+unfolding faults_of
 faults_of-same failed target =
     let counts : Bool → ℕ = λ same. cond same 1 0 in
     omega (arith, ap counts (same_target-refl target), sum_by-append (λ u. cond (same_target target u) 1 0) failed (target ∷ []))

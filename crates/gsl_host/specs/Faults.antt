@@ -23,7 +23,7 @@ same_target (Printing a) (Printing b) = same_stream a b
 same_target _ _ = false
 
 -- how many of the failed calls had this target
-abbrev pub faults_of : List Target → Target → ℕ
+unfoldable pub faults_of : List Target → Target → ℕ
 faults_of failed target = count_by (same_target target) failed
 
 -- all but the last

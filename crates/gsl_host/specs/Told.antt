@@ -1,4 +1,4 @@
--- What a host tells that tells nothing, and what reading to the end answers.
+-- What a host over the system tells, which is nothing, and what its reads answer where more is known.
 use Rattle.std.specs.Prelude.{◌≡◌, ℕ, ◌<◌, ◌≤◌, ◌+◌, List, length, Option, Some, None, Result, Ok, Err}
 use Rattle.gsl_host.specs.declared.target.Stream.{Stream}
 use Rattle.gsl_host.specs.declared.target.Target.{Target}

@@ -2,8 +2,9 @@
 //! call does and that it fails only where the faults of what it reached for rose.
 //!
 //! `specs/Outside.antt` has the words of the clauses; `Host` in `src/host.rt` carries them. `MemHost`
-//! keeps its files and streams in memory and tells them all, and `FileHost` works on real ones and
-//! tells nothing but its faults.
+//! keeps its files and streams in memory and tells them all: contracts see it as a `Held`, and
+//! `specs/Held.antt` says what each call leaves of one. `FileHost` works on real files and streams and
+//! tells nothing but its faults: contracts see it as the targets of its failed calls.
 #![tactic(auto)]
 
 mod faults;
