@@ -1,11 +1,11 @@
 -- The constants of a module.
-use Rattle.std.proofs.Common.{◌≡◌, ℕ, zero, suc, ◌+◌, add-one, zero-add, append_assoc, take, fold, map, [], ◌∷◌, ◌++◌, ◌<◌, ◌≤◌, Bool, true, false, cond, not, ltb, List, length, Option, Some, None, refl, ap, sym, ◌∙◌, arith}
+use Rattle.std.proofs.Common.{◌≡◌, ℕ, zero, suc, ◌+◌, add-one, zero-add, append_assoc, take, fold, map, [], ◌∷◌, ◌++◌, ◌≤◌, Bool, true, false, cond, not, ltb, List, length, Some, None, refl, ap, sym, ◌∙◌, arith}
 use Rattle.std.specs.Option.{unwrap_or}
 use Rattle.std.specs.List.{position, position_or_len, range_with_len}
 use Rattle.std.proofs.lemmas.List.{map-append, take-replicate}
 use Rattle.std.proofs.Math.Numerals.{one-add}
 use Rattle.std.proofs.Math.ListN.{replicate}
-use Rattle.std.proofs.lemmas.Bool.{ltb-false, cases_Bool, cond-true, cond-false}
+use Rattle.std.proofs.lemmas.Bool.{ltb-false}
 use Rattle.std.proofs.lemmas.List.Sums.{prefix_len-le-length, fold-append}
 
 -- the first place that passes, or the length

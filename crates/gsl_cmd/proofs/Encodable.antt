@@ -1,16 +1,16 @@
 -- The module of a program has a file.
-use Rattle.std.proofs.Common.{◌≡◌, ◌≢◌, ℕ, zero, suc, ◌+◌, ◌*◌, ◌<◌, ◌≤◌, ◌^◌, Bool, true, false, ◌&&◌, ltb, IsTrue, List, [], ◌∷◌, ◌++◌, length, get_or, map, Option, Some, None, refl, ap, sym, subst, ◌∙◌, arith}
+use Rattle.std.proofs.Common.{◌≡◌, ◌≢◌, ℕ, zero, suc, ◌+◌, ◌<◌, ◌≤◌, ◌^◌, Bool, true, ◌&&◌, ltb, IsTrue, List, [], ◌∷◌, ◌++◌, length, get_or, map, Some, refl, arith}
 use Rattle.std.specs.Prelude.{codes, All}
 use Rattle.std.specs.List.{range_with_len, list_all, AllByRecursion}
-use Rattle.std.specs.Str.{all_ascii_digits, IsAscii}
+use Rattle.std.specs.Str.{all_ascii_digits}
 use Rattle.std.specs.Char.{is_ascii_digit, is_ascii_lowercase}
 use Rattle.std.proofs.Math.ListN.{replicate, length-replicate}
-use Rattle.std.proofs.lemmas.Bool.{and_parts, and_from, le-leb, leb-true, lt-ltb, ltb-true, eq-eqb}
+use Rattle.std.proofs.lemmas.Bool.{and_parts, and_from, le-leb, leb-true, lt-ltb, ltb-true}
 use Rattle.std.proofs.lemmas.Str.{IsUtf8-from_ascii}
 use Rattle.std.proofs.lemmas.List.Elements.{All-nil, All-cons, All-from_recursion}
 use Rattle.gsl_words.specs.declared.table.Count.{Count}
-use Rattle.gsl_words.specs.declared.table.Count.TheVariants.{Exactly, Either, Between, AtLeast, Pairs}
-use Rattle.gsl_words.specs.declared.table.Operands.TheVariants.{Numbers, TextFrom, TextAt}
+use Rattle.gsl_words.specs.declared.table.Count.TheVariants.{Exactly, Either, Between, AtLeast}
+use Rattle.gsl_words.specs.declared.table.Operands.TheVariants.{Numbers}
 use Rattle.gsl_words.specs.declared.op.TheConstants as op
 use Rattle.gsl_words.specs.declared.module.Instr.{Instr}
 use Rattle.gsl_words.specs.Instructions.{row_of, allows, IsInTable, HasFile, word_count}
@@ -21,7 +21,7 @@ use Rattle.gsl_cmd.specs.declared.program.Statement.{Statement}
 use Rattle.gsl_cmd.specs.declared.program.Program.{Program}
 use Rattle.gsl_cmd.specs.declared.lowering.id.TheConstants as id
 use Rattle.gsl_cmd.specs.Form.{Name, name_of, is_name, IsProgram}
-use Rattle.gsl_cmd.specs.Lowering.{Code, instr, pointer, term_code, more_code, sum_code, statement_code, statements_code, function_code, constant_code, preamble, name_code, decoration_code, type_code, variable_code, code_of, module_of, first_id, term_ids, term_value, sum_ids, sum_value, statement_ids, constants_of}
+use Rattle.gsl_cmd.specs.Lowering.{Code, instr, term_code, more_code, sum_code, statements_code, function_code, constant_code, preamble, name_code, decoration_code, type_code, variable_code, code_of, module_of, term_ids, statement_ids, constants_of}
 use Rattle.gsl_cmd.proofs.Statements.{all_at}
 
 abbrev AllFit : Code → Type 0

@@ -1,7 +1,6 @@
 -- A command that came to its end, and what was printed then, perform its job.
-use Rattle.std.proofs.Common.{◌≡◌, ◌≢◌, ℕ, zero, ◌+◌, ◌<◌, ◌≤◌, List, [], ◌∷◌, ◌++◌, take, Option, Some, None, Ok, Err, refl, ap, sym, subst, ◌∙◌, arith, inl, inr, ◌⊎◌, append-nil}
-use Rattle.std.specs.Prelude.{Result, Contains}
-use Rattle.std.specs.Option.{option_map}
+use Rattle.std.proofs.Common.{◌≡◌, ℕ, List, [], Option, Some, None, Ok, Err, refl, ap, sym, subst, ◌∙◌, arith, inl, inr, ◌⊎◌, append-nil}
+use Rattle.std.specs.Prelude.{Result}
 use Rattle.gsl_base.specs.declared.fault.Fault.{Fault}
 use Rattle.gsl_host.specs.declared.target.Stream.{Stream}
 use Rattle.gsl_host.specs.declared.target.Stream.TheVariants as stream
@@ -13,8 +12,8 @@ use Rattle.gsl_cmd.specs.declared.plan.Stop.TheVariants as stop
 use Rattle.gsl_cmd.specs.Form.{Name}
 use Rattle.gsl_cmd.specs.Job.{Job, Effect, IsJob}
 use Rattle.gsl_cmd.specs.Plan.{Plan}
-use Rattle.gsl_cmd.specs.Performs.{Performs, Prints, effect_on, KeepsAllBut}
-use Rattle.gsl_cmd.specs.Command.{Did, Ended, Said, Reported}
+use Rattle.gsl_cmd.specs.Performs.{Performs, Prints, effect_on}
+use Rattle.gsl_cmd.specs.Command.{Ended, Reported}
 use Rattle.gsl_cmd.specs.Texts.{fault_text, host_text}
 use Rattle.gsl_cmd.proofs.Jobs.{later_rise}
 

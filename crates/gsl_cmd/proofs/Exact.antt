@@ -1,17 +1,17 @@
 -- A source is read exactly: the program that it spells is found, and what is found is spelled by it.
-use Rattle.std.proofs.Common.{◌≡◌, ℕ, zero, suc, ◌+◌, ◌<◌, ◌≤◌, ◌&&◌, get_or, Bool, true, false, cond, IsTrue, List, [], ◌∷◌, ◌++◌, length, Option, Some, None, refl, ap, sym, subst, ◌∙◌, arith, append_assoc, append-nil, inl, inr, ◌⊎◌}
+use Rattle.std.proofs.Common.{◌≡◌, ℕ, zero, suc, ◌<◌, ◌≤◌, ◌&&◌, get_or, true, IsTrue, List, [], ◌∷◌, ◌++◌, length, Some, None, refl, ap, sym, subst, ◌∙◌, arith, append_assoc, append-nil}
 use Rattle.std.specs.Str.{all_ascii_digits}
 use Rattle.std.specs.Char.{is_ascii_digit, is_ascii_lowercase}
-use Rattle.std.proofs.lemmas.Bool.{and_parts, leb-true, cond-true, cond-false, eqb-true, cases_Bool}
-use Rattle.std.specs.List.{flat_map, join_by, AllByRecursion}
+use Rattle.std.proofs.lemmas.Bool.{and_parts, leb-true, cond-true, eqb-true}
+use Rattle.std.specs.List.{join_by, AllByRecursion}
 use Rattle.std.specs.Prelude.{codes}
 use Rattle.gsl_cmd.specs.declared.program.Statement.{Statement}
 use Rattle.gsl_cmd.specs.declared.program.Program.{Program}
 use Rattle.gsl_cmd.specs.Form.{Name, is_name, differ, statement_text, member_text, opening, middle, closing, text_of, IsStatement, IsProgram, Spells}
-use Rattle.gsl_cmd.specs.Reading.{◌>>=◌, Reading, after, name_at, member_at, declared_end_at, declared_at, next_declared_at, more_at, more_by, some_at, statement_at, next_statement_at, statements_at, members_at, closed, body_at, behind_members, program_at}
-use Rattle.gsl_cmd.proofs.Steps.{bind_some, bind_on, some_is, guard_some, after_gives, after_is, three_parts, three_read, four_parts, five_parts, five_read}
+use Rattle.gsl_cmd.specs.Reading.{◌>>=◌, after, name_at, member_at, declared_end_at, declared_at, next_declared_at, more_at, more_by, statement_at, next_statement_at, statements_at, members_at, closed, body_at, behind_members, program_at}
+use Rattle.gsl_cmd.proofs.Steps.{bind_some, bind_on, some_is, guard_some, after_gives, after_is, three_parts, three_read, four_parts, five_read}
 use Rattle.gsl_cmd.proofs.Pieces.{name_gives, name_is}
-use Rattle.gsl_cmd.proofs.Lists.{Found, Takes, more_is, more_gives}
+use Rattle.gsl_cmd.proofs.Lists.{Takes, more_is, more_gives}
 use Rattle.gsl_cmd.proofs.Statements.{Named, statement_is, statement_gives}
 
 abbrev IsMember : Name → Type 0

@@ -1,9 +1,8 @@
 -- The job of a command, and how far its steps have come with it.
-use Rattle.std.proofs.Common.{◌≡◌, ◌≢◌, ℕ, zero, suc, ◌+◌, ◌<◌, ◌≤◌, Bool, true, false, cond, not, ltb, List, [], ◌∷◌, ◌++◌, length, get_or, Option, Some, None, Ok, Err, refl, ap, sym, subst, ◌∙◌, arith, inl, inr, ◌⊎◌, length-append}
+use Rattle.std.proofs.Common.{◌≡◌, ◌≢◌, ℕ, zero, suc, ◌<◌, ◌≤◌, List, [], ◌∷◌, ◌++◌, length, get_or, Option, Some, None, Ok, Err, refl, ap, sym, subst, ◌∙◌, arith, inl, inr, ◌⊎◌}
 use Rattle.std.specs.Prelude.{Result, IsSomeAnd, OnOk, Contains}
-use Rattle.std.specs.Option.{option_map}
 use Rattle.std.specs.FinMap.{get, insert}
-use Rattle.std.proofs.lemmas.Bool.{lt-ltb, le-ltb, ltb-false, cond-true, cond-false}
+use Rattle.std.proofs.lemmas.Bool.{lt-ltb, le-ltb, cond-true, cond-false}
 use Rattle.gsl_base.specs.declared.stage.Stage.{Stage}
 use Rattle.gsl_base.specs.declared.stage.Stage.TheVariants.{Vertex, Fragment, Compute}
 use Rattle.gsl_base.specs.declared.fault.Code.TheVariants.{E0001, E0900}
@@ -12,19 +11,17 @@ use Rattle.gsl_base.specs.Checked.{Checked}
 use Rattle.gsl_host.specs.declared.target.Target.{Target}
 use Rattle.gsl_host.specs.declared.target.Target.TheVariants.{Reading, Writing}
 use Rattle.gsl_host.specs.Outside.{Files, KeepsOthers, Sets, NeverFall, Rose}
-use Rattle.gsl_words.specs.Bytes.{bytes_of}
 use Rattle.gsl_cmd.specs.declared.compiling.TheConstants.{MAX_SOURCE_BYTES}
 use Rattle.gsl_cmd.specs.declared.plan.Stop.{Stop}
 use Rattle.gsl_cmd.specs.declared.plan.Stop.TheVariants as stop
 use Rattle.gsl_cmd.specs.declared.program.Program.{Program}
 use Rattle.gsl_cmd.specs.Form.{Name, Spells}
-use Rattle.gsl_cmd.specs.Lowering.{module_of}
 use Rattle.gsl_cmd.specs.Reading.{program_at}
-use Rattle.gsl_cmd.specs.Verdict.{Accepts, FirstFault, FaultWhere, Judges, Compiles, fault_in, too_long_from}
+use Rattle.gsl_cmd.specs.Verdict.{Accepts, FirstFault, FaultWhere, Judges, fault_in, too_long_from}
 use Rattle.gsl_cmd.specs.Plan.{Plan}
 use Rattle.gsl_cmd.specs.Texts.{fault_text}
-use Rattle.gsl_cmd.specs.Job.{Job, Effect, IsJob, IsCompileJob, Gathered, Sources, Absent, TooLong, gather, gather_one, with_source, reads, is_source, failed, refused, compiled}
-use Rattle.gsl_cmd.specs.Performs.{KeepsAllBut, effect_on}
+use Rattle.gsl_cmd.specs.Job.{Job, Effect, IsJob, IsCompileJob, Gathered, Sources, Absent, TooLong, gather, gather_one, reads, failed, refused, compiled}
+use Rattle.gsl_cmd.specs.Performs.{KeepsAllBut}
 use Rattle.gsl_cmd.specs.Command.{Did, Ended, ReadsSourceTold, CompilesSource}
 use Rattle.gsl_cmd.proofs.Exact.{program_is, program_gives}
 

@@ -1,24 +1,22 @@
 -- Names, literals and terms are read exactly where they stand.
-use Rattle.std.proofs.Common.{◌≡◌, ◌≢◌, ℕ, zero, suc, ◌+◌, ◌-◌, ◌*◌, ◌<◌, ◌≤◌, ◌^◌, Bool, true, false, cond, ◌&&◌, ◌||◌, not, IsTrue, List, [], ◌∷◌, ◌++◌, length, get_or, take, drop, Option, Some, None, refl, ap, sym, subst, ◌∙◌, arith, ltb, leb, eqb, rules, ◌⊎◌, inl, inr}
+use Rattle.std.proofs.Common.{◌≡◌, ℕ, zero, suc, ◌+◌, ◌<◌, ◌^◌, true, false, cond, ◌&&◌, ◌||◌, not, List, [], ◌∷◌, ◌++◌, length, get_or, take, drop, Some, None, refl, ap, sym, subst, ◌∙◌, arith, ltb, leb, eqb, rules, ◌⊎◌, inl, inr}
 use Rattle.std.proofs.Math.Seq.{take-append_seam}
 use Rattle.std.proofs.Math.Bool.{or-true}
 use Rattle.std.proofs.Math.Numerals.{one-add, add-one}
-use Rattle.std.proofs.lemmas.Grind.{common_steps}
-use Rattle.std.proofs.lemmas.Bool.{and_parts, and_from, and_left, or_cases, not-true, le-leb, leb-true, lt-ltb, ltb-true, eqb-true, eq-eqb, ne_eqb, cond-true, cond-false, cases_Bool, true≢false, or_parts}
-use Rattle.std.proofs.lemmas.Bool.Decides.{nat_tests}
-use Rattle.std.proofs.lemmas.List.{take-append-drop, length-append}
+use Rattle.std.proofs.lemmas.Bool.{and_parts, and_from, or_cases, not-true, le-leb, lt-ltb, ltb-true, eqb-true, eq-eqb, ne_eqb, cond-true, cond-false, true≢false, or_parts}
+use Rattle.std.proofs.lemmas.List.{take-append-drop}
 use Rattle.std.proofs.lemmas.List.Folds.{length-prefix_len}
 use Rattle.std.proofs.lemmas.Fmt.{decimal_digit, digits_decimal, digits_value-decimal, decimal-digits_value, decimal_nonempty, first_decimal, length-decimal-le}
 use Rattle.std.proofs.lemmas.Str.Parse.{IsNumeralModel, numerals_by_fold}
 use Rattle.std.proofs.lemmas.Slice.Eq.{bytes_eq-Decides}
-use Rattle.std.specs.List.{prefix_len, list_any, AllByRecursion}
+use Rattle.std.specs.List.{list_any}
 use Rattle.std.specs.Option.{option_map}
 use Rattle.std.specs.Str.{all_ascii_digits, bytes_eq}
 use Rattle.std.specs.Char.{is_ascii_digit, is_ascii_lowercase}
 use Rattle.std.specs.Fmt.{decimal}
 use Rattle.gsl_cmd.specs.Form.{Name, is_name, differ}
-use Rattle.gsl_cmd.specs.Reading.{◌>>=◌, after, digits_len, read_on, is_literal, literal_of, literal_at, name_of_len, name_at, number_of, begins_with_digit}
-use Rattle.gsl_cmd.proofs.Steps.{bind_some, guard_some, guard_pair}
+use Rattle.gsl_cmd.specs.Reading.{digits_len, read_on, is_literal, literal_of, literal_at, name_of_len, name_at, number_of, begins_with_digit}
+use Rattle.gsl_cmd.proofs.Steps.{guard_some, guard_pair}
 
 pub drop_seam : (front rest : List ℕ) → drop (length front) (front ++ rest) ≡ rest
 drop_seam [] rest = refl

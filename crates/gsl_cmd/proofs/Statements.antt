@@ -1,8 +1,8 @@
 -- Terms and statements are read exactly where they stand.
-use Rattle.std.proofs.Common.{◌≡◌, ℕ, zero, suc, ◌+◌, ◌<◌, ◌≤◌, ◌^◌, Bool, true, false, cond, ◌&&◌, IsTrue, List, [], ◌∷◌, ◌++◌, length, get_or, Option, Some, None, refl, ap, sym, subst, ◌∙◌, arith, append_assoc}
-use Rattle.std.proofs.lemmas.Bool.{and_parts, and_from, cond-true, cond-false, and_right, cond_both, le-leb, lt-leb, leb-true}
+use Rattle.std.proofs.Common.{◌≡◌, ℕ, zero, suc, ◌<◌, ◌≤◌, ◌^◌, true, false, ◌&&◌, IsTrue, List, [], ◌∷◌, ◌++◌, length, get_or, Option, Some, None, refl, ap, sym, subst, ◌∙◌, arith, append_assoc}
+use Rattle.std.proofs.lemmas.Bool.{and_parts, cond-true, cond-false, and_right, cond_both, lt-leb, leb-true}
 use Rattle.std.proofs.lemmas.Fmt.{decimal_nonempty, digits_decimal}
-use Rattle.std.specs.List.{flat_map, join_by, AllByRecursion}
+use Rattle.std.specs.List.{join_by, AllByRecursion}
 use Rattle.std.specs.Str.{all_ascii_digits}
 use Rattle.std.specs.Char.{is_ascii_digit, is_ascii_lowercase}
 use Rattle.std.specs.Fmt.{decimal}
@@ -11,10 +11,10 @@ use Rattle.gsl_cmd.specs.declared.program.Term.{Term}
 use Rattle.gsl_cmd.specs.declared.program.Term.TheVariants.{Member, Literal}
 use Rattle.gsl_cmd.specs.declared.program.Statement.{Statement}
 use Rattle.gsl_cmd.specs.Form.{Name, name_of, is_name, differ, term_text, statement_text, IsTerm, IsStatement}
-use Rattle.gsl_cmd.specs.Reading.{◌>>=◌, Reading, after, number_of, name_at, literal_at, begins_with_digit, member_at, term_at, more_at, more_by, some_at, next_term_at, sum_at, end_at, assigned_at, statement_at, next_statement_at}
+use Rattle.gsl_cmd.specs.Reading.{◌>>=◌, after, number_of, name_at, literal_at, begins_with_digit, member_at, term_at, more_at, some_at, next_term_at, sum_at, end_at, assigned_at, statement_at}
 use Rattle.gsl_cmd.proofs.Steps.{bind_some, bind_gives, bind_on, some_is, after_gives, after_is, four_parts, four_read}
 use Rattle.gsl_cmd.proofs.Pieces.{name_gives, name_is, number_of_gives, number_of_is, literal_gives, literal_is, numeral}
-use Rattle.gsl_cmd.proofs.Lists.{Found, Takes, more_is, more_gives}
+use Rattle.gsl_cmd.proofs.Lists.{Takes, more_is, more_gives}
 
 pub all_at : {X : Type 0} (P : X → Type 0) (xs : List X) (i : ℕ) (d : X) → AllByRecursion P xs → i < length xs → P (get_or xs i d)
 all_at P [] i d all within = absurd (omega arith)

@@ -1,9 +1,8 @@
 -- The steps of a command in the code, against the job of its plan.
-use Rattle.std.specs.Prelude.{◌≡◌, ◌≢◌, ◌<◌, ◌≤◌, length, IsSomeAnd, ℕ, List, [], ◌∷◌, ◌++◌, Option, Some, None, Result, Ok, Err, Contains, ◌⊎◌}
-use Rattle.gsl_host.specs.declared.target.Stream.{Stream}
+use Rattle.std.specs.Prelude.{◌≡◌, ◌<◌, ◌≤◌, length, IsSomeAnd, ℕ, List, [], ◌∷◌, Option, Some, None, Result, Ok, Err, Contains, ◌⊎◌}
 use Rattle.gsl_host.specs.declared.target.Stream.TheVariants as stream
 use Rattle.gsl_host.specs.declared.target.Target.{Target}
-use Rattle.gsl_host.specs.Outside.{Files, AppendsSome, NeverFall, Rose}
+use Rattle.gsl_host.specs.Outside.{Files, AppendsSome, Rose}
 use Rattle.gsl_cmd.specs.declared.plan.Command.{Command}
 use Rattle.gsl_cmd.specs.declared.plan.Command.TheVariants as command
 use Rattle.gsl_cmd.specs.declared.plan.Stop.{Stop}

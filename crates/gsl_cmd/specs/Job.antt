@@ -1,6 +1,6 @@
 -- What a command does where no call of the host fails but the reading of an absent name: its status, the
 -- texts on the streams, what becomes of the files, and what it reaches for.
-use Rattle.std.specs.Prelude.{◌≡◌, ℕ, ◌+◌, Bool, false, not, nat_lt, List, [], ◌∷◌, ◌++◌, length, Option, Some, None, Result, Ok, Err, if◌then◌else◌, slice_index_or}
+use Rattle.std.specs.Prelude.{◌≡◌, ℕ, ◌+◌, Bool, false, not, nat_lt, List, [], ◌∷◌, ◌++◌, length, Option, Some, None, Ok, Err, if◌then◌else◌, slice_index_or}
 use Rattle.std.specs.FinMap.{get}
 use Rattle.gsl_base.specs.declared.stage.Stage.{Stage}
 use Rattle.gsl_base.specs.declared.fault.Code.TheVariants.{E0900}

@@ -1,5 +1,5 @@
 -- The module of a program, section by section (SPIR-V 1.0, 2.4).
-use Rattle.std.specs.Prelude.{ℕ, ◌+◌, ◌*◌, Bool, ◌==◌, if◌then◌else◌, List, [], ◌∷◌, ◌++◌, length, map, fold, replicate, codes, slice_index}
+use Rattle.std.specs.Prelude.{ℕ, ◌+◌, ◌*◌, ◌==◌, if◌then◌else◌, List, [], ◌∷◌, ◌++◌, length, map, fold, replicate, codes, slice_index}
 use Rattle.std.specs.List.{list_any, position_or_len, range_with_len, flat_map}
 use Rattle.gsl_words.specs.declared.module.Instr.{Instr}
 use Rattle.gsl_words.specs.declared.module.Module.{Module}

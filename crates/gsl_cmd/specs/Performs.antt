@@ -1,5 +1,5 @@
 -- What a run of a command did, against its job.
-use Rattle.std.specs.Prelude.{◌≡◌, ◌≢◌, ℕ, ◌==◌, List, [], ◌++◌, take, Option, Some, None, Contains, if◌then◌else◌, ◌⊎◌}
+use Rattle.std.specs.Prelude.{◌≡◌, ◌≢◌, ℕ, ◌==◌, List, Option, Some, Contains, if◌then◌else◌, ◌⊎◌}
 use Rattle.std.specs.FinMap.{insert}
 use Rattle.gsl_host.specs.declared.target.Stream.{Stream}
 use Rattle.gsl_host.specs.declared.target.Stream.TheVariants as stream

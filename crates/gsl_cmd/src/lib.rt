@@ -19,8 +19,6 @@ mod text;
 pub use command::glsl_main;
 pub use compiling::{MAX_SOURCE_BYTES, compile};
 pub use laws::{one_job, one_program, one_verdict};
-pub use lowering::lower;
 pub use program::{
     MAX_MEMBERS, MAX_STATEMENTS, MAX_TERMS, Names, Program, Statement, Statements, Term, Terms,
 };
-pub use reading::read_program;

@@ -1,5 +1,5 @@
 use crate::runs::{OUT, SOURCE, compile, has_file, host, left_alone, shader};
-use gsl_base::{Bytes, Memory};
+use gsl_base::{Bytes, Memory, Sources, Stage};
 use std::alloc::Global;
 use std::test::Fail;
 
@@ -68,6 +68,22 @@ fn a_file_is_too_long_from_one_byte_past_the_limit(rt: HostRuntime) -> Result<()
         let mut host = host(alloc, source.as_slice(), &[])?;
         assert_eq!(rt; compile(alloc, &mut host)?, 1);
         assert!(rt; left_alone(alloc, &host, source.as_slice(), text)?);
+    }
+    Ok(())
+}
+
+#[test]
+fn the_form_is_one_of_compute_shaders(rt: HostRuntime) -> Result<(), Fail> {
+    let alloc = rt.alloc();
+    let source = shader(alloc, "int a;", "a = 1;")?;
+    for (stage, accepted) in [
+        (Stage::Compute, true),
+        (Stage::Vertex, false),
+        (Stage::Fragment, false),
+    ] {
+        let mut sources = Sources::new(alloc);
+        sources.push(Bytes::from_slice(alloc, source.as_bytes())?)?;
+        assert_eq!(rt; gsl_cmd::compile(alloc, stage, &sources).is_ok(), accepted);
     }
     Ok(())
 }

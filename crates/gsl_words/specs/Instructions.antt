@@ -1,5 +1,5 @@
 -- Which instructions the table has room for.
-use Rattle.std.specs.Prelude.{◌≡◌, ℕ, ◌+◌, ◌-◌, ◌%◌, ◌^◌, ◌<◌, Bool, ◌==◌, ◌&&◌, ◌||◌, nat_le, IsTrue, List, ◌++◌, length, take, drop, find, Option, Some, All}
+use Rattle.std.specs.Prelude.{◌≡◌, ℕ, ◌+◌, ◌-◌, ◌%◌, ◌^◌, ◌<◌, Bool, ◌==◌, ◌&&◌, ◌||◌, nat_le, IsTrue, List, ◌++◌, length, drop, find, Option, Some, All}
 use Rattle.gsl_words.specs.declared.table.Count.{Count}
 use Rattle.gsl_words.specs.declared.table.Count.TheVariants.{Exactly, Either, Between, AtLeast, Pairs}
 use Rattle.gsl_words.specs.declared.table.Operands.{Operands}

@@ -15,3 +15,6 @@ pub use encoding::{MAGIC, encode};
 pub use module::{Args, Instr, Instrs, Module, VERSION_1_0};
 pub use string::push_string;
 pub use table::{Count, Operands, Row, TABLE};
+
+#[cfg(test)]
+mod tests;

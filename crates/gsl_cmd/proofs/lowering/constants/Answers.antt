@@ -1,4 +1,4 @@
-use Rattle.std.proofs.Common.{◌≤◌, arith, []}
+use Rattle.std.proofs.Common.{arith, []}
 use Rattle.gsl_cmd.specs.Lowering.{with_value}
 use Rattle.gsl_cmd.proofs.Constants.{fold_range_more}
 use Rattle.gsl_cmd.proofs.lowering.constants.Goals as goal

@@ -1,6 +1,6 @@
 use Rattle.std.proofs.Common.{◌+◌, ◌-◌, [], ◌∷◌, ◌++◌, arith, sym, ap, ◌∙◌, inl, inr}
-use Rattle.gsl_cmd.specs.Reading.{seen, more_at, more_by, statement_at, next_statement_at, statements_at}
-use Rattle.gsl_cmd.proofs.Lists.{more_step, more_read, some_read}
+use Rattle.gsl_cmd.specs.Reading.{seen, more_at, more_by, next_statement_at, statements_at}
+use Rattle.gsl_cmd.proofs.Lists.{more_step, more_read}
 use Rattle.gsl_cmd.proofs.reading.statements.Goals as goal
 use Rattle.gsl_cmd.proofs.reading.statements.Goals.{else-loop-test, then-loop-test+in_ok-next+in_default-2}
 

@@ -1,6 +1,6 @@
 use Rattle.std.proofs.Common.{◌+◌, ◌-◌, [], ◌∷◌, ◌++◌, arith, sym, ap, ◌∙◌, inl, inr}
 use Rattle.gsl_cmd.specs.Reading.{term_at, next_term_at}
-use Rattle.gsl_cmd.proofs.Lists.{more_step, more_read, some_read}
+use Rattle.gsl_cmd.proofs.Lists.{more_step, some_read}
 use Rattle.gsl_cmd.proofs.reading.sum.Goals as goal
 use Rattle.gsl_cmd.proofs.reading.sum.Goals.{else-loop-test, then-loop-test+in_default-next_term}
 

@@ -1,5 +1,5 @@
-use Rattle.std.proofs.Common.{◌≤◌, arith}
-use Rattle.gsl_cmd.proofs.Digits.{value_short, digit_at, read_on-append}
+use Rattle.std.proofs.Common.{arith}
+use Rattle.gsl_cmd.proofs.Digits.{value_short, digit_at}
 use Rattle.gsl_cmd.proofs.reading.value_of.Goals as goal
 
 pub overflow_mul-value : goal.overflow_mul-value
