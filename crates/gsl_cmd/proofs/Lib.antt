@@ -10,3 +10,7 @@ pub mod Verdicts
 pub mod Jobs
 pub mod Ends
 pub mod Unique
+pub mod Known
+pub mod Parts
+pub mod Walks
+pub mod ValidIds
