@@ -14,3 +14,10 @@ pub mod Known
 pub mod Parts
 pub mod Walks
 pub mod ValidIds
+pub mod Counts
+pub mod Facts
+pub mod Quiet
+pub mod ValidUses
+pub mod ValidSections
+pub mod ValidTypes
+pub mod ValidShape

@@ -4,7 +4,7 @@ use Rattle.std.proofs.Common.{◌≡◌, ℕ, zero, suc, ◌+◌, ◌<◌, ◌�
 use Rattle.std.specs.List.{AllByRecursion}
 use Rattle.gsl_words.specs.declared.module.Instr.{Instr}
 use Rattle.gsl_words.specs.declared.op.TheConstants as op
-use Rattle.gsl_valid.specs.Search.{Test, Passes}
+use Rattle.gsl_valid.specs.Search.{Test, passed, Passes}
 use Rattle.gsl_valid.proofs.Lookups.{Has}
 use Rattle.gsl_cmd.specs.declared.program.Term.{Term}
 use Rattle.gsl_cmd.specs.declared.program.Term.TheVariants.{Member, Literal}
@@ -136,3 +136,34 @@ module _ (constants : List ℕ) (members limit : ℕ) (part : Instr → Type 0) 
               (λ end last f ends. later end last (omega arith) ends),
         ),
       ))
+
+-- What holds behind any code and then what follows, holds behind any code and then the statements and what follows.
+module _ (constants : List ℕ) (P : Code → Type 0) where
+  abbrev Behind : Code → Type 0
+  Behind follows = (before : Code) → P (passed before follows)
+
+  behind_term : (next : ℕ) (term : Term) (follows : Code) → Behind follows → Behind (term_code constants next term follows)
+  behind_term next (Member k) follows last before = last (load (next + 1) next ∷ pointer constants next k ∷ before)
+  behind_term next (Literal n) follows last before = last before
+
+  behind_more : (next value : ℕ) (terms : List Term) (follows : Code) → Behind follows → Behind (more_code constants next value terms follows)
+  behind_more next value [] follows last = last
+  behind_more next value (term ∷ terms) follows last =
+      let sum = next + term_ids constants term in
+      let rest = more_code constants (sum + 1) sum terms follows in
+      behind_term next term (add sum value (term_value constants next term) ∷ rest) (λ before. behind_more (sum + 1) sum terms follows last (add sum value (term_value constants next term) ∷ before))
+
+  behind_sum : (next : ℕ) (terms : List Term) (follows : Code) → Behind follows → Behind (sum_code constants next terms follows)
+  behind_sum next [] follows last = last
+  behind_sum next (term ∷ terms) follows last =
+      behind_term next term (more_code constants (next + term_ids constants term) (term_value constants next term) terms follows)
+          (behind_more (next + term_ids constants term) (term_value constants next term) terms follows last)
+
+  pub behind_statements : (next : ℕ) (statements : List Statement) (follows : Code) → Behind follows → Behind (statements_code constants next statements follows)
+  behind_statements next [] follows last = last
+  behind_statements next (s ∷ statements) follows last =
+      let rest = statements_code constants (next + statement_ids constants s) statements follows in
+      let target = next + sum_ids constants s.terms in
+      let stored = sum_value constants next s.terms in
+      behind_sum next s.terms (pointer constants target s.target ∷ store target stored ∷ rest)
+          (λ before. behind_statements (next + statement_ids constants s) statements follows last (store target stored ∷ pointer constants target s.target ∷ before))

@@ -1,10 +1,10 @@
 -- Where ids are defined once, what an instruction of the code defines is found by its id.
 use Rattle.std.proofs.Common.{◌≡◌, ℕ, ◌+◌, Bool, true, false, cond, ◌&&◌, ◌||◌, not, eqb, IsTrue, List, [], ◌∷◌, ◌++◌, Option, Some, None, refl, ap, sym, subst, ◌∙◌, ◌⊎◌, inl, inr}
 use Rattle.std.specs.List.{list_any}
-use Rattle.std.proofs.lemmas.Bool.{cond-true, cond-false, and_parts, or_parts, not-true, eq-eqb}
+use Rattle.std.proofs.lemmas.Bool.{cond-true, cond-false, and_parts, or_parts, or_left, or_right, not-true, eq-eqb}
 use Rattle.gsl_words.specs.declared.module.Instr.{Instr}
 use Rattle.gsl_valid.specs.Instruction.{Instruction, read}
-use Rattle.gsl_valid.specs.Search.{Code, Passes}
+use Rattle.gsl_valid.specs.Search.{Code, passed, Passes}
 use Rattle.gsl_valid.specs.Ids.{result, is_id, defines, defined, definition}
 use Rattle.gsl_valid.specs.IdsDefinedOnce.{defines_once, is_new}
 
@@ -41,3 +41,19 @@ module _ (bound : ℕ) where
   definition_is before (j ∷ code) i id all (inr later) e =
       cond-false _ _ _ (or_parts (defines j id) (defined before id) (new_before (j ∷ before) code i id all.1 later e)).0
       ∙ definition_is (j ∷ before) code i id all.1 later e
+
+-- What an instruction defines is defined by code that has it, and behind that code.
+pub has_defined : (code : Code) (i : Instr) (id : ℕ) → Has code i → result (read i) ≡ Some id → defined code id ≡ true
+has_defined [] i id none e = absurd none
+has_defined (j ∷ code) i id (inl same) e = or_left _ _ (ap (λ k. defines k id) same ∙ defines_own i id e)
+has_defined (j ∷ code) i id (inr later) e = or_right (defines j id) _ (has_defined code i id later e)
+
+pub defined_behind : (before code : Code) (id : ℕ) → defined before id ≡ true → defined (passed before code) id ≡ true
+defined_behind before [] id here = here
+defined_behind before (i ∷ code) id here = defined_behind (i ∷ before) code id (or_right (defines i id) _ here)
+
+pub has_behind : (before code : Code) (i : Instr) (id : ℕ) → Has code i → result (read i) ≡ Some id → defined (passed before code) id ≡ true
+has_behind before [] i id none e = absurd none
+has_behind before (j ∷ code) i id (inl same) e =
+    defined_behind (j ∷ before) code id (or_left _ _ (ap (λ k. defines k id) same ∙ defines_own i id e))
+has_behind before (j ∷ code) i id (inr later) e = has_behind (j ∷ before) code i id later e
