@@ -21,3 +21,5 @@ pub mod ValidUses
 pub mod ValidSections
 pub mod ValidTypes
 pub mod ValidShape
+pub mod Decorated
+pub mod ValidDecorations

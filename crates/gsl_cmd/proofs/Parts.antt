@@ -66,13 +66,13 @@ module _ (p : Program) where
   abbrev from_constants : Code
   from_constants = constant_code (constants_of p) ++ from_variable
 
-  abbrev from_types : Code
+  abbrev pub from_types : Code
   from_types = type_code (length p.members) ++ from_constants
 
-  abbrev from_decorations : Code
+  abbrev pub from_decorations : Code
   from_decorations = decoration_code (length p.members) ++ from_types
 
-  abbrev from_names : Code
+  abbrev pub from_names : Code
   from_names = name_code p.members ++ from_decorations
 
   abbrev pub parts : Code
@@ -91,18 +91,23 @@ module _ (p : Program) where
       ∙ append_assoc ((a ++ b) ++ c) d (e ++ (f ++ g)) ∙ append_assoc (a ++ b) c (d ++ (e ++ (f ++ g))) ∙ append_assoc a b (c ++ (d ++ (e ++ (f ++ g))))
 
   -- What passes section by section passes.
+  pub passes_from_names : (test : Test) → Passes test before_names (name_code p.members) →
+      Passes test before_decorations (decoration_code (length p.members)) → Passes test before_types (type_code (length p.members)) →
+      Passes test before_constants (constant_code (constants_of p)) → Passes test before_variable variable_code → Passes test before_function the_function →
+      Passes test before_names from_names
+  passes_from_names test b c d e f g =
+      passes_append test before_names (name_code p.members) from_decorations b
+      (passes_append test before_decorations (decoration_code (length p.members)) from_types c
+      (passes_append test before_types (type_code (length p.members)) from_constants d
+      (passes_append test before_constants (constant_code (constants_of p)) from_variable e
+      (passes_append test before_variable variable_code the_function f g))))
+
   pub passes_parts : (test : Test) → Passes test [] preamble → Passes test before_names (name_code p.members) →
       Passes test before_decorations (decoration_code (length p.members)) → Passes test before_types (type_code (length p.members)) →
       Passes test before_constants (constant_code (constants_of p)) → Passes test before_variable variable_code → Passes test before_function the_function →
       Passes test [] (code_of p)
   passes_parts test a b c d e f g =
-      subst (Passes test []) (sym in_parts)
-          (passes_append test [] preamble from_names a
-          (passes_append test before_names (name_code p.members) from_decorations b
-          (passes_append test before_decorations (decoration_code (length p.members)) from_types c
-          (passes_append test before_types (type_code (length p.members)) from_constants d
-          (passes_append test before_constants (constant_code (constants_of p)) from_variable e
-          (passes_append test before_variable variable_code the_function f g))))))
+      subst (Passes test []) (sym in_parts) (passes_append test [] preamble from_names a (passes_from_names test b c d e f g))
 
   -- What a section has, the code has.
   has_part : (i : Instr) → Has parts i → Has (code_of p) i
@@ -163,6 +168,11 @@ module _ (p : Program) (f : Instr → Bool) where
   none_in_names one each =
       or_from (f (instr op.NAME (id.BLOCK ∷ string_words (codes "B")))) _ one
           (none_in_range f (member_name p.members) 0 (length p.members) (λ k low high. each k))
+
+  -- no instruction before the decorations passes
+  pub none_before_decorations : list_any f preamble ≡ false → f (instr op.NAME (id.BLOCK ∷ string_words (codes "B"))) ≡ false → ((k : ℕ) → f (member_name p.members k) ≡ false) →
+      list_any f (before_decorations p) ≡ false
+  none_before_decorations first one each = none_passed f before_names (name_code p.members) (none_passed f [] preamble refl first) (none_in_names one each)
 
   -- no instruction before the types passes
   pub none_before_types : list_any f preamble ≡ false → f (instr op.NAME (id.BLOCK ∷ string_words (codes "B"))) ≡ false → ((k : ℕ) → f (member_name p.members k) ≡ false) →

@@ -36,11 +36,14 @@ abbrev pub back_to : (Instruction → Bool) → Code → Code
 back_to bounds [] = []
 back_to bounds (i ∷ before) = if bounds (read i) then [] else i ∷ back_to bounds before
 
--- whether an id may be used in the block behind these instructions
+-- whether an id that an instruction defines may be used behind some code
+abbrev pub near_as : Code → ℕ → Instruction → Bool
+near_as before id d =
+    if of_block d then defined (back_to bounds_block before) id
+    else (not (variable_of storage_class.FUNCTION d) || not (in_functions before) || defined (back_to bounds_function before) id)
+
 abbrev pub is_near : Module → Code → ℕ → Bool
-is_near m before id =
-    if of_block (defined_as m id) then defined (back_to bounds_block before) id
-    else (not (variable_of storage_class.FUNCTION (defined_as m id)) || not (in_functions before) || defined (back_to bounds_function before) id)
+is_near m before id = near_as before id (defined_as m id)
 
 abbrev pub uses_near : Module → Code → Instr → Bool
 uses_near m before i = list_all (is_near m before) (needs (read i)) && list_all (is_near m before) (mentions (read i))
