@@ -23,3 +23,6 @@ pub mod ValidTypes
 pub mod ValidShape
 pub mod Decorated
 pub mod ValidDecorations
+pub mod ValidEntry
+pub mod ValidLocality
+pub mod ValidMemory

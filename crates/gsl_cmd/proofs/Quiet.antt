@@ -1,10 +1,13 @@
 -- Sections pass a test where each of their instructions does, whatever stands before it.
 use Rattle.std.proofs.Common.{◌≡◌, ℕ, ◌+◌, ◌<◌, ◌≤◌, Bool, true, IsTrue, List, [], ◌∷◌, ◌++◌, length, map, refl, sym, subst, arith}
-use Rattle.std.specs.Prelude.{codes}
+use Rattle.std.specs.Prelude.{codes, replicate}
 use Rattle.std.specs.List.{range_with_len}
 use Rattle.gsl_words.specs.declared.module.Instr.{Instr}
 use Rattle.gsl_words.specs.declared.op.TheConstants as op
 use Rattle.gsl_words.specs.declared.enumerant.decoration.TheConstants as decoration
+use Rattle.gsl_words.specs.declared.enumerant.execution_model.TheConstants as execution_model
+use Rattle.gsl_words.specs.declared.enumerant.execution_mode.TheConstants as execution_mode
+use Rattle.gsl_words.specs.declared.enumerant.storage_class.TheConstants as storage_class
 use Rattle.gsl_words.specs.Strings.{string_words}
 use Rattle.gsl_valid.specs.Search.{Test, passed, Passes}
 use Rattle.gsl_valid.proofs.Searching.{passed_append, passes_append, passes_range}
@@ -28,6 +31,32 @@ set_decoration = instr op.DECORATE (id.BUFFER ∷ decoration.DESCRIPTOR_SET ∷ 
 
 abbrev pub binding_decoration : Instr
 binding_decoration = instr op.DECORATE (id.BUFFER ∷ decoration.BINDING ∷ 0 ∷ [])
+
+-- the types that are declared
+abbrev pub void_made : Instr
+void_made = instr op.TYPE_VOID (id.VOID ∷ [])
+
+abbrev pub main_made : Instr
+main_made = instr op.TYPE_FUNCTION (id.MAIN_TYPE ∷ id.VOID ∷ [])
+
+abbrev pub int_made : Instr
+int_made = instr op.TYPE_INT (id.INT ∷ 32 ∷ 1 ∷ [])
+
+abbrev pub block_made : ℕ → Instr
+block_made members = instr op.TYPE_STRUCT (id.BLOCK ∷ replicate members id.INT)
+
+abbrev pub block_pointer_made : Instr
+block_pointer_made = instr op.TYPE_POINTER (id.BLOCK_POINTER ∷ storage_class.UNIFORM ∷ id.BLOCK ∷ [])
+
+abbrev pub member_pointer_made : Instr
+member_pointer_made = instr op.TYPE_POINTER (id.MEMBER_POINTER ∷ storage_class.UNIFORM ∷ id.INT ∷ [])
+
+-- the entry point and its mode
+abbrev pub main_entry : Instr
+main_entry = instr op.ENTRY_POINT (execution_model.GL_COMPUTE ∷ id.MAIN ∷ string_words (codes "main"))
+
+abbrev pub main_mode : Instr
+main_mode = instr op.EXECUTION_MODE (id.MAIN ∷ execution_mode.LOCAL_SIZE ∷ 1 ∷ 1 ∷ 1 ∷ [])
 
 abbrev pub main_function : Instr
 main_function = instr op.FUNCTION (id.VOID ∷ id.MAIN ∷ 0 ∷ id.MAIN_TYPE ∷ [])
@@ -60,6 +89,16 @@ module _ (test : Test) where
         passes_append test (block_decoration ∷ before) offsets (set_decoration ∷ binding_decoration ∷ [])
             (range_passes member_offset members (block_decoration ∷ before) each) (set behind, (binding (set_decoration ∷ behind), tt)),
       )
+
+  pub types_pass : (members : ℕ) (before : Code) → Always void_made → Always main_made → Always int_made → Always (block_made members) → Always block_pointer_made →
+      Always member_pointer_made → Passes test before (type_code members)
+  types_pass members before void main int block block_pointer member_pointer =
+      let first = void_made ∷ before in
+      let second = main_made ∷ first in
+      let third = int_made ∷ second in
+      let fourth = block_made members ∷ third in
+      let fifth = block_pointer_made ∷ fourth in
+      (void before, (main first, (int second, (block third, (block_pointer fourth, (member_pointer fifth, tt))))))
 
   pub constants_pass : (constants : List ℕ) (before : Code) → ((k : ℕ) → k < length constants → Always (constant_at constants k)) → Passes test before (constant_code constants)
   constants_pass constants before each = range_passes (constant_at constants) (length constants) before each

@@ -20,24 +20,8 @@ use Rattle.gsl_cmd.specs.Form.{IsProgram}
 use Rattle.gsl_cmd.specs.Lowering.{Code, instr, code_of, constants_of, module_of}
 use Rattle.gsl_cmd.proofs.Parts.{before_names, before_decorations, before_types, before_constants, before_variable, before_function, passes_parts, none_before_types, none_in_decorations}
 use Rattle.gsl_cmd.proofs.Facts.{Facts, facts}
-use Rattle.gsl_cmd.proofs.Quiet.{names_pass, decorations_pass, constants_pass, function_pass}
+use Rattle.gsl_cmd.proofs.Quiet.{void_made, main_made, int_made, block_pointer_made, member_pointer_made, names_pass, decorations_pass, constants_pass, function_pass}
 use Rattle.gsl_cmd.proofs.ValidUses.{all_same}
-
--- the type that an instruction of the section of types declares, as instructions
-abbrev void_made : Instr
-void_made = instr op.TYPE_VOID (id.VOID ∷ [])
-
-abbrev main_made : Instr
-main_made = instr op.TYPE_FUNCTION (id.MAIN_TYPE ∷ id.VOID ∷ [])
-
-abbrev int_made : Instr
-int_made = instr op.TYPE_INT (id.INT ∷ 32 ∷ 1 ∷ [])
-
-abbrev block_pointer_made : Instr
-block_pointer_made = instr op.TYPE_POINTER (id.BLOCK_POINTER ∷ storage_class.UNIFORM ∷ id.BLOCK ∷ [])
-
-abbrev member_pointer_made : Instr
-member_pointer_made = instr op.TYPE_POINTER (id.MEMBER_POINTER ∷ storage_class.UNIFORM ∷ id.INT ∷ [])
 
 module _ (p : Program) (fits : IsProgram p) where
   abbrev known : Facts p

@@ -25,10 +25,10 @@ pub all_same : (f : ℕ → Bool) (x count : ℕ) → f x ≡ true → list_all 
 all_same f x zero e = refl
 all_same f x (suc count) e = and_from (f x) _ e (all_same f x count e)
 
-two_defined : (f : ℕ → Bool) (a b : ℕ) → f a ≡ true → f b ≡ true → (list_all f (a ∷ b ∷ []) && true) ≡ true
+pub two_defined : (f : ℕ → Bool) (a b : ℕ) → f a ≡ true → f b ≡ true → (list_all f (a ∷ b ∷ []) && true) ≡ true
 two_defined f a b x y = and_from _ _ (and_from (f a) _ x (and_from (f b) _ y refl)) refl
 
-three_defined : (f : ℕ → Bool) (a b c : ℕ) → f a ≡ true → f b ≡ true → f c ≡ true → (list_all f (a ∷ b ∷ c ∷ []) && true) ≡ true
+pub three_defined : (f : ℕ → Bool) (a b c : ℕ) → f a ≡ true → f b ≡ true → f c ≡ true → (list_all f (a ∷ b ∷ c ∷ []) && true) ≡ true
 three_defined f a b c x y z = and_from _ _ (and_from (f a) _ x (and_from (f b) _ y (and_from (f c) _ z refl))) refl
 
 module _ (p : Program) where
