@@ -26,3 +26,6 @@ pub mod ValidDecorations
 pub mod ValidEntry
 pub mod ValidLocality
 pub mod ValidMemory
+pub mod ValidModule
+pub mod Placement
+pub mod Sizes

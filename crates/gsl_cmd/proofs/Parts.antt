@@ -60,10 +60,10 @@ module _ (p : Program) where
   the_function = function_code (constants_of p) p.statements
 
   -- the sections, each before the others that follow it
-  abbrev from_variable : Code
+  abbrev pub from_variable : Code
   from_variable = variable_code ++ the_function
 
-  abbrev from_constants : Code
+  abbrev pub from_constants : Code
   from_constants = constant_code (constants_of p) ++ from_variable
 
   abbrev pub from_types : Code
