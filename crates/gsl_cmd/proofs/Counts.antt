@@ -1,7 +1,7 @@
 -- How many constants and ids a program's module has.
-use Rattle.std.proofs.Common.{◌≡◌, ℕ, zero, suc, ◌+◌, ◌-◌, ◌*◌, ◌<◌, ◌≤◌, Bool, true, false, List, [], ◌∷◌, ◌++◌, length, length-append, refl, ap, sym, ◌∙◌, arith}
+use Rattle.std.proofs.Common.{◌≡◌, ℕ, ◌+◌, ◌*◌, ◌≤◌, List, [], ◌∷◌, ◌++◌, length, length-append, ap, ◌∙◌, arith}
 use Rattle.std.specs.Prelude.{fold}
-use Rattle.std.specs.List.{list_any, range_with_len, flat_map, AllByRecursion}
+use Rattle.std.specs.List.{range_with_len, flat_map, AllByRecursion}
 use Rattle.std.proofs.lemmas.Bool.{cond_both}
 use Rattle.std.proofs.lemmas.List.FromFn.{length-range_with_len}
 use Rattle.gsl_cmd.specs.declared.program.Term.{Term}
@@ -9,8 +9,8 @@ use Rattle.gsl_cmd.specs.declared.program.Term.TheVariants.{Member, Literal}
 use Rattle.gsl_cmd.specs.declared.program.Statement.{Statement}
 use Rattle.gsl_cmd.specs.declared.program.Program.{Program}
 use Rattle.gsl_cmd.specs.Form.{IsStatement, IsProgram}
-use Rattle.gsl_cmd.specs.Lowering.{with_value, literals_of, values_used, constants_of, term_ids, more_ids, sum_ids, statement_ids, statements_ids}
-use Rattle.gsl_cmd.specs.Weight.{sum_weight, statement_weight, statements_weight, weight}
+use Rattle.gsl_cmd.specs.Lowering.{with_value, literals_of, values_used, constants_of, more_ids, sum_ids, statements_ids}
+use Rattle.gsl_cmd.specs.Weight.{statements_weight}
 use Rattle.gsl_cmd.proofs.Known.{among}
 use Rattle.gsl_cmd.proofs.ValidIds.{bound_of}
 

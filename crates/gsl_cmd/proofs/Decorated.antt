@@ -1,20 +1,18 @@
 -- The decorations of a program's module, found by what they stand on.
-use Rattle.std.proofs.Common.{◌≡◌, ℕ, zero, suc, ◌+◌, ◌*◌, ◌<◌, ◌≤◌, Bool, true, false, cond, ◌&&◌, ◌||◌, not, eqb, IsTrue, List, [], ◌∷◌, ◌++◌, length, append_assoc, append-nil, map, Option, Some, None, refl, ap, sym, subst, ◌∙◌, ◌⊎◌, inl, inr, arith}
+use Rattle.std.proofs.Common.{◌≡◌, ℕ, zero, suc, ◌+◌, ◌*◌, ◌<◌, ◌≤◌, Bool, false, cond, not, eqb, List, [], ◌∷◌, ◌++◌, length, append_assoc, append-nil, map, Option, Some, None, refl, ap, sym, ◌∙◌, inl, inr, arith}
 use Rattle.std.specs.List.{list_any, range_with_len}
 use Rattle.std.specs.Option.{option_map_or}
-use Rattle.std.proofs.lemmas.Bool.{and_from, and_left, and_right, or_from, or_parts, cases_order, cond-true, eq-eqb, ne_eqb, not-true, not_from_false}
+use Rattle.std.proofs.lemmas.Bool.{and_left, and_right, or_from, or_parts, cases_order, eq-eqb, ne_eqb, not-true, not_from_false}
 use Rattle.gsl_words.specs.declared.module.Instr.{Instr}
-use Rattle.gsl_words.specs.declared.op.TheConstants as op
 use Rattle.gsl_words.specs.declared.enumerant.decoration.TheConstants as decoration
 use Rattle.gsl_valid.specs.Instruction.{read}
 use Rattle.gsl_valid.specs.Search.{Test, Passes}
 use Rattle.gsl_valid.specs.Decorations.{Place, On, OnMember, Decoration, decoration_of, stands_on, literals_on, literals_if}
-use Rattle.gsl_valid.specs.DecorationRules.{decorates}
 use Rattle.gsl_cmd.specs.declared.program.Program.{Program}
 use Rattle.gsl_cmd.specs.declared.lowering.id.TheConstants as id
 use Rattle.gsl_cmd.specs.Form.{IsProgram}
-use Rattle.gsl_cmd.specs.Lowering.{Code, instr, code_of, constants_of, decoration_code, name_code, preamble}
-use Rattle.gsl_cmd.proofs.Parts.{member_name, member_offset, before_names, before_decorations, before_constants, before_function, from_types, in_parts, parts, passes_parts, none_in_names, none_in_range}
+use Rattle.gsl_cmd.specs.Lowering.{Code, code_of, constants_of, decoration_code, name_code}
+use Rattle.gsl_cmd.proofs.Parts.{member_offset, before_names, before_decorations, before_constants, before_function, from_types, in_parts, passes_parts, none_in_names, none_in_range}
 use Rattle.gsl_cmd.proofs.Quiet.{block_decoration, set_decoration, binding_decoration, names_pass, decorations_pass, constants_pass, function_pass}
 
 -- whether an instruction decorates a place with a kind
@@ -54,12 +52,12 @@ module _ (p : Program) (place : Place) (kind : ℕ) where
   not_on fits block each set binding =
       let test : Test = λ b i. not (is_on place kind i) in
       none_found place kind (code_of p)
-          (none_such place kind [] (code_of p)
-          (passes_parts p test (refl, (refl, (refl, (refl, tt)))) (names_pass test p.members before_names (λ b. refl) (λ k b. refl))
-          (decorations_pass test (length p.members) (before_decorations p) (λ b. not_from_false _ block) (λ k within b. not_from_false _ (each k))
-          (λ b. not_from_false _ set) (λ b. not_from_false _ binding)) (refl, (refl, (refl, (refl, (refl, (refl, tt))))))
-          (constants_pass test (constants_of p) (before_constants p) (λ k within b. refl)) (refl, tt)
-          (function_pass test p fits (before_function p) (λ b. refl) (λ b. refl) (λ n k b. refl) (λ n q b. refl) (λ n a c b. refl) (λ q v b. refl) (λ b. refl) (λ b. refl))))
+      (none_such place kind [] (code_of p)
+      (passes_parts p test (refl, (refl, (refl, (refl, tt)))) (names_pass test p.members before_names (λ b. refl) (λ k b. refl))
+      (decorations_pass test (length p.members) (before_decorations p) (λ b. not_from_false _ block) (λ k within b. not_from_false _ (each k))
+      (λ b. not_from_false _ set) (λ b. not_from_false _ binding)) (refl, (refl, (refl, (refl, (refl, (refl, tt))))))
+      (constants_pass test (constants_of p) (before_constants p) (λ k within b. refl)) (refl, tt)
+      (function_pass test p fits (before_function p) (λ b. refl) (λ b. refl) (λ n k b. refl) (λ n q b. refl) (λ n a c b. refl) (λ q v b. refl) (λ b. refl) (λ b. refl))))
 
   -- behind the block's own
   behind_block : is_on place kind block_decoration ≡ false →

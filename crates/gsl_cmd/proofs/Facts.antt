@@ -1,16 +1,14 @@
 -- What the ids of a program's module stand for.
-use Rattle.std.proofs.Common.{◌≡◌, ℕ, ◌+◌, ◌<◌, ◌≤◌, Bool, true, IsTrue, List, [], ◌∷◌, length, get_or, refl, ap, sym, ◌∙◌, inl, inr, arith}
+use Rattle.std.proofs.Common.{◌≡◌, ℕ, true, [], length, refl, ap, ◌∙◌, inl, inr, arith}
 use Rattle.std.specs.Prelude.{replicate}
-use Rattle.gsl_words.specs.declared.module.Instr.{Instr}
-use Rattle.gsl_words.specs.declared.op.TheConstants as op
 use Rattle.gsl_words.specs.declared.enumerant.storage_class.TheConstants as storage_class
-use Rattle.gsl_valid.specs.Instruction.{Instruction, TypeVoid, TypeInt, TypeStruct, TypePointer, TypeFunction, Constant, Variable, Function, Label, read}
-use Rattle.gsl_valid.specs.Ids.{defined, definition}
-use Rattle.gsl_valid.proofs.Lookups.{Has, has_defined}
+use Rattle.gsl_valid.specs.Instruction.{TypeVoid, TypeInt, TypeStruct, TypePointer, TypeFunction, Constant, Variable, Function}
+use Rattle.gsl_valid.specs.Ids.{definition}
+use Rattle.gsl_valid.proofs.Lookups.{Has}
 use Rattle.gsl_cmd.specs.declared.program.Program.{Program}
 use Rattle.gsl_cmd.specs.declared.lowering.id.TheConstants as id
 use Rattle.gsl_cmd.specs.Form.{IsProgram}
-use Rattle.gsl_cmd.specs.Lowering.{instr, code_of, constant_code, constant_id, constants_of}
+use Rattle.gsl_cmd.specs.Lowering.{code_of, constant_code, constant_id, constants_of}
 use Rattle.gsl_cmd.proofs.Known.{among, place, place_within, value_at_place}
 use Rattle.gsl_cmd.proofs.Parts.{constant_at, in_types, in_constants, in_variable, in_function, has_range}
 use Rattle.gsl_cmd.proofs.ValidIds.{defined_by}
@@ -43,6 +41,6 @@ facts p fits = record {
   buffer = defined_by p fits _ id.BUFFER (in_variable p _ (inl refl)) refl;
   main = defined_by p fits _ id.MAIN (in_function p _ (inl refl)) refl;
   constant = λ v known.
-  defined_by p fits _ (constant_id (constants_of p) v) (in_constants p _ (has_constant p v known)) refl
-  ∙ ap (Constant id.INT (constant_id (constants_of p) v)) (value_at_place (constants_of p) v known);
+      defined_by p fits _ (constant_id (constants_of p) v) (in_constants p _ (has_constant p v known)) refl
+      ∙ ap (Constant id.INT (constant_id (constants_of p) v)) (value_at_place (constants_of p) v known);
 }

@@ -1,11 +1,10 @@
 -- Each value that a program's code needs has a constant.
-use Rattle.std.proofs.Common.{◌≡◌, ℕ, zero, suc, ◌+◌, ◌<◌, ◌≤◌, Bool, true, false, cond, ◌||◌, not, eqb, IsTrue, List, [], ◌∷◌, ◌++◌, length, get_or, map, refl, ap, sym, subst, ◌∙◌, ◌⊎◌, inl, inr, arith}
+use Rattle.std.proofs.Common.{◌≡◌, ℕ, zero, suc, ◌+◌, ◌<◌, ◌≤◌, Bool, true, false, ◌||◌, eqb, List, [], ◌∷◌, ◌++◌, length, get_or, refl, subst, ◌∙◌, inl, inr, arith}
 use Rattle.std.specs.Prelude.{fold}
 use Rattle.std.specs.List.{list_any, position_or_len, range_with_len, flat_map, AllByRecursion}
 use Rattle.std.proofs.lemmas.Bool.{cases_Bool, cond-true, cond-false, cond_both, or_left, or_right, or_cases, eq-eqb, eqb-true, not_from_true, not_from_false}
 use Rattle.std.proofs.lemmas.List.Folds.{list_any-append}
 use Rattle.std.proofs.lemmas.List.Sums.{passes_at_first}
-use Rattle.std.proofs.Math.Numerals.{one-add}
 use Rattle.gsl_cmd.specs.declared.program.Term.{Term}
 use Rattle.gsl_cmd.specs.declared.program.Term.TheVariants.{Member, Literal}
 use Rattle.gsl_cmd.specs.declared.program.Statement.{Statement}
@@ -27,7 +26,7 @@ with_value_keeps values w v here =
 with_value_has : (values : List ℕ) (w : ℕ) → among (with_value values w) w ≡ true
 with_value_has values w =
     cond_both (among values w) values (values ++ w ∷ []) (λ xs. among xs w ≡ true) (λ e. e)
-        (λ e. among-append values (w ∷ []) w ∙ or_right (among values w) _ (or_left (eqb w w) false (eq-eqb w w refl)))
+    (λ e. among-append values (w ∷ []) w ∙ or_right (among values w) _ (or_left (eqb w w) false (eq-eqb w w refl)))
 
 fold_keeps : (start ws : List ℕ) (v : ℕ) → among start v ≡ true → among (fold with_value start ws) v ≡ true
 fold_keeps start [] v here = here
@@ -95,7 +94,7 @@ module _ (p : Program) where
   pub program_known : IsProgram p → AllByRecursion (KnownStatement (length p.members) (constants_of p)) p.statements
   program_known fits =
       known_statements (length p.members) (constants_of p) p.statements fits.statements
-          (λ v here. values_known v (among-append (range_with_len 0 (length p.members)) _ v ∙ or_right (among (range_with_len 0 (length p.members)) v) _ here))
+      (λ v here. values_known v (among-append (range_with_len 0 (length p.members)) _ v ∙ or_right (among (range_with_len 0 (length p.members)) v) _ here))
 
 -- the place of a value among some
 abbrev pub place : List ℕ → ℕ → ℕ

@@ -1,9 +1,8 @@
 -- The sections of a program's module, one behind the other.
-use Rattle.std.proofs.Common.{◌≡◌, ℕ, zero, suc, ◌+◌, ◌<◌, ◌≤◌, Bool, true, false, cond, ◌||◌, eqb, IsTrue, List, [], ◌∷◌, ◌++◌, length, get_or, map, append_assoc, refl, ap, sym, subst, ◌∙◌, ◌⊎◌, inl, inr, arith}
-use Rattle.std.specs.Prelude.{filter_map, Option, None}
+use Rattle.std.proofs.Common.{◌≡◌, ℕ, zero, suc, ◌+◌, ◌<◌, ◌≤◌, Bool, false, List, [], ◌∷◌, ◌++◌, length, get_or, map, append_assoc, refl, ap, sym, subst, ◌∙◌, inl, inr, arith}
 use Rattle.std.specs.List.{list_any, range_with_len}
 use Rattle.std.proofs.lemmas.List.Folds.{list_any-append}
-use Rattle.std.proofs.lemmas.Bool.{or_from, or_parts, or_left, or_right, cases_order}
+use Rattle.std.proofs.lemmas.Bool.{or_from, or_parts, cases_order}
 use Rattle.std.proofs.Common.{◌*◌}
 use Rattle.std.specs.Prelude.{codes}
 use Rattle.gsl_words.specs.declared.module.Instr.{Instr}
@@ -167,7 +166,7 @@ module _ (p : Program) (f : Instr → Bool) where
   pub none_in_names : f (instr op.NAME (id.BLOCK ∷ string_words (codes "B"))) ≡ false → ((k : ℕ) → f (member_name p.members k) ≡ false) → list_any f (name_code p.members) ≡ false
   none_in_names one each =
       or_from (f (instr op.NAME (id.BLOCK ∷ string_words (codes "B")))) _ one
-          (none_in_range f (member_name p.members) 0 (length p.members) (λ k low high. each k))
+      (none_in_range f (member_name p.members) 0 (length p.members) (λ k low high. each k))
 
   -- no instruction before the decorations passes
   pub none_before_decorations : list_any f preamble ≡ false → f (instr op.NAME (id.BLOCK ∷ string_words (codes "B"))) ≡ false → ((k : ℕ) → f (member_name p.members k) ≡ false) →
@@ -179,7 +178,7 @@ module _ (p : Program) (f : Instr → Bool) where
       list_any f (decoration_code (length p.members)) ≡ false → list_any f (before_types p) ≡ false
   none_before_types first one each last =
       none_passed f (before_decorations p) (decoration_code (length p.members))
-          (none_passed f before_names (name_code p.members) (none_passed f [] preamble refl first) (none_in_names one each)) last
+      (none_passed f before_names (name_code p.members) (none_passed f [] preamble refl first) (none_in_names one each)) last
 
   -- no decoration passes
   pub none_in_decorations : f (instr op.DECORATE (id.BLOCK ∷ decoration.BUFFER_BLOCK ∷ [])) ≡ false → ((k : ℕ) → f (member_offset k) ≡ false) →
@@ -190,7 +189,7 @@ module _ (p : Program) (f : Instr → Bool) where
       let behind = instr op.DECORATE (id.BUFFER ∷ decoration.DESCRIPTOR_SET ∷ 0 ∷ []) ∷ last in
       let members = map member_offset (range_with_len 0 (length p.members)) in
       or_from (f (instr op.DECORATE (id.BLOCK ∷ decoration.BUFFER_BLOCK ∷ []))) (list_any f (members ++ behind)) block
-          (list_any-append f members behind
-          ∙ or_from (list_any f members) (list_any f behind) (none_in_range f member_offset 0 (length p.members) (λ k low high. each k))
-          (or_from (f (instr op.DECORATE (id.BUFFER ∷ decoration.DESCRIPTOR_SET ∷ 0 ∷ []))) (list_any f last) set
-          (or_from (f (instr op.DECORATE (id.BUFFER ∷ decoration.BINDING ∷ 0 ∷ []))) false binding refl)))
+      (list_any-append f members behind
+      ∙ or_from (list_any f members) (list_any f behind) (none_in_range f member_offset 0 (length p.members) (λ k low high. each k))
+      (or_from (f (instr op.DECORATE (id.BUFFER ∷ decoration.DESCRIPTOR_SET ∷ 0 ∷ []))) (list_any f last) set
+      (or_from (f (instr op.DECORATE (id.BUFFER ∷ decoration.BINDING ∷ 0 ∷ []))) false binding refl)))

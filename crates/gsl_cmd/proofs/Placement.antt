@@ -1,9 +1,8 @@
 -- The module of a program places it.
-use Rattle.std.proofs.Common.{◌≡◌, ℕ, zero, suc, ◌+◌, ◌-◌, ◌*◌, ◌/◌, ◌<◌, ◌≤◌, Bool, true, false, cond, not, IsTrue, List, [], ◌∷◌, ◌++◌, length, get_or, append_assoc, append-nil, map, Option, Some, None, refl, ap, sym, subst, ◌∙◌, arith}
-use Rattle.std.specs.Prelude.{filter, codes}
+use Rattle.std.proofs.Common.{◌≡◌, ℕ, suc, ◌+◌, ◌*◌, Bool, not, List, [], ◌∷◌, ◌++◌, length, append_assoc, append-nil, map, refl, ap, sym, ◌∙◌, arith}
+use Rattle.std.specs.Prelude.{codes}
 use Rattle.std.specs.List.{range_with_len}
 use Rattle.std.proofs.lemmas.Bool.{cond-false, not-true}
-use Rattle.gsl_words.specs.declared.module.Instr.{Instr}
 use Rattle.gsl_words.specs.declared.op.TheConstants as op
 use Rattle.gsl_words.specs.declared.enumerant.execution_model.TheConstants as execution_model
 use Rattle.gsl_words.specs.declared.enumerant.execution_mode.TheConstants as execution_mode
@@ -11,18 +10,17 @@ use Rattle.gsl_words.specs.declared.enumerant.storage_class.TheConstants as stor
 use Rattle.gsl_words.specs.declared.enumerant.decoration.TheConstants as decoration
 use Rattle.gsl_words.specs.Strings.{string_words}
 use Rattle.gsl_valid.specs.Instruction.{Instruction, EntryPoint, ExecutionMode, Name, MemberName, MemberDecorate, Variable, read}
-use Rattle.gsl_valid.specs.Search.{Test, Passes, passed}
+use Rattle.gsl_valid.specs.Search.{Test, Passes}
 use Rattle.gsl_valid.specs.Decorations.{number_in}
-use Rattle.gsl_valid.proofs.Searching.{passes_append}
 use Rattle.gsl_cmd.specs.declared.program.Program.{Program}
 use Rattle.gsl_cmd.specs.declared.lowering.id.TheConstants as id
 use Rattle.gsl_cmd.specs.Form.{IsProgram, name_of, Name as Text}
-use Rattle.gsl_cmd.specs.Lowering.{Code, instr, code_of, constants_of, constant_code, decoration_code, module_of, name_code, preamble, type_code, variable_code}
-use Rattle.gsl_cmd.specs.Layout.{MemberType, Int, first_multiple, offsets_from, offsets, member_types}
+use Rattle.gsl_cmd.specs.Lowering.{Code, instr, code_of, constants_of, constant_code, decoration_code, module_of, name_code, type_code, variable_code}
+use Rattle.gsl_cmd.specs.Layout.{Int, first_multiple, offsets_from, offsets, member_types}
 use Rattle.gsl_cmd.specs.Places.{Places, those, is_entry, is_mode, is_variable, is_name, is_of_member, member_names, member_offsets}
 use Rattle.gsl_cmd.proofs.Parts.{member_offset, before_names, before_decorations, before_types, before_constants, before_variable, before_function, from_names, from_decorations, from_types, from_constants, from_variable, the_function, in_parts, passes_from_names}
 use Rattle.gsl_cmd.proofs.Facts.{facts}
-use Rattle.gsl_cmd.proofs.Quiet.{set_decoration, binding_decoration, block_name, names_pass, decorations_pass, types_pass, constants_pass, function_pass}
+use Rattle.gsl_cmd.proofs.Quiet.{set_decoration, binding_decoration, names_pass, decorations_pass, constants_pass, function_pass}
 use Rattle.gsl_cmd.proofs.Decorated.{block_is_buffer, buffer_set, buffer_binding}
 
 module _ (of_class : Instruction → Bool) where
@@ -66,22 +64,22 @@ module _ (p : Program) (fits : IsProgram p) where
       let test = none_of_class is_entry in
       ap (those is_entry) (in_parts p)
       ∙ ap (λ others. EntryPoint execution_model.GL_COMPUTE id.MAIN (string_words (codes "main")) [] ∷ others)
-          (none_there is_entry before_names (from_names p)
-          (passes_from_names p test (names_pass test p.members before_names (λ b. refl) (λ k b. refl))
-          (decorations_pass test (length p.members) (before_decorations p) (λ b. refl) (λ k within b. refl) (λ b. refl) (λ b. refl))
-          (refl, (refl, (refl, (refl, (refl, (refl, tt)))))) (constants_pass test (constants_of p) (before_constants p) (λ k within b. refl)) (refl, tt)
-          (function_pass test p fits (before_function p) (λ b. refl) (λ b. refl) (λ n k b. refl) (λ n q b. refl) (λ n a c b. refl) (λ q v b. refl) (λ b. refl) (λ b. refl))))
+      (none_there is_entry before_names (from_names p)
+      (passes_from_names p test (names_pass test p.members before_names (λ b. refl) (λ k b. refl))
+      (decorations_pass test (length p.members) (before_decorations p) (λ b. refl) (λ k within b. refl) (λ b. refl) (λ b. refl))
+      (refl, (refl, (refl, (refl, (refl, (refl, tt)))))) (constants_pass test (constants_of p) (before_constants p) (λ k within b. refl)) (refl, tt)
+      (function_pass test p fits (before_function p) (λ b. refl) (λ b. refl) (λ n k b. refl) (λ n q b. refl) (λ n a c b. refl) (λ q v b. refl) (λ b. refl) (λ b. refl))))
 
   mode_is : those is_mode (code_of p) ≡ ExecutionMode id.MAIN execution_mode.LOCAL_SIZE (1 ∷ 1 ∷ 1 ∷ []) ∷ []
   mode_is =
       let test = none_of_class is_mode in
       ap (those is_mode) (in_parts p)
       ∙ ap (λ others. ExecutionMode id.MAIN execution_mode.LOCAL_SIZE (1 ∷ 1 ∷ 1 ∷ []) ∷ others)
-          (none_there is_mode before_names (from_names p)
-          (passes_from_names p test (names_pass test p.members before_names (λ b. refl) (λ k b. refl))
-          (decorations_pass test (length p.members) (before_decorations p) (λ b. refl) (λ k within b. refl) (λ b. refl) (λ b. refl))
-          (refl, (refl, (refl, (refl, (refl, (refl, tt)))))) (constants_pass test (constants_of p) (before_constants p) (λ k within b. refl)) (refl, tt)
-          (function_pass test p fits (before_function p) (λ b. refl) (λ b. refl) (λ n k b. refl) (λ n q b. refl) (λ n a c b. refl) (λ q v b. refl) (λ b. refl) (λ b. refl))))
+      (none_there is_mode before_names (from_names p)
+      (passes_from_names p test (names_pass test p.members before_names (λ b. refl) (λ k b. refl))
+      (decorations_pass test (length p.members) (before_decorations p) (λ b. refl) (λ k within b. refl) (λ b. refl) (λ b. refl))
+      (refl, (refl, (refl, (refl, (refl, (refl, tt)))))) (constants_pass test (constants_of p) (before_constants p) (λ k within b. refl)) (refl, tt)
+      (function_pass test p fits (before_function p) (λ b. refl) (λ b. refl) (λ n k b. refl) (λ n q b. refl) (λ n a c b. refl) (λ q v b. refl) (λ b. refl) (λ b. refl))))
 
   variable_is : those is_variable (code_of p) ≡ Variable id.BLOCK_POINTER id.BUFFER storage_class.UNIFORM [] ∷ []
   variable_is =
@@ -89,12 +87,12 @@ module _ (p : Program) (fits : IsProgram p) where
       ap (those is_variable) (in_parts p)
       ∙ skipped is_variable before_names (name_code p.members) (from_decorations p) (names_pass test p.members before_names (λ b. refl) (λ k b. refl))
       ∙ skipped is_variable (before_decorations p) (decoration_code (length p.members)) (from_types p)
-          (decorations_pass test (length p.members) (before_decorations p) (λ b. refl) (λ k within b. refl) (λ b. refl) (λ b. refl))
+      (decorations_pass test (length p.members) (before_decorations p) (λ b. refl) (λ k within b. refl) (λ b. refl) (λ b. refl))
       ∙ skipped is_variable (before_constants p) (constant_code (constants_of p)) (from_variable p)
-          (constants_pass test (constants_of p) (before_constants p) (λ k within b. refl))
+      (constants_pass test (constants_of p) (before_constants p) (λ k within b. refl))
       ∙ ap (λ others. Variable id.BLOCK_POINTER id.BUFFER storage_class.UNIFORM [] ∷ others)
-          (none_there is_variable (before_function p) (the_function p)
-          (function_pass test p fits (before_function p) (λ b. refl) (λ b. refl) (λ n k b. refl) (λ n q b. refl) (λ n a c b. refl) (λ q v b. refl) (λ b. refl) (λ b. refl)))
+      (none_there is_variable (before_function p) (the_function p)
+      (function_pass test p fits (before_function p) (λ b. refl) (λ b. refl) (λ n k b. refl) (λ n q b. refl) (λ n a c b. refl) (λ q v b. refl) (λ b. refl) (λ b. refl)))
 
   -- no instruction from the types on
   none_from_types : (of_class : Instruction → Bool) → Passes (none_of_class of_class) (before_types p) (type_code (length p.members)) →
@@ -114,8 +112,8 @@ module _ (p : Program) (fits : IsProgram p) where
       ∙ ap (those is_of_member) (append_assoc all (set_decoration ∷ binding_decoration ∷ []) (from_types p))
       ∙ offsets_are 0 p.members (set_decoration ∷ binding_decoration ∷ from_types p)
       ∙ ap (λ others. member_offsets id.BLOCK 0 (offsets (member_types p)) ++ others)
-          (none_from_types is_of_member (refl, (refl, (refl, (refl, (refl, (refl, tt)))))) (constants_pass test (constants_of p) (before_constants p) (λ k within b. refl)) (refl, tt)
-          (function_pass test p fits (before_function p) (λ b. refl) (λ b. refl) (λ n k b. refl) (λ n q b. refl) (λ n a c b. refl) (λ q v b. refl) (λ b. refl) (λ b. refl)))
+      (none_from_types is_of_member (refl, (refl, (refl, (refl, (refl, (refl, tt)))))) (constants_pass test (constants_of p) (before_constants p) (λ k within b. refl)) (refl, tt)
+      (function_pass test p fits (before_function p) (λ b. refl) (λ b. refl) (λ n k b. refl) (λ n q b. refl) (λ n a c b. refl) (λ q v b. refl) (λ b. refl) (λ b. refl)))
       ∙ append-nil (member_offsets id.BLOCK 0 (offsets (member_types p)))
 
   names_placed : those is_name (code_of p) ≡ Name id.BLOCK (string_words (codes "B")) ∷ member_names id.BLOCK 0 p.members
@@ -125,10 +123,10 @@ module _ (p : Program) (fits : IsProgram p) where
       ap (those is_name) (in_parts p)
       ∙ ap (λ others. block ∷ others) (names_are (name_of p.members) 0 p.members (from_decorations p) (λ j. ap (name_of p.members) (let e : 0 + j ≡ j = omega arith in e)))
       ∙ ap (λ others. block ∷ (member_names id.BLOCK 0 p.members ++ others))
-          (skipped is_name (before_decorations p) (decoration_code (length p.members)) (from_types p)
-          (decorations_pass test (length p.members) (before_decorations p) (λ b. refl) (λ k within b. refl) (λ b. refl) (λ b. refl))
-          ∙ none_from_types is_name (refl, (refl, (refl, (refl, (refl, (refl, tt)))))) (constants_pass test (constants_of p) (before_constants p) (λ k within b. refl)) (refl, tt)
-          (function_pass test p fits (before_function p) (λ b. refl) (λ b. refl) (λ n k b. refl) (λ n q b. refl) (λ n a c b. refl) (λ q v b. refl) (λ b. refl) (λ b. refl)))
+      (skipped is_name (before_decorations p) (decoration_code (length p.members)) (from_types p)
+      (decorations_pass test (length p.members) (before_decorations p) (λ b. refl) (λ k within b. refl) (λ b. refl) (λ b. refl))
+      ∙ none_from_types is_name (refl, (refl, (refl, (refl, (refl, (refl, tt)))))) (constants_pass test (constants_of p) (before_constants p) (λ k within b. refl)) (refl, tt)
+      (function_pass test p fits (before_function p) (λ b. refl) (λ b. refl) (λ n k b. refl) (λ n q b. refl) (λ n a c b. refl) (λ q v b. refl) (λ b. refl) (λ b. refl)))
       ∙ ap (λ names. block ∷ names) (append-nil (member_names id.BLOCK 0 p.members))
 
   pub module_placed : Places (module_of p) p

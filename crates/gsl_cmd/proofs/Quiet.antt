@@ -1,5 +1,5 @@
 -- Sections pass a test where each of their instructions does, whatever stands before it.
-use Rattle.std.proofs.Common.{◌≡◌, ℕ, ◌+◌, ◌<◌, ◌≤◌, Bool, true, IsTrue, List, [], ◌∷◌, ◌++◌, length, map, refl, sym, subst, arith}
+use Rattle.std.proofs.Common.{ℕ, ◌<◌, IsTrue, List, [], ◌∷◌, ◌++◌, length, map, sym, subst, arith}
 use Rattle.std.specs.Prelude.{codes, replicate}
 use Rattle.std.specs.List.{range_with_len}
 use Rattle.gsl_words.specs.declared.module.Instr.{Instr}
@@ -120,7 +120,7 @@ module _ (test : Test) where
         literal = λ n v b known now. tt;
       } in
       statements_pass (constants_of p) (length p.members) (bound_of p) (λ i. Unit {0}) test walk (first_id (constants_of p)) p.statements ending before
-          (program_known p fits) (omega arith) (λ i has. tt) tt (λ end behind e now. (returns behind, (ends (instr op.RETURN [] ∷ behind), tt)))
+      (program_known p fits) (omega arith) (λ i has. tt) tt (λ end behind e now. (returns behind, (ends (instr op.RETURN [] ∷ behind), tt)))
 
   pub function_pass : (p : Program) → IsProgram p → (before : Code) → Always main_function → Always main_label →
       ((n k : ℕ) → Always (pointer (constants_of p) n k)) → ((n q : ℕ) → Always (load n q)) → ((n a b : ℕ) → Always (add n a b)) → ((q v : ℕ) → Always (store q v)) →
@@ -133,4 +133,4 @@ pub behind_all : (p : Program) (P : Code → Type 0) → ((before : Code) → P 
 behind_all p P last =
     let front = ((((preamble ++ name_code p.members) ++ decoration_code (length p.members)) ++ type_code (length p.members)) ++ constant_code (constants_of p)) ++ variable_code in
     subst P (sym (passed_append [] front (the_function p)))
-        (behind_statements (constants_of p) P (first_id (constants_of p)) p.statements ending last (main_label ∷ main_function ∷ passed [] front))
+    (behind_statements (constants_of p) P (first_id (constants_of p)) p.statements ending last (main_label ∷ main_function ∷ passed [] front))

@@ -1,7 +1,7 @@
 -- The module of a program is small for its weight.
-use Rattle.std.proofs.Common.{◌≡◌, ℕ, zero, suc, ◌+◌, ◌-◌, ◌*◌, ◌<◌, ◌≤◌, Bool, true, ◌&&◌, IsTrue, List, [], ◌∷◌, ◌++◌, length, map, refl, ap, sym, subst, ◌∙◌, arith}
-use Rattle.std.specs.Prelude.{replicate, codes}
-use Rattle.std.specs.List.{range_with_len, AllByRecursion}
+use Rattle.std.proofs.Common.{◌≡◌, ℕ, zero, suc, ◌+◌, ◌*◌, ◌<◌, ◌≤◌, true, ◌&&◌, IsTrue, List, [], ◌∷◌, ◌++◌, length, map, refl, arith}
+use Rattle.std.specs.Prelude.{replicate}
+use Rattle.std.specs.List.{range_with_len}
 use Rattle.std.specs.Str.{all_ascii_digits}
 use Rattle.std.specs.Char.{is_ascii_lowercase}
 use Rattle.std.proofs.Math.ListN.{length-replicate}
@@ -10,18 +10,18 @@ use Rattle.gsl_words.specs.declared.module.Instr.{Instr}
 use Rattle.gsl_words.specs.declared.op.TheConstants as op
 use Rattle.gsl_words.specs.Instructions.{word_count}
 use Rattle.gsl_words.specs.Strings.{string_words}
-use Rattle.gsl_valid.specs.Search.{words_from, header_size, count_of_words}
+use Rattle.gsl_valid.specs.Placed.{words_from, header_size, count_of_words}
 use Rattle.gsl_cmd.specs.declared.program.Term.{Term}
 use Rattle.gsl_cmd.specs.declared.program.Term.TheVariants.{Member, Literal}
 use Rattle.gsl_cmd.specs.declared.program.Statement.{Statement}
 use Rattle.gsl_cmd.specs.declared.program.Program.{Program}
 use Rattle.gsl_cmd.specs.declared.lowering.id.TheConstants as id
 use Rattle.gsl_cmd.specs.Form.{Name, name_of, is_name, IsProgram}
-use Rattle.gsl_cmd.specs.Lowering.{Code, instr, pointer, sum_ids, sum_value, term_code, term_ids, term_value, more_code, sum_code, statement_code, statement_ids, statements_code, first_id, code_of, constants_of, constant_code, decoration_code, module_of, name_code, preamble, type_code, variable_code}
-use Rattle.gsl_cmd.specs.Weight.{weight, statement_weight, statements_weight, count_of_ids, IsSmall}
+use Rattle.gsl_cmd.specs.Lowering.{Code, instr, pointer, sum_ids, sum_value, term_code, term_ids, term_value, more_code, sum_code, statement_ids, statements_code, first_id, constants_of, constant_code, decoration_code, module_of, name_code, preamble, type_code, variable_code}
+use Rattle.gsl_cmd.specs.Weight.{statements_weight, IsSmall}
 use Rattle.std.proofs.Math.Nat.{mul-suc}
 use Rattle.gsl_cmd.proofs.Statements.{all_at}
-use Rattle.gsl_cmd.proofs.Parts.{member_name, member_offset, constant_at, ending, in_parts, from_names, from_decorations, from_types, from_constants, from_variable, the_function}
+use Rattle.gsl_cmd.proofs.Parts.{member_name, member_offset, constant_at, ending, the_function}
 use Rattle.gsl_cmd.proofs.Counts.{bound_few}
 use Rattle.gsl_cmd.proofs.Quiet.{set_decoration, binding_decoration}
 

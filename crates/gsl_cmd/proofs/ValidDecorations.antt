@@ -1,5 +1,5 @@
 -- The decorations of a program's module stand where they may, and place its members.
-use Rattle.std.proofs.Common.{◌≡◌, ℕ, zero, suc, ◌+◌, ◌*◌, ◌%◌, ◌^◌, ◌<◌, ◌≤◌, Bool, true, false, ◌&&◌, ◌||◌, not, eqb, IsTrue, List, [], ◌∷◌, ◌++◌, length, map, Option, Some, None, refl, ap, sym, subst, ◌∙◌, arith}
+use Rattle.std.proofs.Common.{◌≡◌, ℕ, zero, suc, ◌+◌, ◌*◌, ◌%◌, ◌^◌, ◌<◌, ◌≤◌, Bool, true, false, eqb, [], ◌∷◌, length, map, Option, Some, refl, ap, ◌∙◌, arith}
 use Rattle.std.specs.Prelude.{replicate, is_some}
 use Rattle.std.specs.List.{list_any, range_with_len}
 use Rattle.std.proofs.Math.ListN.{length-replicate}
@@ -7,10 +7,9 @@ use Rattle.std.proofs.lemmas.Bool.{and_from, or_from, or_right, le-leb, lt-ltb, 
 use Rattle.gsl_words.specs.declared.module.Instr.{Instr}
 use Rattle.gsl_words.specs.declared.op.TheConstants as op
 use Rattle.gsl_words.specs.declared.enumerant.decoration.TheConstants as decoration
-use Rattle.gsl_words.specs.declared.enumerant.storage_class.TheConstants as storage_class
 use Rattle.gsl_valid.specs.Instruction.{read}
-use Rattle.gsl_valid.specs.Search.{Test, passed, Passes}
-use Rattle.gsl_valid.specs.Types.{value_type, target_of, is_value_type}
+use Rattle.gsl_valid.specs.Search.{passed, Passes}
+use Rattle.gsl_valid.specs.Types.{value_type, target_of}
 use Rattle.gsl_valid.specs.Decorations.{Place, On, OnMember, has, number_in, number_on, number_on_member}
 use Rattle.gsl_valid.specs.DecorationRules.{decorated, decorates, may_stand_on, may_stand_on_member, pointee, pointee_of, is_bound_to, differ}
 use Rattle.gsl_valid.specs.LayoutRules.{laid, is_laid, is_at, end_after, need}
@@ -19,7 +18,7 @@ use Rattle.gsl_cmd.specs.declared.program.Program.{Program}
 use Rattle.gsl_cmd.specs.declared.lowering.id.TheConstants as id
 use Rattle.gsl_cmd.specs.Form.{IsProgram}
 use Rattle.gsl_cmd.specs.Lowering.{Code, instr, code_of, constants_of, constant_code, module_of}
-use Rattle.gsl_cmd.proofs.Parts.{member_name, member_offset, constant_at, before_names, before_decorations, before_types, before_constants, before_variable, before_function, passes_parts, none_passed, none_in_range, none_before_decorations, none_before_types, none_in_decorations}
+use Rattle.gsl_cmd.proofs.Parts.{member_offset, constant_at, before_names, before_decorations, before_types, before_constants, before_variable, before_function, passes_parts, none_passed, none_in_range, none_before_decorations, none_before_types, none_in_decorations}
 use Rattle.gsl_cmd.proofs.Facts.{Facts, facts}
 use Rattle.gsl_cmd.proofs.Quiet.{block_decoration, set_decoration, binding_decoration, names_pass, decorations_pass, constants_pass, function_pass}
 use Rattle.gsl_cmd.proofs.Decorated.{is_on, block_is_buffer, block_is_no_block, buffer_set, buffer_binding, member_is_at}
@@ -42,15 +41,15 @@ module _ (p : Program) (fits : IsProgram p) where
       (λ j above. not_yet (OnMember id.BLOCK j) decoration.OFFSET, not_yet (On id.BUFFER) decoration.DESCRIPTOR_SET, not_yet (On id.BUFFER) decoration.BINDING)
 
   offsets_stand : Passes (decorated (module_of p)) (block_decoration ∷ before_decorations p) (map member_offset (range_with_len 0 (length p.members)))
-          × NotYet (0 + length p.members) (passed (block_decoration ∷ before_decorations p) (map member_offset (range_with_len 0 (length p.members))))
+      × NotYet (0 + length p.members) (passed (block_decoration ∷ before_decorations p) (map member_offset (range_with_len 0 (length p.members))))
   offsets_stand =
       passes_range (decorated (module_of p)) NotYet member_offset 0 (length p.members)
-          (λ k before low high now.
-          let within : k < length (replicate (length p.members) id.INT) = simp length-replicate (omega arith) in (
-            and_from _ _ (and_from _ _ (and_from _ _ (ap (may_stand_on_member decoration.OFFSET k) known.block ∙ and_from _ _ (lt-ltb k _ within) refl) refl)
-                (not_from_false _ (now.0 k (omega arith)))) refl,
-            (λ j above. or_from (eqb k j) _ (ne_eqb k j (λ e. omega arith)) (now.0 j (omega arith)), now.1, now.2),
-          )) (block_decoration ∷ before_decorations p) first_not_yet
+      (λ k before low high now.
+      let within : k < length (replicate (length p.members) id.INT) = simp length-replicate (omega arith) in (
+        and_from _ _ (and_from _ _ (and_from _ _ (ap (may_stand_on_member decoration.OFFSET k) known.block ∙ and_from _ _ (lt-ltb k _ within) refl) refl)
+            (not_from_false _ (now.0 k (omega arith)))) refl,
+        (λ j above. or_from (eqb k j) _ (ne_eqb k j (λ e. omega arith)) (now.0 j (omega arith)), now.1, now.2),
+      )) (block_decoration ∷ before_decorations p) first_not_yet
 
   points_to_block : pointee (module_of p) id.BLOCK_POINTER ≡ id.BLOCK
   points_to_block = ap (λ d. pointee_of (target_of d)) known.block_pointer
@@ -66,35 +65,32 @@ module _ (p : Program) (fits : IsProgram p) where
   first_bound set binding =
       let f : Instr → Bool = λ i. is_bound_to (module_of p) set binding (read i) in
       none_passed f (before_constants p) (constant_code (constants_of p))
-          (none_before_types p f refl refl (λ k. refl) (none_in_decorations p f refl (λ k. refl) refl refl))
-          (none_in_range f (constant_at (constants_of p)) 0 (length (constants_of p)) (λ k low high. refl))
+      (none_before_types p f refl refl (λ k. refl) (none_in_decorations p f refl (λ k. refl) refl refl))
+      (none_in_range f (constant_at (constants_of p)) 0 (length (constants_of p)) (λ k low high. refl))
 
   pub decorations_kept : Passes (decorated (module_of p)) [] (code_of p)
   decorations_kept =
       let m = module_of p in
       let test = decorated m in
       let behind = passed (block_decoration ∷ before_decorations p) (map member_offset (range_with_len 0 (length p.members))) in
-      passes_parts p test (refl, (refl, (refl, (refl, tt)))) (names_pass test p.members before_names (λ b. refl) (λ k b. refl))
-          (
-            and_from _ _ (and_from _ _ (and_from _ _ (ap (may_stand_on decoration.BUFFER_BLOCK) known.block) refl) (not_from_false _ (not_yet (On id.BLOCK) decoration.BUFFER_BLOCK))) refl,
-            passes_append test (block_decoration ∷ before_decorations p) (map member_offset (range_with_len 0 (length p.members))) (set_decoration ∷ binding_decoration ∷ [])
-                offsets_stand.0
-                (
-                  and_from _ _ (and_from _ _ (and_from _ _ (ap (may_stand_on decoration.DESCRIPTOR_SET) known.buffer) refl) (not_from_false _ offsets_stand.1.1)) refl,
-                  (
-                    and_from _ _ (and_from _ _ (and_from _ _ (ap (may_stand_on decoration.BINDING) known.buffer) refl) (not_from_false _ offsets_stand.1.2)) refl,
-                    tt,
-                  ),
-                ),
-          )
-          (refl, (refl, (refl, (refl, (refl, (refl, tt))))))
-          (constants_pass test (constants_of p) (before_constants p) (λ k within b. refl))
-          (
-            and_from _ _ (and_from _ _ (and_from _ _ buffer_decorated (ap is_some (buffer_set p))) (ap is_some (buffer_binding p)))
-                (not_from_false _ (first_bound (number_on m decoration.DESCRIPTOR_SET id.BUFFER) (number_on m decoration.BINDING id.BUFFER))),
-            tt,
-          )
-          (function_pass test p fits (before_function p) (λ b. refl) (λ b. refl) (λ n k b. refl) (λ n q b. refl) (λ n a c b. refl) (λ q v b. refl) (λ b. refl) (λ b. refl))
+      passes_parts p test (refl, (refl, (refl, (refl, tt)))) (names_pass test p.members before_names (λ b. refl) (λ k b. refl)) (
+        and_from _ _ (and_from _ _ (and_from _ _ (ap (may_stand_on decoration.BUFFER_BLOCK) known.block) refl) (not_from_false _ (not_yet (On id.BLOCK) decoration.BUFFER_BLOCK))) refl,
+        passes_append test (block_decoration ∷ before_decorations p) (map member_offset (range_with_len 0 (length p.members))) (set_decoration ∷ binding_decoration ∷ [])
+            offsets_stand.0 (
+              and_from _ _ (and_from _ _ (and_from _ _ (ap (may_stand_on decoration.DESCRIPTOR_SET) known.buffer) refl) (not_from_false _ offsets_stand.1.1)) refl,
+              (
+                and_from _ _ (and_from _ _ (and_from _ _ (ap (may_stand_on decoration.BINDING) known.buffer) refl) (not_from_false _ offsets_stand.1.2)) refl,
+                tt,
+              ),
+            ),
+      )
+      (refl, (refl, (refl, (refl, (refl, (refl, tt))))))
+      (constants_pass test (constants_of p) (before_constants p) (λ k within b. refl)) (
+        and_from _ _ (and_from _ _ (and_from _ _ buffer_decorated (ap is_some (buffer_set p))) (ap is_some (buffer_binding p)))
+            (not_from_false _ (first_bound (number_on m decoration.DESCRIPTOR_SET id.BUFFER) (number_on m decoration.BINDING id.BUFFER))),
+        tt,
+      )
+      (function_pass test p fits (before_function p) (λ b. refl) (λ b. refl) (λ n k b. refl) (λ n q b. refl) (λ n a c b. refl) (λ q v b. refl) (λ b. refl) (λ b. refl))
 
   -- The layout -------------------------------------------------------------------------------------------------------
 
@@ -116,14 +112,14 @@ module _ (p : Program) (fits : IsProgram p) where
       let end : end_after (number_on_member m decoration.OFFSET id.BLOCK k) (need m before id.INT) ≡ 4 * (k + 1) =
       ap (end_after (number_on_member m decoration.OFFSET id.BLOCK k)) four ∙ ap (λ o. end_after o 4) offset ∙ next in
       and_from _ _ (and_from _ _ (ap value_type known.int) placed)
-          (ap (λ e. is_laid m before id.BLOCK (k + 1) e (replicate count id.INT)) end ∙ laid_from before four (k + 1) count (omega arith))
+      (ap (λ e. is_laid m before id.BLOCK (k + 1) e (replicate count id.INT)) end ∙ laid_from before four (k + 1) count (omega arith))
 
   pub layout_kept : Passes (laid (module_of p)) [] (code_of p)
   layout_kept =
       let test = laid (module_of p) in
       let before = instr op.TYPE_INT (id.INT ∷ 32 ∷ 1 ∷ []) ∷ instr op.TYPE_FUNCTION (id.MAIN_TYPE ∷ id.VOID ∷ []) ∷ instr op.TYPE_VOID (id.VOID ∷ []) ∷ before_types p in
       passes_parts p test (refl, (refl, (refl, (refl, tt)))) (names_pass test p.members before_names (λ b. refl) (λ k b. refl))
-          (decorations_pass test (length p.members) (before_decorations p) (λ b. refl) (λ k within b. refl) (λ b. refl) (λ b. refl))
-          (refl, (refl, (refl, (or_right _ _ (laid_from before refl 0 (length p.members) (omega arith)), (refl, (refl, tt))))))
-          (constants_pass test (constants_of p) (before_constants p) (λ k within b. refl)) (refl, tt)
-          (function_pass test p fits (before_function p) (λ b. refl) (λ b. refl) (λ n k b. refl) (λ n q b. refl) (λ n a c b. refl) (λ q v b. refl) (λ b. refl) (λ b. refl))
+      (decorations_pass test (length p.members) (before_decorations p) (λ b. refl) (λ k within b. refl) (λ b. refl) (λ b. refl))
+      (refl, (refl, (refl, (or_right _ _ (laid_from before refl 0 (length p.members) (omega arith)), (refl, (refl, tt))))))
+      (constants_pass test (constants_of p) (before_constants p) (λ k within b. refl)) (refl, tt)
+      (function_pass test p fits (before_function p) (λ b. refl) (λ b. refl) (λ n k b. refl) (λ n q b. refl) (λ n a c b. refl) (λ q v b. refl) (λ b. refl) (λ b. refl))

@@ -1,5 +1,5 @@
 -- The entry point of a program's module, its mode and its empty interface.
-use Rattle.std.proofs.Common.{◌≡◌, ℕ, ◌+◌, ◌<◌, ◌≤◌, Bool, true, false, ◌&&◌, not, IsTrue, List, [], ◌∷◌, ◌++◌, length, Option, Some, None, refl, ap, sym, subst, ◌∙◌}
+use Rattle.std.proofs.Common.{◌≡◌, ℕ, true, not, [], ◌∷◌, length, Option, Some, None, refl, ap, ◌∙◌}
 use Rattle.std.specs.Prelude.{filter_map, is_some}
 use Rattle.std.proofs.lemmas.Bool.{and_from}
 use Rattle.gsl_words.specs.declared.module.Instr.{Instr}
@@ -37,10 +37,10 @@ module _ (p : Program) (fits : IsProgram p) where
       let f : Instr → Option ℕ = λ i. interface_variable (read i) in
       let test : Test = λ b i. not (is_some (f i)) in
       none_mapped f [] (code_of p)
-          (passes_parts p test (refl, (refl, (refl, (refl, tt)))) (names_pass test p.members before_names (λ b. refl) (λ k b. refl))
-          (decorations_pass test (length p.members) (before_decorations p) (λ b. refl) (λ k within b. refl) (λ b. refl) (λ b. refl))
-          (refl, (refl, (refl, (refl, (refl, (refl, tt)))))) (constants_pass test (constants_of p) (before_constants p) (λ k within b. refl)) (refl, tt)
-          (function_pass test p fits (before_function p) (λ b. refl) (λ b. refl) (λ n k b. refl) (λ n q b. refl) (λ n a c b. refl) (λ q v b. refl) (λ b. refl) (λ b. refl)))
+      (passes_parts p test (refl, (refl, (refl, (refl, tt)))) (names_pass test p.members before_names (λ b. refl) (λ k b. refl))
+      (decorations_pass test (length p.members) (before_decorations p) (λ b. refl) (λ k within b. refl) (λ b. refl) (λ b. refl))
+      (refl, (refl, (refl, (refl, (refl, (refl, tt)))))) (constants_pass test (constants_of p) (before_constants p) (λ k within b. refl)) (refl, tt)
+      (function_pass test p fits (before_function p) (λ b. refl) (λ b. refl) (λ n k b. refl) (λ n q b. refl) (λ n a c b. refl) (λ q v b. refl) (λ b. refl) (λ b. refl)))
 
   the_mode : Mode
   the_mode = record { function = id.MAIN; mode = execution_mode.LOCAL_SIZE; parts = 1 ∷ 1 ∷ 1 ∷ [] }
@@ -52,11 +52,11 @@ module _ (p : Program) (fits : IsProgram p) where
       let test : Test = λ b i. not (is_some (f i)) in
       ap (filter_map f) (in_parts p)
       ∙ ap (λ modes. the_mode ∷ modes)
-          (none_mapped f before_names (from_names p)
-          (passes_from_names p test (names_pass test p.members before_names (λ b. refl) (λ k b. refl))
-          (decorations_pass test (length p.members) (before_decorations p) (λ b. refl) (λ k within b. refl) (λ b. refl) (λ b. refl))
-          (refl, (refl, (refl, (refl, (refl, (refl, tt)))))) (constants_pass test (constants_of p) (before_constants p) (λ k within b. refl)) (refl, tt)
-          (function_pass test p fits (before_function p) (λ b. refl) (λ b. refl) (λ n k b. refl) (λ n q b. refl) (λ n a c b. refl) (λ q v b. refl) (λ b. refl) (λ b. refl))))
+      (none_mapped f before_names (from_names p)
+      (passes_from_names p test (names_pass test p.members before_names (λ b. refl) (λ k b. refl))
+      (decorations_pass test (length p.members) (before_decorations p) (λ b. refl) (λ k within b. refl) (λ b. refl) (λ b. refl))
+      (refl, (refl, (refl, (refl, (refl, (refl, tt)))))) (constants_pass test (constants_of p) (before_constants p) (λ k within b. refl)) (refl, tt)
+      (function_pass test p fits (before_function p) (λ b. refl) (λ b. refl) (λ n k b. refl) (λ n q b. refl) (λ n a c b. refl) (λ q v b. refl) (λ b. refl) (λ b. refl))))
 
   main_fits : is_main (module_of p) (definition (code_of p) id.MAIN) ≡ true
   main_fits = ap (is_main (module_of p)) known.main ∙ ap (is_main_type (module_of p)) known.main_type ∙ ap void_type known.void
@@ -65,19 +65,18 @@ module _ (p : Program) (fits : IsProgram p) where
   unfolding the_mode
   entry_point_kept =
       let test = entry_kept (module_of p) in
-      passes_parts p test
+      passes_parts p test (
+        refl,
+        (
+          refl,
           (
-            refl,
-            (
-              refl,
-              (
-                and_from _ _ (and_from _ _ (and_from _ _ refl main_fits) (ap (λ ids. lists_each ids []) no_interface)) (ap (are_modes execution_model.GL_COMPUTE id.MAIN) one_mode),
-                (refl, tt),
-              ),
-            ),
-          )
-          (names_pass test p.members before_names (λ b. refl) (λ k b. refl))
-          (decorations_pass test (length p.members) (before_decorations p) (λ b. refl) (λ k within b. refl) (λ b. refl) (λ b. refl))
-          (refl, (refl, (refl, (refl, (refl, (refl, tt))))))
-          (constants_pass test (constants_of p) (before_constants p) (λ k within b. refl)) (refl, tt)
-          (function_pass test p fits (before_function p) (λ b. refl) (λ b. refl) (λ n k b. refl) (λ n q b. refl) (λ n a c b. refl) (λ q v b. refl) (λ b. refl) (λ b. refl))
+            and_from _ _ (and_from _ _ (and_from _ _ refl main_fits) (ap (λ ids. lists_each ids []) no_interface)) (ap (are_modes execution_model.GL_COMPUTE id.MAIN) one_mode),
+            (refl, tt),
+          ),
+        ),
+      )
+      (names_pass test p.members before_names (λ b. refl) (λ k b. refl))
+      (decorations_pass test (length p.members) (before_decorations p) (λ b. refl) (λ k within b. refl) (λ b. refl) (λ b. refl))
+      (refl, (refl, (refl, (refl, (refl, (refl, tt))))))
+      (constants_pass test (constants_of p) (before_constants p) (λ k within b. refl)) (refl, tt)
+      (function_pass test p fits (before_function p) (λ b. refl) (λ b. refl) (λ n k b. refl) (λ n q b. refl) (λ n a c b. refl) (λ q v b. refl) (λ b. refl) (λ b. refl))

@@ -1,23 +1,21 @@
 -- The ids of a program's module are below the bound and defined once.
-use Rattle.std.proofs.Common.{◌≡◌, ℕ, ◌+◌, ◌<◌, ◌≤◌, Bool, true, false, ◌||◌, not, eqb, IsTrue, List, [], ◌∷◌, ◌++◌, length, get_or, map, refl, ap, sym, subst, ◌∙◌, ◌⊎◌, inl, inr, arith}
+use Rattle.std.proofs.Common.{◌≡◌, ℕ, ◌+◌, ◌<◌, ◌≤◌, true, false, ◌||◌, eqb, List, [], ◌∷◌, length, map, refl, ap, ◌∙◌, ◌⊎◌, inl, inr, arith}
 use Rattle.std.specs.List.{range_with_len}
 use Rattle.std.proofs.lemmas.Bool.{and_from, or_from, le-leb, lt-ltb, ne_eqb, not_from_false}
 use Rattle.gsl_words.specs.declared.module.Instr.{Instr}
-use Rattle.gsl_words.specs.declared.op.TheConstants as op
-use Rattle.gsl_valid.specs.Instruction.{Instruction, read}
-use Rattle.gsl_valid.specs.Search.{Test, passed, Passes}
+use Rattle.gsl_valid.specs.Instruction.{read}
+use Rattle.gsl_valid.specs.Search.{Passes}
 use Rattle.gsl_valid.specs.Ids.{result, defines, defined, definition}
-use Rattle.std.specs.Prelude.{Option, Some}
+use Rattle.std.specs.Prelude.{Some}
 use Rattle.gsl_valid.specs.IdsDefinedOnce.{defines_once, is_new}
 use Rattle.gsl_valid.proofs.Searching.{passes_append, passes_range}
 use Rattle.gsl_valid.proofs.Lookups.{Has, definition_is}
 use Rattle.gsl_cmd.specs.declared.program.Program.{Program}
-use Rattle.gsl_cmd.specs.declared.lowering.id.TheConstants as id
 use Rattle.gsl_cmd.specs.Form.{IsProgram}
-use Rattle.gsl_cmd.specs.Lowering.{Code, instr, code_of, constants_of, constant_code, decoration_code, first_id, module_of, name_code, preamble, statements_ids, type_code, variable_code}
+use Rattle.gsl_cmd.specs.Lowering.{Code, code_of, constants_of, constant_code, first_id, statements_ids}
 use Rattle.gsl_cmd.proofs.Known.{program_known}
 use Rattle.gsl_cmd.proofs.Walks.{Walk, statements_pass}
-use Rattle.gsl_cmd.proofs.Parts.{member_name, member_offset, constant_at, before_names, before_decorations, before_types, before_constants, before_variable, before_function, before_code, ending, the_function, passes_parts, none_before_types, none_in_decorations}
+use Rattle.gsl_cmd.proofs.Parts.{member_name, member_offset, constant_at, before_types, before_constants, before_variable, before_code, ending, passes_parts, none_before_types, none_in_decorations}
 
 -- the bound of a program's module
 abbrev pub bound_of : Program → ℕ
@@ -79,10 +77,10 @@ module _ (p : Program) where
   constants_pass : Passes (defines_once (bound_of p)) (before_constants p) (constant_code (constants_of p)) × Apart (0 + length (constants_of p)) (before_variable p)
   constants_pass =
       passes_range (defines_once (bound_of p)) Apart (constant_at (constants_of p)) 0 (length (constants_of p))
-          (λ k before low high apart. (
-            new_passes (bound_of p) (10 + k) before (omega arith) (omega arith) (apart (10 + k) (inr (omega arith)) ∙ types_below (10 + k) (omega arith)),
-            one_more k before apart,
-          )) (before_constants p) (λ id apart. refl)
+      (λ k before low high apart. (
+        new_passes (bound_of p) (10 + k) before (omega arith) (omega arith) (apart (10 + k) (inr (omega arith)) ∙ types_below (10 + k) (omega arith)),
+        one_more k before apart,
+      )) (before_constants p) (λ id apart. refl)
 
   -- no id below 10 other than those of the types is defined before the variable
   not_yet : (id : ℕ) → id < 10 → defined (before_constants p) id ≡ false → defined (before_variable p) id ≡ false
@@ -102,36 +100,33 @@ module _ (p : Program) where
       let a_type = λ (n : ℕ) (some : 1 ≤ n) (below : n < bound_of p). new_passes (bound_of p) n (before_types p) some below (none_defined n) in
       let another = λ (n : ℕ) (some : 1 ≤ n) (below : n < bound_of p) (none : defined (before_variable p) n ≡ false). new_passes (bound_of p) n (before_variable p) some below none in
       passes_parts p test (refl, (refl, (refl, (refl, tt))))
-          (refl, (passes_range test quiet (member_name p.members) 0 (length p.members) (λ k before low high now. (refl, tt)) _ tt).0)
+      (refl, (passes_range test quiet (member_name p.members) 0 (length p.members) (λ k before low high now. (refl, tt)) _ tt).0) (
+        refl,
+        passes_append test _ (map member_offset (range_with_len 0 (length p.members))) _
+            (passes_range test quiet member_offset 0 (length p.members) (λ k before low high now. (refl, tt)) _ tt).0 (refl, (refl, tt)),
+      ) (
+        a_type 2 (omega arith) (omega arith),
+        (
+          a_type 3 (omega arith) (omega arith),
           (
-            refl,
-            passes_append test _ (map member_offset (range_with_len 0 (length p.members))) _
-                (passes_range test quiet member_offset 0 (length p.members) (λ k before low high now. (refl, tt)) _ tt).0 (refl, (refl, tt)),
-          )
-          (
-            a_type 2 (omega arith) (omega arith),
+            a_type 5 (omega arith) (omega arith),
             (
-              a_type 3 (omega arith) (omega arith),
-              (
-                a_type 5 (omega arith) (omega arith),
-                (
-                  a_type 6 (omega arith) (omega arith),
-                  (a_type 7 (omega arith) (omega arith), (a_type 8 (omega arith) (omega arith), tt)),
-                ),
-              ),
+              a_type 6 (omega arith) (omega arith),
+              (a_type 7 (omega arith) (omega arith), (a_type 8 (omega arith) (omega arith), tt)),
             ),
-          )
-          constants_pass.0
-          (another 9 (omega arith) (omega arith) (not_yet 9 (omega arith) (none_defined 9)), tt)
-          (
-            another 1 (omega arith) (omega arith) (not_yet 1 (omega arith) (none_defined 1)),
-            (
-              another 4 (omega arith) (omega arith) (not_yet 4 (omega arith) (none_defined 4)),
-              statements_pass (constants_of p) (length p.members) (bound_of p) (λ i. Unit {0}) test (ids_walk (constants_of p) (length p.members) (bound_of p))
-                  (first_id (constants_of p)) p.statements ending (before_code p) (program_known p fits) (omega arith) (λ i has. tt) (omega arith, free_from_code)
-                  (λ end behind e now. (refl, (refl, tt))),
-            ),
-          )
+          ),
+        ),
+      )
+      constants_pass.0
+      (another 9 (omega arith) (omega arith) (not_yet 9 (omega arith) (none_defined 9)), tt) (
+        another 1 (omega arith) (omega arith) (not_yet 1 (omega arith) (none_defined 1)),
+        (
+          another 4 (omega arith) (omega arith) (not_yet 4 (omega arith) (none_defined 4)),
+          statements_pass (constants_of p) (length p.members) (bound_of p) (λ i. Unit {0}) test (ids_walk (constants_of p) (length p.members) (bound_of p))
+              (first_id (constants_of p)) p.statements ending (before_code p) (program_known p fits) (omega arith) (λ i has. tt) (omega arith, free_from_code)
+              (λ end behind e now. (refl, (refl, tt))),
+        ),
+      )
 
   -- What an instruction of the module defines is found by its id.
   pub defined_by : IsProgram p → (i : Instr) (id : ℕ) → Has (code_of p) i → result (read i) ≡ Some id → definition (code_of p) id ≡ read i

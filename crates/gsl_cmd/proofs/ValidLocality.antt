@@ -1,22 +1,19 @@
 -- What the block of a program's module defines is used in it.
-use Rattle.std.proofs.Common.{◌≡◌, ℕ, ◌+◌, ◌<◌, ◌≤◌, Bool, true, false, cond, ◌&&◌, ◌||◌, not, eqb, IsTrue, List, [], ◌∷◌, length, refl, ap, sym, ◌∙◌, ◌⊎◌, inl, inr, arith}
-use Rattle.std.specs.Prelude.{replicate}
+use Rattle.std.proofs.Common.{◌≡◌, ℕ, Bool, true, ◌&&◌, eqb, [], ◌∷◌, length, refl, ap, ◌⊎◌, inl, inr, arith}
 use Rattle.std.specs.List.{list_all}
 use Rattle.std.proofs.lemmas.Bool.{and_from, or_left, or_right, cond_both, eq-eqb}
-use Rattle.gsl_words.specs.declared.module.Instr.{Instr}
 use Rattle.gsl_words.specs.declared.op.TheConstants as op
 use Rattle.gsl_words.specs.declared.enumerant.capability.TheConstants as capability
 use Rattle.gsl_words.specs.declared.enumerant.memory_model.TheConstants as memory_model
-use Rattle.gsl_valid.specs.Search.{Test, passed, Passes}
+use Rattle.gsl_valid.specs.Search.{passed, Passes}
 use Rattle.gsl_valid.specs.Ids.{defined, definition}
-use Rattle.gsl_valid.specs.Types.{variable_of}
 use Rattle.gsl_valid.specs.LocalityRules.{uses_near, is_near, near_as, of_block, back_to, bounds_block, bounds_function}
 use Rattle.gsl_cmd.specs.declared.program.Program.{Program}
 use Rattle.gsl_cmd.specs.declared.lowering.id.TheConstants as id
 use Rattle.gsl_cmd.specs.Form.{IsProgram}
 use Rattle.gsl_cmd.specs.Lowering.{Code, code_of, constants_of, constant_id, first_id, instr, module_of, pointer}
 use Rattle.gsl_cmd.proofs.Known.{among, member_known, program_known}
-use Rattle.gsl_cmd.proofs.Walks.{Walk, load, add, statements_pass}
+use Rattle.gsl_cmd.proofs.Walks.{Walk, load, statements_pass}
 use Rattle.gsl_cmd.proofs.Parts.{before_names, before_decorations, before_types, before_constants, before_variable, before_function, before_code, ending, passes_parts}
 use Rattle.gsl_cmd.proofs.ValidIds.{bound_of}
 use Rattle.gsl_cmd.proofs.Facts.{Facts, facts}
@@ -125,18 +122,17 @@ module _ (p : Program) (fits : IsProgram p) where
       let entry_near = λ (b : Code). mention b id.MAIN (near_main b) in
       let mode_near = λ (b : Code). mention b id.MAIN (near_main b) in
       passes_parts p test (refl, (refl, (entry_near two, (mode_near (main_entry ∷ two), tt))))
-          (names_pass test p.members before_names (λ b. mention b id.BLOCK (near_block b)) (λ k b. mention b id.BLOCK (near_block b)))
-          (decorations_pass test (length p.members) (before_decorations p) (λ b. mention b id.BLOCK (near_block b)) (λ k within b. mention b id.BLOCK (near_block b))
-              (λ b. mention b id.BUFFER (near_buffer b)) (λ b. mention b id.BUFFER (near_buffer b)))
-          (types_pass test (length p.members) (before_types p) (λ b. refl) (λ b. one b id.VOID (near_void b)) (λ b. refl)
-              (λ b. and_from _ _ (all_same (near b) id.INT (length p.members) (near_int b)) refl) (λ b. one b id.BLOCK (near_block b)) (λ b. one b id.INT (near_int b)))
-          (constants_pass test (constants_of p) (before_constants p) (λ k within b. one b id.INT (near_int b)))
-          (one (before_variable p) id.BLOCK_POINTER (near_block_pointer (before_variable p)), tt)
-          (
-            two_defined (near (before_function p)) id.VOID id.MAIN_TYPE (near_void (before_function p)) (near_main_type (before_function p)),
-            (
-              refl,
-              statements_pass (constants_of p) (length p.members) (bound_of p) (λ i. Unit {0}) test near_walk (first_id (constants_of p)) p.statements ending
-                  (before_code p) (program_known p fits) (omega arith) (λ i has. tt) tt (λ end behind e now. (refl, (refl, tt))),
-            ),
-          )
+      (names_pass test p.members before_names (λ b. mention b id.BLOCK (near_block b)) (λ k b. mention b id.BLOCK (near_block b)))
+      (decorations_pass test (length p.members) (before_decorations p) (λ b. mention b id.BLOCK (near_block b)) (λ k within b. mention b id.BLOCK (near_block b))
+      (λ b. mention b id.BUFFER (near_buffer b)) (λ b. mention b id.BUFFER (near_buffer b)))
+      (types_pass test (length p.members) (before_types p) (λ b. refl) (λ b. one b id.VOID (near_void b)) (λ b. refl)
+      (λ b. and_from _ _ (all_same (near b) id.INT (length p.members) (near_int b)) refl) (λ b. one b id.BLOCK (near_block b)) (λ b. one b id.INT (near_int b)))
+      (constants_pass test (constants_of p) (before_constants p) (λ k within b. one b id.INT (near_int b)))
+      (one (before_variable p) id.BLOCK_POINTER (near_block_pointer (before_variable p)), tt) (
+        two_defined (near (before_function p)) id.VOID id.MAIN_TYPE (near_void (before_function p)) (near_main_type (before_function p)),
+        (
+          refl,
+          statements_pass (constants_of p) (length p.members) (bound_of p) (λ i. Unit {0}) test near_walk (first_id (constants_of p)) p.statements ending
+              (before_code p) (program_known p fits) (omega arith) (λ i has. tt) tt (λ end behind e now. (refl, (refl, tt))),
+        ),
+      )

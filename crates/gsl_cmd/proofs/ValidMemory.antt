@@ -1,5 +1,5 @@
 -- The operands, pointers, loads and stores of a program's module are typed.
-use Rattle.std.proofs.Common.{◌≡◌, ℕ, ◌+◌, ◌<◌, ◌≤◌, Bool, true, false, cond, ◌&&◌, ◌||◌, not, eqb, IsTrue, List, [], ◌∷◌, length, get_or, Option, Some, None, refl, ap, sym, subst, ◌∙◌, ◌⊎◌, inl, inr, arith}
+use Rattle.std.proofs.Common.{◌≡◌, ℕ, ◌<◌, true, false, eqb, [], ◌∷◌, length, Some, refl, ap, ◌∙◌, inr, arith}
 use Rattle.std.specs.Prelude.{replicate, is_some}
 use Rattle.std.proofs.Math.ListN.{length-replicate}
 use Rattle.std.proofs.lemmas.List.{get_or-replicate}
@@ -8,21 +8,20 @@ use Rattle.gsl_words.specs.declared.module.Instr.{Instr}
 use Rattle.gsl_words.specs.declared.module.Module.{Module}
 use Rattle.gsl_words.specs.declared.enumerant.decoration.TheConstants as decoration
 use Rattle.gsl_words.specs.declared.enumerant.storage_class.TheConstants as storage_class
-use Rattle.gsl_valid.specs.Instruction.{Instruction, AccessChain, read}
-use Rattle.gsl_valid.specs.Search.{Test, Passes}
-use Rattle.gsl_valid.specs.Ids.{definition}
+use Rattle.gsl_valid.specs.Instruction.{AccessChain}
+use Rattle.gsl_valid.specs.Search.{Passes}
 use Rattle.gsl_valid.specs.Types.{Target, target_of, type_of, is_type, has_type, int_type, defined_as}
 use Rattle.gsl_valid.specs.Decorations.{has, member_has}
 use Rattle.gsl_valid.specs.OperandRules.{typed}
-use Rattle.gsl_valid.specs.MemoryRules.{memory_kept, member_at, memory_of, target, target_at, value_of, part_by, part_at, is_part, leads_to, is_variable, passes_one, index_of, target_type, leads_through, is_in_buffer, block_of, is_moved, may_load, may_store, is_writable}
+use Rattle.gsl_valid.specs.MemoryRules.{memory_kept, member_at, target, target_at, value_of, part_by, part_at, is_part, leads_to, is_variable, passes_one, index_of, target_type, leads_through, is_in_buffer, block_of, may_load, may_store}
 use Rattle.gsl_valid.proofs.Lookups.{Has}
 use Rattle.gsl_cmd.specs.declared.program.Program.{Program}
 use Rattle.gsl_cmd.specs.declared.lowering.id.TheConstants as id
 use Rattle.gsl_cmd.specs.Form.{IsProgram}
-use Rattle.gsl_cmd.specs.Lowering.{Code, code_of, constants_of, constant_id, first_id, module_of, pointer}
+use Rattle.gsl_cmd.specs.Lowering.{code_of, constants_of, constant_id, first_id, module_of, pointer}
 use Rattle.gsl_cmd.proofs.Known.{among, member_known, program_known}
 use Rattle.gsl_cmd.proofs.Walks.{Walk, load, add, statements_pass}
-use Rattle.gsl_cmd.proofs.Parts.{before_names, before_decorations, before_constants, before_function, before_code, ending, in_function, passes_parts}
+use Rattle.gsl_cmd.proofs.Parts.{before_names, before_decorations, before_constants, before_code, ending, in_function, passes_parts}
 use Rattle.gsl_cmd.proofs.ValidIds.{bound_of, defined_by}
 use Rattle.gsl_cmd.proofs.Facts.{Facts, facts}
 use Rattle.gsl_cmd.proofs.Quiet.{the_code, names_pass, decorations_pass, constants_pass}
@@ -73,17 +72,16 @@ module _ (p : Program) (fits : IsProgram p) where
   operands_kept =
       let test = typed m in
       passes_parts p test (refl, (refl, (refl, (refl, tt)))) (names_pass test p.members before_names (λ b. refl) (λ k b. refl))
-          (decorations_pass test (length p.members) (before_decorations p) (λ b. refl) (λ k within b. refl) (λ b. refl) (λ b. refl))
-          (refl, (refl, (refl, (refl, (refl, (refl, tt))))))
-          (constants_pass test (constants_of p) (before_constants p) (λ k within b. refl)) (refl, tt)
-          (
-            refl,
-            (
-              refl,
-              statements_pass (constants_of p) (length p.members) (bound_of p) Part test typed_walk (first_id (constants_of p)) p.statements ending
-                  (before_code p) (program_known p fits) (omega arith) each_part tt (λ end behind e now. (refl, (refl, tt))),
-            ),
-          )
+      (decorations_pass test (length p.members) (before_decorations p) (λ b. refl) (λ k within b. refl) (λ b. refl) (λ b. refl))
+      (refl, (refl, (refl, (refl, (refl, (refl, tt))))))
+      (constants_pass test (constants_of p) (before_constants p) (λ k within b. refl)) (refl, tt) (
+        refl,
+        (
+          refl,
+          statements_pass (constants_of p) (length p.members) (bound_of p) Part test typed_walk (first_id (constants_of p)) p.statements ending
+              (before_code p) (program_known p fits) (omega arith) each_part tt (λ end behind e now. (refl, (refl, tt))),
+        ),
+      )
 
   -- Memory -----------------------------------------------------------------------------------------------------------
 
@@ -133,7 +131,7 @@ module _ (p : Program) (fits : IsProgram p) where
       ap (leads_through m kind) at.2
       ∙ ap (λ t. passes_one m kind (target_type t) (index ∷ [])) buffer_target
       ∙ or_from _ _ (ap (λ v. member_has m kind id.BLOCK (index_of v)) (value_is k at.1) ∙ ap is_some (member_has_no p k kind fits other))
-          (ap (λ part. passes_one m kind part []) (part_is k at.1))
+      (ap (λ part. passes_one m kind part []) (part_is k at.1))
 
   in_buffer : (q : ℕ) → PointsTo q → is_in_buffer m (defined_as m q) ≡ true
   in_buffer q at = ap (is_in_buffer m) at.2 ∙ ap (λ t. has m decoration.BUFFER_BLOCK (block_of t)) buffer_target ∙ ap is_some (block_is_buffer p)
@@ -164,14 +162,13 @@ module _ (p : Program) (fits : IsProgram p) where
   memory_is_kept =
       let test = memory_kept m in
       passes_parts p test (refl, (refl, (refl, (refl, tt)))) (names_pass test p.members before_names (λ b. refl) (λ k b. refl))
-          (decorations_pass test (length p.members) (before_decorations p) (λ b. refl) (λ k within b. refl) (λ b. refl) (λ b. refl))
-          (refl, (refl, (refl, (refl, (refl, (refl, tt))))))
-          (constants_pass test (constants_of p) (before_constants p) (λ k within b. refl)) (refl, tt)
-          (
-            refl,
-            (
-              refl,
-              statements_pass (constants_of p) (length p.members) (bound_of p) Part test memory_walk (first_id (constants_of p)) p.statements ending
-                  (before_code p) (program_known p fits) (omega arith) each_part tt (λ end behind e now. (refl, (refl, tt))),
-            ),
-          )
+      (decorations_pass test (length p.members) (before_decorations p) (λ b. refl) (λ k within b. refl) (λ b. refl) (λ b. refl))
+      (refl, (refl, (refl, (refl, (refl, (refl, tt))))))
+      (constants_pass test (constants_of p) (before_constants p) (λ k within b. refl)) (refl, tt) (
+        refl,
+        (
+          refl,
+          statements_pass (constants_of p) (length p.members) (bound_of p) Part test memory_walk (first_id (constants_of p)) p.statements ending
+              (before_code p) (program_known p fits) (omega arith) each_part tt (λ end behind e now. (refl, (refl, tt))),
+        ),
+      )

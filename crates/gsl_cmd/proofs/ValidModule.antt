@@ -1,6 +1,6 @@
 -- The module of a program is valid.
-use Rattle.std.proofs.Common.{◌≡◌, ℕ, List, [], ◌∷◌, Option, None, refl}
-use Rattle.gsl_valid.specs.Search.{Test, Passes, first_broken}
+use Rattle.std.proofs.Common.{[], refl}
+use Rattle.gsl_valid.specs.Search.{Test, Passes}
 use Rattle.gsl_valid.specs.Valid.{Valid, rules}
 use Rattle.gsl_valid.proofs.Searching.{none_broken}
 use Rattle.gsl_valid.proofs.Rules.{none_of}

@@ -1,24 +1,18 @@
 -- The sections of a program's module stand in order, and its numbers are those that they may be.
-use Rattle.std.proofs.Common.{◌≡◌, ℕ, zero, suc, ◌+◌, ◌*◌, ◌<◌, ◌≤◌, Bool, true, false, ◌&&◌, IsTrue, List, [], ◌∷◌, ◌++◌, length, map, Option, Some, None, refl, ap, sym, subst, ◌∙◌, arith}
+use Rattle.std.proofs.Common.{◌≡◌, ℕ, ◌≤◌, true, ◌&&◌, List, [], ◌∷◌, length, map, None, refl, ap, ◌∙◌, arith}
 use Rattle.std.specs.Prelude.{nat_le, ◌==◌, if◌then◌else◌}
-use Rattle.std.specs.List.{range_with_len, AllByRecursion}
+use Rattle.std.specs.List.{range_with_len}
 use Rattle.std.proofs.lemmas.Bool.{and_from, le-leb}
-use Rattle.gsl_words.specs.declared.module.Instr.{Instr}
-use Rattle.gsl_words.specs.declared.op.TheConstants as op
-use Rattle.gsl_valid.specs.Instruction.{read}
-use Rattle.gsl_valid.specs.Search.{Test, passed, whole, unless, Passes, ◌otherwise◌, first_broken, count_of_words, bound_place}
-use Rattle.gsl_valid.specs.Sections.{sections, in_section, reached, may_come, is_complete, has_bound, most_bound, functions, globals, decorations, names, entry_points}
+use Rattle.gsl_valid.specs.Placed.{count_of_words, bound_place}
+use Rattle.gsl_valid.specs.Search.{passed, unless, Passes, ◌otherwise◌, first_broken}
+use Rattle.gsl_valid.specs.Sections.{sections, in_section, reached, may_come, is_complete, most_bound, functions, globals, decorations, names, entry_points}
 use Rattle.gsl_valid.proofs.Searching.{passes_append, passes_range, passed_append, none_broken}
-use Rattle.gsl_cmd.specs.declared.program.Term.{Term}
-use Rattle.gsl_cmd.specs.declared.program.Term.TheVariants.{Member, Literal}
-use Rattle.gsl_cmd.specs.declared.program.Statement.{Statement}
 use Rattle.gsl_cmd.specs.declared.program.Program.{Program}
-use Rattle.gsl_cmd.specs.declared.lowering.id.TheConstants as id
 use Rattle.gsl_cmd.specs.Form.{IsProgram}
-use Rattle.gsl_cmd.specs.Lowering.{Code, instr, code_of, constants_of, constant_code, decoration_code, first_id, module_of, name_code, preamble, statements_code, term_code, more_code, sum_code, type_code, variable_code, term_ids, term_value, sum_ids, statement_ids}
+use Rattle.gsl_cmd.specs.Lowering.{Code, code_of, constants_of, constant_code, first_id, module_of}
 use Rattle.gsl_cmd.proofs.Known.{program_known}
 use Rattle.gsl_cmd.proofs.Walks.{Walk, statements_pass}
-use Rattle.gsl_cmd.proofs.Parts.{member_name, member_offset, constant_at, before_names, before_decorations, before_types, before_constants, before_variable, before_function, before_code, ending, the_function, passes_parts}
+use Rattle.gsl_cmd.proofs.Parts.{member_name, member_offset, constant_at, before_names, before_decorations, before_types, before_constants, before_variable, before_function, before_code, ending, passes_parts}
 use Rattle.gsl_cmd.proofs.ValidIds.{bound_of}
 use Rattle.gsl_cmd.proofs.Counts.{bound_below}
 use Rattle.gsl_cmd.proofs.Quiet.{behind_all, block_name, block_decoration, set_decoration, binding_decoration}
@@ -49,18 +43,18 @@ module _ (p : Program) where
   names_stand : Passes in_section (block_name ∷ before_names) (map (member_name p.members) (range_with_len 0 (length p.members))) × (reached (before_decorations p) ≡ names)
   names_stand =
       passes_range in_section (Reached names) (member_name p.members) 0 (length p.members)
-          (λ k before low high now. (comes (reached before) names names now refl, refl)) (block_name ∷ before_names) refl
+      (λ k before low high now. (comes (reached before) names names now refl, refl)) (block_name ∷ before_names) refl
 
   offsets_stand : Passes in_section (block_decoration ∷ before_decorations p) (map member_offset (range_with_len 0 (length p.members)))
-          × (reached (passed (block_decoration ∷ before_decorations p) (map member_offset (range_with_len 0 (length p.members)))) ≡ decorations)
+      × (reached (passed (block_decoration ∷ before_decorations p) (map member_offset (range_with_len 0 (length p.members)))) ≡ decorations)
   offsets_stand =
       passes_range in_section (Reached decorations) member_offset 0 (length p.members)
-          (λ k before low high now. (comes (reached before) decorations decorations now refl, refl)) (block_decoration ∷ before_decorations p) refl
+      (λ k before low high now. (comes (reached before) decorations decorations now refl, refl)) (block_decoration ∷ before_decorations p) refl
 
   constants_stand : Passes in_section (before_constants p) (constant_code (constants_of p)) × (reached (before_variable p) ≡ globals)
   constants_stand =
       passes_range in_section (Reached globals) (constant_at (constants_of p)) 0 (length (constants_of p))
-          (λ k before low high now. (comes (reached before) globals globals now refl, refl)) (before_constants p) refl
+      (λ k before low high now. (comes (reached before) globals globals now refl, refl)) (before_constants p) refl
 
   types_stand : reached (before_types p) ≡ decorations
   types_stand =
@@ -68,25 +62,23 @@ module _ (p : Program) where
 
   pub sections_stand : IsProgram p → Passes in_section [] (code_of p)
   sections_stand fits =
-      passes_parts p in_section (refl, (refl, (refl, (refl, tt)))) (refl, names_stand.0)
-          (
-            comes (reached (before_decorations p)) names decorations names_stand.1 refl,
-            passes_append in_section (block_decoration ∷ before_decorations p) (map member_offset (range_with_len 0 (length p.members)))
-                (set_decoration ∷ binding_decoration ∷ []) offsets_stand.0
-                (comes _ decorations decorations offsets_stand.1 refl, (refl, tt)),
-          )
-          (comes (reached (before_types p)) decorations globals types_stand refl, (refl, (refl, (refl, (refl, (refl, tt))))))
-          constants_stand.0
-          (ap (λ r. may_come r (if r == functions then functions else globals) && true) constants_stand.1, tt)
-          (
-            comes (reached (before_function p)) globals functions (ap (λ r. if r == functions then functions else globals) constants_stand.1) refl,
-            (
-              refl,
-              statements_pass (constants_of p) (length p.members) (bound_of p) (λ i. Unit {0}) in_section
-                  (sections_walk (constants_of p) (length p.members) (bound_of p)) (first_id (constants_of p)) p.statements ending (before_code p)
-                  (program_known p fits) (omega arith) (λ i has. tt) refl (λ end behind e now. (comes (reached behind) functions functions now refl, (refl, tt))),
-            ),
-          )
+      passes_parts p in_section (refl, (refl, (refl, (refl, tt)))) (refl, names_stand.0) (
+        comes (reached (before_decorations p)) names decorations names_stand.1 refl,
+        passes_append in_section (block_decoration ∷ before_decorations p) (map member_offset (range_with_len 0 (length p.members)))
+            (set_decoration ∷ binding_decoration ∷ []) offsets_stand.0
+            (comes _ decorations decorations offsets_stand.1 refl, (refl, tt)),
+      )
+      (comes (reached (before_types p)) decorations globals types_stand refl, (refl, (refl, (refl, (refl, (refl, tt))))))
+      constants_stand.0
+      (ap (λ r. may_come r (if r == functions then functions else globals) && true) constants_stand.1, tt) (
+        comes (reached (before_function p)) globals functions (ap (λ r. if r == functions then functions else globals) constants_stand.1) refl,
+        (
+          refl,
+          statements_pass (constants_of p) (length p.members) (bound_of p) (λ i. Unit {0}) in_section
+              (sections_walk (constants_of p) (length p.members) (bound_of p)) (first_id (constants_of p)) p.statements ending (before_code p)
+              (program_known p fits) (omega arith) (λ i has. tt) refl (λ end behind e now. (comes (reached behind) functions functions now refl, (refl, tt))),
+        ),
+      )
 
   few_ids : IsProgram p → bound_of p ≤ most_bound
   few_ids fits = omega (arith, bound_below p fits)

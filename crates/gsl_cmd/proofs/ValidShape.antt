@@ -1,29 +1,27 @@
 -- The function of a program's module is one block, and returns nothing.
-use Rattle.std.proofs.Common.{◌≡◌, ℕ, zero, suc, ◌+◌, ◌*◌, ◌<◌, ◌≤◌, Bool, true, false, cond, ◌&&◌, ◌||◌, not, eqb, IsTrue, List, [], ◌∷◌, ◌++◌, length, append-nil, map, Option, Some, None, refl, ap, sym, subst, ◌∙◌, arith}
-use Rattle.std.specs.Prelude.{◌==◌, if◌then◌else◌}
+use Rattle.std.proofs.Common.{◌≡◌, ℕ, ◌+◌, Bool, true, false, not, eqb, [], ◌∷◌, ◌++◌, length, append-nil, map, None, refl, ap, subst, ◌∙◌, arith}
 use Rattle.std.specs.List.{range_with_len}
-use Rattle.std.proofs.lemmas.Bool.{and_from, or_left, cond-true, not-true}
-use Rattle.gsl_words.specs.declared.module.Instr.{Instr}
-use Rattle.gsl_words.specs.declared.op.TheConstants as op
+use Rattle.std.proofs.lemmas.Bool.{and_from, or_left, cond-true}
 use Rattle.gsl_words.specs.declared.enumerant.storage_class.TheConstants as storage_class
 use Rattle.gsl_words.specs.Instructions.{word_count}
 use Rattle.gsl_valid.specs.Instruction.{Instruction, Function, Label, FunctionEnd, read}
-use Rattle.gsl_valid.specs.Search.{Test, passed, whole, unless, placed_from, header_size, count_of_words, Passes, ◌otherwise◌, first_broken}
+use Rattle.gsl_valid.specs.Placed.{placed_from, header_size, count_of_words}
+use Rattle.gsl_valid.specs.Search.{Test, passed, whole, unless, Passes, ◌otherwise◌}
 use Rattle.gsl_valid.specs.Types.{function_begins, void_type}
-use Rattle.gsl_valid.specs.FunctionRules.{function_shape, in_shape, standing, Standing, Outside, Begun, AtHead, outside, may_be_variable, may_begin, in_block, gives, parameters_of}
+use Rattle.gsl_valid.specs.FunctionRules.{function_shape, in_shape, standing, Outside, Begun, outside, may_be_variable, may_begin, in_block, gives, parameters_of}
 use Rattle.gsl_valid.specs.StructureRules.{structure, no_run, is_run, blocks, blocks_with}
 use Rattle.gsl_valid.specs.ReturnRules.{returns_kept, function_at, gives_void}
 use Rattle.gsl_valid.proofs.Searching.{passed_append, passes_append, passes_range, none_broken}
 use Rattle.gsl_cmd.specs.declared.program.Program.{Program}
 use Rattle.gsl_cmd.specs.declared.lowering.id.TheConstants as id
 use Rattle.gsl_cmd.specs.Form.{IsProgram}
-use Rattle.gsl_cmd.specs.Lowering.{Code, instr, code_of, constants_of, constant_code, decoration_code, first_id, module_of, name_code, preamble, type_code, variable_code}
+use Rattle.gsl_cmd.specs.Lowering.{Code, code_of, constants_of, constant_code, decoration_code, first_id, module_of, name_code, preamble, type_code, variable_code}
 use Rattle.gsl_cmd.proofs.Known.{program_known}
 use Rattle.gsl_cmd.proofs.Walks.{Walk, statements_pass}
-use Rattle.gsl_cmd.proofs.Parts.{member_name, member_offset, constant_at, before_names, before_decorations, before_types, before_constants, before_variable, before_function, before_code, ending, the_function, passes_parts}
+use Rattle.gsl_cmd.proofs.Parts.{member_name, member_offset, constant_at, before_names, before_decorations, before_types, before_constants, before_variable, before_code, ending, the_function, passes_parts}
 use Rattle.gsl_cmd.proofs.ValidIds.{bound_of}
-use Rattle.gsl_cmd.proofs.Facts.{Facts, facts}
-use Rattle.gsl_cmd.proofs.Quiet.{behind_all, block_name, block_decoration, set_decoration, binding_decoration, main_function, main_label, the_code, names_pass, decorations_pass, constants_pass, function_pass, code_pass}
+use Rattle.gsl_cmd.proofs.Facts.{facts}
+use Rattle.gsl_cmd.proofs.Quiet.{behind_all, block_name, block_decoration, set_decoration, binding_decoration, main_function, main_label, the_code, names_pass, decorations_pass, constants_pass, code_pass}
 
 -- Where the code stands -------------------------------------------------------------------------------------------
 
@@ -67,18 +65,17 @@ module _ (p : Program) where
       let test = in_shape (module_of p) in
       let known = facts p fits in
       passes_parts p test (refl, (refl, (refl, (refl, tt)))) (names_pass test p.members before_names (λ b. refl) (λ k b. refl))
-          (decorations_pass test (length p.members) (before_decorations p) (λ b. refl) (λ k within b. refl) (λ b. refl) (λ b. refl))
-          (refl, (refl, (refl, (refl, (refl, (refl, tt))))))
-          (constants_pass test (constants_of p) (before_constants p) (λ k within b. refl))
-          (ap (may_be_variable (module_of p) id.BLOCK_POINTER storage_class.UNIFORM []) outside_constants, tt)
-          (
-            and_from _ _ (ap outside outside_constants) (ap (gives id.VOID) known.main_type),
-            (
-              ap (λ d. may_begin (Begun (parameters_of d))) known.main_type,
-              statements_pass (constants_of p) (length p.members) (bound_of p) (λ i. Unit {0}) test shape_walk (first_id (constants_of p)) p.statements ending
-                  (before_code p) (program_known p fits) (omega arith) (λ i has. tt) refl (λ end behind e now. (now, (refl, tt))),
-            ),
-          )
+      (decorations_pass test (length p.members) (before_decorations p) (λ b. refl) (λ k within b. refl) (λ b. refl) (λ b. refl))
+      (refl, (refl, (refl, (refl, (refl, (refl, tt))))))
+      (constants_pass test (constants_of p) (before_constants p) (λ k within b. refl))
+      (ap (may_be_variable (module_of p) id.BLOCK_POINTER storage_class.UNIFORM []) outside_constants, tt) (
+        and_from _ _ (ap outside outside_constants) (ap (gives id.VOID) known.main_type),
+        (
+          ap (λ d. may_begin (Begun (parameters_of d))) known.main_type,
+          statements_pass (constants_of p) (length p.members) (bound_of p) (λ i. Unit {0}) test shape_walk (first_id (constants_of p)) p.statements ending
+              (before_code p) (program_known p fits) (omega arith) (λ i has. tt) refl (λ end behind e now. (now, (refl, tt))),
+        ),
+      )
 
   pub shape_none : IsProgram p → function_shape (module_of p) ≡ None
   shape_none fits =
@@ -108,18 +105,17 @@ module _ (p : Program) where
       let test = returns_kept (module_of p) in
       let known = facts p fits in
       passes_parts p test (refl, (refl, (refl, (refl, tt)))) (names_pass test p.members before_names (λ b. refl) (λ k b. refl))
-          (decorations_pass test (length p.members) (before_decorations p) (λ b. refl) (λ k within b. refl) (λ b. refl) (λ b. refl))
-          (refl, (refl, (refl, (refl, (refl, (refl, tt))))))
-          (constants_pass test (constants_of p) (before_constants p) (λ k within b. refl)) (refl, tt)
-          (
-            refl,
-            (
-              refl,
-              statements_pass (constants_of p) (length p.members) (bound_of p) (λ i. Unit {0}) test returns_walk (first_id (constants_of p)) p.statements ending
-                  (before_code p) (program_known p fits) (omega arith) (λ i has. tt) refl
-                  (λ end behind e now. (ap (gives_void (module_of p)) now ∙ ap void_type known.void, (refl, tt))),
-            ),
-          )
+      (decorations_pass test (length p.members) (before_decorations p) (λ b. refl) (λ k within b. refl) (λ b. refl) (λ b. refl))
+      (refl, (refl, (refl, (refl, (refl, (refl, tt))))))
+      (constants_pass test (constants_of p) (before_constants p) (λ k within b. refl)) (refl, tt) (
+        refl,
+        (
+          refl,
+          statements_pass (constants_of p) (length p.members) (bound_of p) (λ i. Unit {0}) test returns_walk (first_id (constants_of p)) p.statements ending
+              (before_code p) (program_known p fits) (omega arith) (λ i has. tt) refl
+              (λ end behind e now. (ap (gives_void (module_of p)) now ∙ ap void_type known.void, (refl, tt))),
+        ),
+      )
 
 -- Blocks ----------------------------------------------------------------------------------------------------------
 
@@ -151,13 +147,13 @@ module _ (p : Program) (fits : IsProgram p) where
   one_block : (at : ℕ) → is_run (placed_from at (main_label ∷ the_code p)) ≡ true
   one_block at =
       ap (λ n. eqb (1 + n) 1)
-          (none_labelled [] (the_code p) (at + word_count main_label)
-          (code_pass no_label p fits [] (λ n k b. refl) (λ n q b. refl) (λ n a c b. refl) (λ q v b. refl) (λ b. refl) (λ b. refl)))
+      (none_labelled [] (the_code p) (at + word_count main_label)
+      (code_pass no_label p fits [] (λ n k b. refl) (λ n q b. refl) (λ n a c b. refl) (λ q v b. refl) (λ b. refl) (λ b. refl)))
 
   code_none : (at : ℕ) → no_run (placed_from at (the_code p)) ≡ None
   code_none at =
       subst (λ code. no_run (placed_from at code) ≡ None) (append-nil (the_code p))
-          (none_begun [] (the_code p) [] at (code_pass no_function p fits [] (λ n k b. refl) (λ n q b. refl) (λ n a c b. refl) (λ q v b. refl) (λ b. refl) (λ b. refl)) (λ later. refl))
+      (none_begun [] (the_code p) [] at (code_pass no_function p fits [] (λ n k b. refl) (λ n q b. refl) (λ n a c b. refl) (λ q v b. refl) (λ b. refl) (λ b. refl)) (λ later. refl))
 
   function_none : (at : ℕ) → no_run (placed_from at (the_function p)) ≡ None
   function_none at = cond-true _ _ _ (one_block (at + word_count main_function)) ∙ code_none ((at + word_count main_function) + word_count main_label)

@@ -1,11 +1,10 @@
 -- What a program's module uses is defined before it.
-use Rattle.std.proofs.Common.{◌≡◌, ℕ, zero, suc, ◌+◌, ◌<◌, ◌≤◌, Bool, true, false, ◌&&◌, ◌||◌, eqb, IsTrue, List, [], ◌∷◌, ◌++◌, length, map, refl, ap, sym, subst, ◌∙◌, inl, inr, arith}
+use Rattle.std.proofs.Common.{◌≡◌, ℕ, zero, suc, ◌+◌, Bool, true, ◌&&◌, eqb, [], ◌∷◌, length, refl, inl, inr, arith}
 use Rattle.std.specs.Prelude.{replicate}
-use Rattle.std.specs.List.{list_all, range_with_len}
+use Rattle.std.specs.List.{list_all}
 use Rattle.std.proofs.lemmas.Bool.{and_from, or_left, or_right, eq-eqb}
 use Rattle.gsl_words.specs.declared.module.Instr.{Instr}
-use Rattle.gsl_words.specs.declared.op.TheConstants as op
-use Rattle.gsl_valid.specs.Search.{Test, passed, Passes}
+use Rattle.gsl_valid.specs.Search.{Test, Passes}
 use Rattle.gsl_valid.specs.Ids.{defines, defined}
 use Rattle.gsl_valid.specs.DefinedBeforeUse.{uses_defined}
 use Rattle.gsl_valid.proofs.Searching.{passes_range}
@@ -13,10 +12,10 @@ use Rattle.gsl_valid.proofs.Lookups.{has_defined, has_behind, defined_behind}
 use Rattle.gsl_cmd.specs.declared.program.Program.{Program}
 use Rattle.gsl_cmd.specs.declared.lowering.id.TheConstants as id
 use Rattle.gsl_cmd.specs.Form.{IsProgram}
-use Rattle.gsl_cmd.specs.Lowering.{Code, instr, code_of, constants_of, constant_code, constant_id, first_id, module_of, pointer, type_code}
+use Rattle.gsl_cmd.specs.Lowering.{Code, code_of, constants_of, constant_code, constant_id, first_id, module_of, pointer}
 use Rattle.gsl_cmd.proofs.Known.{among, program_known, member_known}
 use Rattle.gsl_cmd.proofs.Walks.{Walk, load, add, statements_pass}
-use Rattle.gsl_cmd.proofs.Parts.{constant_at, before_names, before_decorations, before_types, before_constants, before_variable, before_function, before_code, ending, passes_parts, in_types, in_variable, in_function}
+use Rattle.gsl_cmd.proofs.Parts.{constant_at, before_names, before_decorations, before_constants, before_variable, before_code, ending, passes_parts, in_types, in_variable, in_function}
 use Rattle.gsl_cmd.proofs.ValidIds.{bound_of}
 use Rattle.gsl_cmd.proofs.Facts.{has_constant}
 use Rattle.gsl_cmd.proofs.Quiet.{names_pass, decorations_pass}
@@ -92,18 +91,17 @@ module _ (p : Program) where
   pub uses_kept : IsProgram p → Passes uses [] (code_of p)
   uses_kept fits =
       passes_parts p uses (refl, (refl, (and_from _ _ main_defined refl, (and_from _ _ main_defined refl, tt))))
-          (names_pass uses p.members before_names (λ b. and_from _ _ block_defined refl) (λ k b. and_from _ _ block_defined refl))
-          (decorations_pass uses (length p.members) (before_decorations p) (λ b. and_from _ _ block_defined refl)
-              (λ k within b. and_from _ _ block_defined refl) (λ b. and_from _ _ buffer_defined refl) (λ b. and_from _ _ buffer_defined refl))
-          (refl, (refl, (refl, (and_from _ _ (all_same _ 5 (length p.members) refl) refl, (refl, (refl, tt))))))
-          (passes_range uses (λ k before. defined before 5 ≡ true) (constant_at (constants_of p)) 0 (length (constants_of p))
-              (λ k before low high now. (and_from _ _ (and_from _ _ now refl) refl, or_right (eqb (10 + k) 5) _ now)) (before_constants p) refl).0
-          (and_from _ _ (and_from _ _ (kept_constants 7 refl) refl) refl, tt)
-          (
-            and_from _ _ (and_from _ _ (kept_constants 2 refl) (and_from _ _ (kept_constants 3 refl) refl)) refl,
-            (
-              refl,
-              statements_pass (constants_of p) (length p.members) (bound_of p) (λ i. Unit {0}) uses uses_walk (first_id (constants_of p)) p.statements ending
-                  (before_code p) (program_known p fits) (omega arith) (λ i has. tt) (λ id here. here) (λ end behind e now. (refl, (refl, tt))),
-            ),
-          )
+      (names_pass uses p.members before_names (λ b. and_from _ _ block_defined refl) (λ k b. and_from _ _ block_defined refl))
+      (decorations_pass uses (length p.members) (before_decorations p) (λ b. and_from _ _ block_defined refl)
+      (λ k within b. and_from _ _ block_defined refl) (λ b. and_from _ _ buffer_defined refl) (λ b. and_from _ _ buffer_defined refl))
+      (refl, (refl, (refl, (and_from _ _ (all_same _ 5 (length p.members) refl) refl, (refl, (refl, tt))))))
+      (passes_range uses (λ k before. defined before 5 ≡ true) (constant_at (constants_of p)) 0 (length (constants_of p))
+      (λ k before low high now. (and_from _ _ (and_from _ _ now refl) refl, or_right (eqb (10 + k) 5) _ now)) (before_constants p) refl).0
+      (and_from _ _ (and_from _ _ (kept_constants 7 refl) refl) refl, tt) (
+        and_from _ _ (and_from _ _ (kept_constants 2 refl) (and_from _ _ (kept_constants 3 refl) refl)) refl,
+        (
+          refl,
+          statements_pass (constants_of p) (length p.members) (bound_of p) (λ i. Unit {0}) uses uses_walk (first_id (constants_of p)) p.statements ending
+              (before_code p) (program_known p fits) (omega arith) (λ i has. tt) (λ id here. here) (λ end behind e now. (refl, (refl, tt))),
+        ),
+      )

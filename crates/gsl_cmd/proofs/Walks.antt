@@ -1,6 +1,6 @@
 -- The code of statements passes a test where each of its four kinds of instruction does, by a judgement over what
 -- stands before it.
-use Rattle.std.proofs.Common.{◌≡◌, ℕ, zero, suc, ◌+◌, ◌<◌, ◌≤◌, Bool, true, IsTrue, List, [], ◌∷◌, length, refl, ap, sym, subst, ◌∙◌, ◌⊎◌, inl, inr, arith}
+use Rattle.std.proofs.Common.{◌≡◌, ℕ, ◌+◌, ◌<◌, ◌≤◌, true, IsTrue, List, [], ◌∷◌, length, refl, subst, inl, inr, arith}
 use Rattle.std.specs.List.{AllByRecursion}
 use Rattle.gsl_words.specs.declared.module.Instr.{Instr}
 use Rattle.gsl_words.specs.declared.op.TheConstants as op
@@ -10,7 +10,7 @@ use Rattle.gsl_cmd.specs.declared.program.Term.{Term}
 use Rattle.gsl_cmd.specs.declared.program.Term.TheVariants.{Member, Literal}
 use Rattle.gsl_cmd.specs.declared.program.Statement.{Statement}
 use Rattle.gsl_cmd.specs.declared.lowering.id.TheConstants as id
-use Rattle.gsl_cmd.specs.Lowering.{Code, instr, constant_id, pointer, term_code, term_ids, term_value, more_code, more_ids, more_value, sum_code, sum_ids, sum_value, statement_code, statement_ids, statements_code, statements_ids}
+use Rattle.gsl_cmd.specs.Lowering.{Code, instr, constant_id, pointer, term_code, term_ids, term_value, more_code, more_ids, more_value, sum_code, sum_ids, sum_value, statement_ids, statements_code, statements_ids}
 use Rattle.gsl_cmd.proofs.Known.{among, Known, KnownStatement}
 
 abbrev pub load : ℕ → ℕ → Instr
@@ -68,7 +68,7 @@ module _ (constants : List ℕ) (members limit : ℕ) (part : Instr → Type 0) 
   term_passes : (next : ℕ) (term : Term) (follows before : Code) → Known members constants term → next + term_ids constants term ≤ limit →
       Each (term_code constants next term follows) → w.ready next before →
       ((behind : Code) → w.ready (next + term_ids constants term) behind → w.value (term_value constants next term) behind →
-          ((v : ℕ) → w.value v before → w.value v behind) → Passes test behind follows) →
+      ((v : ℕ) → w.value v before → w.value v behind) → Passes test behind follows) →
       Passes test before (term_code constants next term follows)
   term_passes next (Member k) follows before known room each now later =
       let chained = pointer constants next k ∷ before in
@@ -107,8 +107,8 @@ module _ (constants : List ℕ) (members limit : ℕ) (part : Instr → Type 0) 
       let rest = more_code constants (next + term_ids constants term) (term_value constants next term) terms follows in
       term_passes next term rest before known.0 (omega arith) each now (λ behind there taken keep.
       more_passes (next + term_ids constants term) (term_value constants next term) terms follows behind known.1 (omega arith)
-          (λ i has. each i (has_term constants next term rest i has)) there taken
-          (λ end last e ends holds. later end last (omega arith) ends holds))
+      (λ i has. each i (has_term constants next term rest i has)) there taken
+      (λ end last e ends holds. later end last (omega arith) ends holds))
 
   pub statements_pass : (next : ℕ) (statements : List Statement) (follows before : Code) → AllByRecursion (KnownStatement members constants) statements →
       next + statements_ids constants statements ≤ limit → Each (statements_code constants next statements follows) → w.ready next before →
@@ -125,7 +125,7 @@ module _ (constants : List ℕ) (members limit : ℕ) (part : Instr → Type 0) 
       let chained = pointer constants target s.target ∷ behind in
       let one = w.chain target s.target behind known.0.target (omega arith) (each (pointer constants target s.target) (has_sum constants next s.terms ending _ (inl refl))) here in
       let two = w.store_passes (target + 1) target stored chained (each (store target stored) (has_sum constants next s.terms ending _ (inr (inl refl)))) one.1 one.2
-              (w.chain_keeps target s.target stored behind holds) in
+      (w.chain_keeps target s.target stored behind holds) in
       let next_is : target + 1 ≡ next + statement_ids constants s = omega arith in
       let after = store target stored ∷ chained in (
         one.0,
@@ -157,7 +157,7 @@ module _ (constants : List ℕ) (P : Code → Type 0) where
   behind_sum next [] follows last = last
   behind_sum next (term ∷ terms) follows last =
       behind_term next term (more_code constants (next + term_ids constants term) (term_value constants next term) terms follows)
-          (behind_more (next + term_ids constants term) (term_value constants next term) terms follows last)
+      (behind_more (next + term_ids constants term) (term_value constants next term) terms follows last)
 
   pub behind_statements : (next : ℕ) (statements : List Statement) (follows : Code) → Behind follows → Behind (statements_code constants next statements follows)
   behind_statements next [] follows last = last
@@ -166,4 +166,4 @@ module _ (constants : List ℕ) (P : Code → Type 0) where
       let target = next + sum_ids constants s.terms in
       let stored = sum_value constants next s.terms in
       behind_sum next s.terms (pointer constants target s.target ∷ store target stored ∷ rest)
-          (λ before. behind_statements (next + statement_ids constants s) statements follows last (store target stored ∷ pointer constants target s.target ∷ before))
+      (λ before. behind_statements (next + statement_ids constants s) statements follows last (store target stored ∷ pointer constants target s.target ∷ before))

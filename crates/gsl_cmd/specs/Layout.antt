@@ -6,9 +6,11 @@ use Rattle.gsl_cmd.specs.declared.program.Program.{Program}
 pub data MemberType : Type 0 where
   Int : MemberType
 
+-- the base alignment of a type
 abbrev pub alignment : MemberType → ℕ
 alignment Int = 4
 
+-- the bytes that a value of it takes
 abbrev pub size : MemberType → ℕ
 size Int = 4
 
@@ -21,6 +23,7 @@ abbrev pub offsets_from : ℕ → List MemberType → List ℕ
 offsets_from end [] = []
 offsets_from end (type ∷ types) = first_multiple (alignment type) end ∷ offsets_from (first_multiple (alignment type) end + size type) types
 
+-- the offsets of a block's members
 abbrev pub offsets : List MemberType → List ℕ
 offsets types = offsets_from 0 types
 

@@ -1,5 +1,5 @@
 -- Where a module puts what a program declares: its stage, its buffer with the members' offsets, and its names.
-use Rattle.std.specs.Prelude.{◌≡◌, ℕ, ◌+◌, Bool, true, false, List, [], ◌∷◌, length, map, filter, replicate, codes, Option, Some}
+use Rattle.std.specs.Prelude.{◌≡◌, ℕ, ◌+◌, Bool, true, false, List, [], ◌∷◌, length, map, filter, replicate, codes, Some}
 use Rattle.gsl_words.specs.declared.module.Module.{Module}
 use Rattle.gsl_words.specs.declared.enumerant.execution_model.TheConstants as execution_model
 use Rattle.gsl_words.specs.declared.enumerant.execution_mode.TheConstants as execution_mode
@@ -7,7 +7,7 @@ use Rattle.gsl_words.specs.declared.enumerant.storage_class.TheConstants as stor
 use Rattle.gsl_words.specs.declared.enumerant.decoration.TheConstants as decoration
 use Rattle.gsl_words.specs.Strings.{string_words}
 use Rattle.gsl_valid.specs.Instruction.{Instruction, EntryPoint, ExecutionMode, Name, MemberName, MemberDecorate, TypeInt, TypeStruct, TypePointer, Variable, read}
-use Rattle.gsl_valid.specs.Search.{Code}
+use Rattle.gsl_valid.specs.Placed.{Code}
 use Rattle.gsl_valid.specs.Types.{defined_as}
 use Rattle.gsl_valid.specs.Decorations.{On, literals_on, number_on}
 use Rattle.gsl_cmd.specs.declared.program.Program.{Program}
@@ -18,23 +18,28 @@ use Rattle.gsl_cmd.specs.Layout.{offsets, member_types}
 abbrev pub those : (Instruction → Bool) → Code → List Instruction
 those of_class code = filter of_class (map read code)
 
+-- entry points
 abbrev pub is_entry : Instruction → Bool
 is_entry (EntryPoint model function name interface) = true
 is_entry _ = false
 
+-- modes of entry points
 abbrev pub is_mode : Instruction → Bool
 is_mode (ExecutionMode function mode parts) = true
 is_mode _ = false
 
+-- variables
 abbrev pub is_variable : Instruction → Bool
 is_variable (Variable type r class initialiser) = true
 is_variable _ = false
 
+-- names
 abbrev pub is_name : Instruction → Bool
 is_name (Name target text) = true
 is_name (MemberName target member text) = true
 is_name _ = false
 
+-- decorations of members
 abbrev pub is_of_member : Instruction → Bool
 is_of_member (MemberDecorate target member d literals) = true
 is_of_member _ = false

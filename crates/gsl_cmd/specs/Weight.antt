@@ -1,7 +1,7 @@
 -- The weight of a program, and how large its module is for it.
 use Rattle.std.specs.Prelude.{ℕ, ◌+◌, ◌-◌, ◌*◌, ◌≤◌, List, [], ◌∷◌, length}
 use Rattle.gsl_words.specs.declared.module.Module.{Module}
-use Rattle.gsl_valid.specs.Search.{count_of_words}
+use Rattle.gsl_valid.specs.Placed.{count_of_words}
 use Rattle.gsl_cmd.specs.declared.program.Term.{Term}
 use Rattle.gsl_cmd.specs.declared.program.Statement.{Statement}
 use Rattle.gsl_cmd.specs.declared.program.Program.{Program}
@@ -14,6 +14,7 @@ sum_weight terms = length terms + (length terms - 1)
 abbrev pub statement_weight : Statement → ℕ
 statement_weight s = 3 + sum_weight s.terms
 
+-- the weight of statements together
 abbrev pub statements_weight : List Statement → ℕ
 statements_weight [] = 0
 statements_weight (s ∷ statements) = statement_weight s + statements_weight statements

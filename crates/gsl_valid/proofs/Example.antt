@@ -1,5 +1,5 @@
 -- A small valid module, and modules that each break one rule.
-use Rattle.std.proofs.Common.{◌≡◌, ℕ, List, [], ◌∷◌, ◌++◌, Option, Some, None, refl}
+use Rattle.std.proofs.Common.{◌≡◌, ℕ, List, [], ◌∷◌, ◌++◌, Some, None, refl}
 use Rattle.std.specs.Prelude.{codes, replicate}
 use Rattle.gsl_words.specs.declared.module.Instr.{Instr}
 use Rattle.gsl_words.specs.declared.module.Module.{Module}
@@ -8,7 +8,7 @@ use Rattle.gsl_words.specs.declared.op.TheConstants as op
 use Rattle.gsl_words.specs.declared.enumerant.decoration.TheConstants as decoration
 use Rattle.gsl_words.specs.declared.enumerant.storage_class.TheConstants as storage_class
 use Rattle.gsl_words.specs.Strings.{string_words}
-use Rattle.gsl_valid.specs.Search.{Code}
+use Rattle.gsl_valid.specs.Placed.{Code}
 use Rattle.gsl_valid.specs.Valid.{broken}
 
 abbrev i : ℕ → List ℕ → Instr

@@ -1,10 +1,10 @@
 -- Where ids are defined once, what an instruction of the code defines is found by its id.
-use Rattle.std.proofs.Common.{◌≡◌, ℕ, ◌+◌, Bool, true, false, cond, ◌&&◌, ◌||◌, not, eqb, IsTrue, List, [], ◌∷◌, ◌++◌, Option, Some, None, refl, ap, sym, subst, ◌∙◌, ◌⊎◌, inl, inr}
-use Rattle.std.specs.List.{list_any}
+use Rattle.std.proofs.Common.{◌≡◌, ℕ, true, false, not, [], ◌∷◌, ◌++◌, Some, refl, ap, sym, ◌∙◌, ◌⊎◌, inl, inr}
 use Rattle.std.proofs.lemmas.Bool.{cond-true, cond-false, and_parts, or_parts, or_left, or_right, not-true, eq-eqb}
 use Rattle.gsl_words.specs.declared.module.Instr.{Instr}
-use Rattle.gsl_valid.specs.Instruction.{Instruction, read}
-use Rattle.gsl_valid.specs.Search.{Code, passed, Passes}
+use Rattle.gsl_valid.specs.Instruction.{read}
+use Rattle.gsl_valid.specs.Placed.{Code}
+use Rattle.gsl_valid.specs.Search.{passed, Passes}
 use Rattle.gsl_valid.specs.Ids.{result, is_id, defines, defined, definition}
 use Rattle.gsl_valid.specs.IdsDefinedOnce.{defines_once, is_new}
 

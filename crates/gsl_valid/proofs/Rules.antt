@@ -1,5 +1,5 @@
 -- The least rule that is broken, and that none is.
-use Rattle.std.proofs.Common.{◌≡◌, ℕ, List, [], ◌∷◌, Option, Some, None, refl, ap, sym, ◌∙◌, ◌⊎◌, inl, inr}
+use Rattle.std.proofs.Common.{◌≡◌, ℕ, List, [], ◌∷◌, Option, Some, None, refl, ap, ◌∙◌, ◌⊎◌, inl, inr}
 use Rattle.std.specs.Prelude.{◌↔◌}
 use Rattle.std.specs.List.{AllByRecursion}
 use Rattle.gsl_words.specs.declared.module.Module.{Module}

@@ -1,13 +1,14 @@
 -- The search finds nothing exactly where each instruction passes, and goes over code part by part.
-use Rattle.std.proofs.Common.{◌≡◌, ℕ, ◌+◌, Bool, true, false, cond, IsTrue, List, [], ◌∷◌, ◌++◌, Option, Some, None, refl, ap, sym, ◌∙◌, ◌⊎◌, inl, inr}
+use Rattle.std.proofs.Common.{◌≡◌, ℕ, ◌+◌, Bool, true, false, cond, IsTrue, [], ◌∷◌, ◌++◌, Option, Some, None, refl, ap, ◌∙◌}
 use Rattle.std.specs.List.{range_with_len}
 use Rattle.std.specs.Prelude.{map, zero, suc, ◌≤◌, ◌<◌}
 use Rattle.std.proofs.Common.{subst, arith}
-use Rattle.std.proofs.lemmas.Bool.{cond-true, cond-false}
+use Rattle.std.proofs.lemmas.Bool.{cond-true}
 use Rattle.gsl_words.specs.declared.module.Instr.{Instr}
 use Rattle.gsl_words.specs.declared.module.Module.{Module}
 use Rattle.gsl_words.specs.Instructions.{word_count}
-use Rattle.gsl_valid.specs.Search.{Code, Test, placed_from, words_from, header_size, broken_from, first_broken, passed, ◌otherwise◌, Passes}
+use Rattle.gsl_valid.specs.Placed.{Code, placed_from, words_from, header_size}
+use Rattle.gsl_valid.specs.Search.{Test, broken_from, first_broken, passed, ◌otherwise◌, Passes}
 
 pub passed_append : (before a b : Code) → passed before (a ++ b) ≡ passed (passed before a) b
 passed_append before [] b = refl

@@ -1,15 +1,16 @@
 -- The decorations of a module, found by what they stand on (SPIR-V 1.0, 3.20).
-use Rattle.std.specs.Prelude.{ℕ, Bool, true, false, ◌==◌, ◌&&◌, List, [], ◌∷◌, Option, Some, None, is_some, if◌then◌else◌}
+use Rattle.std.specs.Prelude.{ℕ, Bool, false, ◌==◌, ◌&&◌, List, [], ◌∷◌, Option, Some, None, is_some, if◌then◌else◌}
 use Rattle.std.specs.Option.{option_map_or}
 use Rattle.gsl_words.specs.declared.module.Module.{Module}
 use Rattle.gsl_valid.specs.Instruction.{Instruction, Decorate, MemberDecorate, read}
-use Rattle.gsl_valid.specs.Search.{Code}
+use Rattle.gsl_valid.specs.Placed.{Code}
 
 -- What a decoration stands on.
 pub data Place : Type 0 where
   On : (target : ℕ) → Place
   OnMember : (target member : ℕ) → Place
 
+-- whether two places are one
 abbrev pub same_place : Place → Place → Bool
 same_place (On t) (On u) = t == u
 same_place (On t) (OnMember u k) = false
@@ -32,6 +33,7 @@ decoration_of _ = None
 abbrev pub stands_on : Place → ℕ → Decoration → Bool
 stands_on place kind d = d.kind == kind && same_place d.place place
 
+-- the literals of a decoration that is the one looked for, or else those found later
 abbrev pub literals_if : Bool → Option Decoration → Option (List ℕ) → Option (List ℕ)
 literals_if found None later = later
 literals_if found (Some d) later = if found then Some d.literals else later
@@ -48,6 +50,7 @@ abbrev pub number_in : Option (List ℕ) → Option ℕ
 number_in (Some (n ∷ literals)) = Some n
 number_in _ = None
 
+-- whether both are numbers, and equal
 abbrev pub same_number : Option ℕ → Option ℕ → Bool
 same_number (Some a) (Some b) = a == b
 same_number _ _ = false

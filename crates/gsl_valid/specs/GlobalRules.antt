@@ -5,7 +5,8 @@ use Rattle.gsl_words.specs.declared.module.Instr.{Instr}
 use Rattle.gsl_words.specs.declared.module.Module.{Module}
 use Rattle.gsl_words.specs.declared.enumerant.storage_class.TheConstants as storage_class
 use Rattle.gsl_valid.specs.Instruction.{Instruction, Variable, read}
-use Rattle.gsl_valid.specs.Search.{Code, first_broken}
+use Rattle.gsl_valid.specs.Placed.{Code}
+use Rattle.gsl_valid.specs.Search.{first_broken}
 use Rattle.gsl_valid.specs.Types.{Target, target_of, defined_as, is_int, is_struct, is_value_type, initialises, function_begins}
 
 -- whether a function has begun
@@ -24,17 +25,21 @@ abbrev pub begins_with : Module → ℕ → ℕ → List ℕ → Bool
 begins_with m class type initialiser =
     if class == storage_class.PRIVATE || class == storage_class.OUTPUT then initialises m type initialiser else length initialiser == 0
 
+-- whether a global variable fits what its type points to
 abbrev pub is_global_of : Module → ℕ → List ℕ → Option Target → Bool
 is_global_of m class initialiser None = false
 is_global_of m class initialiser (Some target) =
     target.class == class && holds m class target.pointee && begins_with m class target.pointee initialiser
 
+-- whether an instruction, if it is a global variable, may be one
 abbrev pub is_global : Module → Instruction → Bool
 is_global m (Variable type r class initialiser) = is_global_of m class initialiser (target_of (defined_as m type))
 is_global m _ = true
 
+-- whether V6 is kept by an instruction
 abbrev pub global_kept : Module → Code → Instr → Bool
 global_kept m before i = in_functions before || is_global m (read i)
 
+-- the first instruction that breaks V6
 abbrev pub globals : Module → Option ℕ
 globals m = first_broken (global_kept m) m

@@ -1,9 +1,9 @@
 -- The ids that instructions define and use (SPIR-V 1.0, 2.16).
-use Rattle.std.specs.Prelude.{ℕ, Bool, true, false, ◌==◌, List, [], ◌∷◌, Option, Some, None, if◌then◌else◌}
+use Rattle.std.specs.Prelude.{ℕ, Bool, false, ◌==◌, List, [], ◌∷◌, Option, Some, None, if◌then◌else◌}
 use Rattle.std.specs.List.{list_any}
 use Rattle.gsl_words.specs.declared.module.Instr.{Instr}
 use Rattle.gsl_valid.specs.Instruction.{Instruction, EntryPoint, ExecutionMode, Name, MemberName, Decorate, MemberDecorate, TypeVoid, TypeInt, TypeStruct, TypePointer, TypeFunction, Constant, Variable, Function, Label, AccessChain, Load, IAdd, Store, Unknown, read}
-use Rattle.gsl_valid.specs.Search.{Code}
+use Rattle.gsl_valid.specs.Placed.{Code}
 
 -- the id that an instruction defines
 abbrev pub result : Instruction → Option ℕ
@@ -45,6 +45,7 @@ mentions (Decorate target decoration literals) = target ∷ []
 mentions (MemberDecorate target member decoration literals) = target ∷ []
 mentions _ = []
 
+-- whether there is an id, and it is this
 abbrev pub is_id : ℕ → Option ℕ → Bool
 is_id id None = false
 is_id id (Some r) = r == id

@@ -1,5 +1,5 @@
 -- An instruction by the roles of its operands (SPIR-V 1.0, 3.32).
-use Rattle.std.specs.Prelude.{ℕ, ◌+◌, ◌^◌, ◌==◌, nat_lt, List, [], ◌∷◌, drop, find, Option, Some, None, slice_index, if◌then◌else◌}
+use Rattle.std.specs.Prelude.{ℕ, ◌^◌, ◌==◌, nat_lt, List, [], ◌∷◌, drop, find, Option, Some, None, slice_index, if◌then◌else◌}
 use Rattle.gsl_words.specs.declared.module.Instr.{Instr}
 use Rattle.gsl_words.specs.declared.op.TheConstants as op
 
@@ -50,9 +50,11 @@ pub record Reader : Type 0 where
   pub op : ℕ
   pub read : List ℕ → Instruction
 
+-- the operands of an opcode are read so
 abbrev pub reads : ℕ → (List ℕ → Instruction) → Reader
 reads op read = record { op = op; read = read }
 
+-- the opcodes that the rules know
 abbrev pub readers : List Reader
 readers =
     reads op.CAPABILITY (λ a. Capability (arg a 0))
@@ -79,6 +81,7 @@ readers =
     ∷ reads op.RETURN (λ a. Return)
     ∷ reads op.FUNCTION_END (λ a. FunctionEnd) ∷ []
 
+-- what a reader makes of operands, if there is one
 abbrev pub read_by : Option Reader → List ℕ → Instruction
 read_by None args = Unknown
 read_by (Some reader) args = reader.read args

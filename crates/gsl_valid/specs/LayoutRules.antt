@@ -6,9 +6,10 @@ use Rattle.gsl_words.specs.declared.module.Module.{Module}
 use Rattle.gsl_words.specs.declared.enumerant.storage_class.TheConstants as storage_class
 use Rattle.gsl_words.specs.declared.enumerant.decoration.TheConstants as decoration
 use Rattle.gsl_valid.specs.Instruction.{Instruction, TypeInt, TypeStruct, Variable, read}
-use Rattle.gsl_valid.specs.Search.{Code, first_broken, whole}
+use Rattle.gsl_valid.specs.Placed.{Code}
+use Rattle.gsl_valid.specs.Search.{first_broken, whole}
 use Rattle.gsl_valid.specs.Ids.{defines}
-use Rattle.gsl_valid.specs.Types.{defined_as, is_value_type, members_of, variable_of}
+use Rattle.gsl_valid.specs.Types.{is_value_type, members_of}
 use Rattle.gsl_valid.specs.Decorations.{number_on_member}
 use Rattle.gsl_valid.specs.DecorationRules.{pointee}
 
@@ -24,9 +25,11 @@ is_block_of m part (Variable type r class initialiser) =
     (class == storage_class.UNIFORM || class == storage_class.PUSH_CONSTANT) && reaches (whole m) (pointee m type) part
 is_block_of m part _ = false
 
+-- whether a variable of a block reaches a type
 abbrev pub is_in_block : Module → ℕ → Bool
 is_in_block m part = list_any (λ i. is_block_of m part (read i)) m.instrs
 
+-- the end of what stands at an offset
 abbrev pub end_after : Option ℕ → ℕ → ℕ
 end_after None need = 0
 end_after (Some offset) need = offset + need
@@ -37,6 +40,7 @@ end_of_last m need_of struct member end [] = end
 end_of_last m need_of struct member end (type ∷ types) =
     end_of_last m need_of struct (member + 1) (end_after (number_on_member m decoration.OFFSET struct member) (need_of type)) types
 
+-- what a type needs, by the needs of its parts
 abbrev pub need_as : Module → (ℕ → ℕ) → Instruction → ℕ
 need_as m need_of (TypeInt r width signedness) = 4
 need_as m need_of (TypeStruct r members) = end_of_last m need_of r 0 0 members
@@ -60,12 +64,15 @@ is_laid m before struct member end (type ∷ types) =
     is_value_type m type && is_at offset end (need m before type)
     && is_laid m before struct (member + 1) (end_after offset (need m before type)) types
 
+-- whether a struct that a block reaches is laid
 abbrev pub struct_laid : Module → Code → Instruction → Bool
 struct_laid m before (TypeStruct r members) = not (is_in_block m r) || is_laid m before r 0 0 members
 struct_laid m before _ = true
 
+-- whether V8 is kept by an instruction
 abbrev pub laid : Module → Code → Instr → Bool
 laid m before i = struct_laid m before (read i)
 
+-- the first instruction that breaks V8
 abbrev pub layouts : Module → Option ℕ
 layouts m = first_broken (laid m) m

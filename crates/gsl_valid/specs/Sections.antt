@@ -1,5 +1,5 @@
 -- V1: the header's bound, the order of the sections (SPIR-V 1.0, 2.4), and the numbers that operands may be.
-use Rattle.std.specs.Prelude.{ℕ, ◌+◌, Bool, true, false, ◌==◌, ◌&&◌, ◌||◌, not, nat_le, List, [], ◌∷◌, length, max, Option, if◌then◌else◌}
+use Rattle.std.specs.Prelude.{ℕ, ◌+◌, Bool, true, false, ◌==◌, ◌&&◌, ◌||◌, not, nat_le, List, [], ◌∷◌, length, Option, if◌then◌else◌}
 use Rattle.std.specs.List.{list_any, list_all}
 use Rattle.gsl_words.specs.declared.module.Instr.{Instr}
 use Rattle.gsl_words.specs.declared.module.Module.{Module}
@@ -11,7 +11,8 @@ use Rattle.gsl_words.specs.declared.enumerant.storage_class.TheConstants as stor
 use Rattle.gsl_words.specs.declared.enumerant.decoration.TheConstants as decoration
 use Rattle.gsl_words.specs.declared.enumerant.built_in.TheConstants as built_in
 use Rattle.gsl_valid.specs.Instruction.{Instruction, Capability, MemoryModel, EntryPoint, ExecutionMode, Name, MemberName, Decorate, MemberDecorate, TypeVoid, TypeInt, TypeStruct, TypePointer, TypeFunction, Constant, Variable, Function, Unknown, read}
-use Rattle.gsl_valid.specs.Search.{Code, first_broken, whole, count_of_words, bound_place, unless, ◌otherwise◌}
+use Rattle.gsl_valid.specs.Placed.{Code, count_of_words, bound_place}
+use Rattle.gsl_valid.specs.Search.{first_broken, whole, unless, ◌otherwise◌}
 
 -- the most that a bound can be
 abbrev pub most_bound : ℕ
@@ -79,14 +80,17 @@ may_come reached section =
     then nat_le modes section && nat_le reached section
     else (section == reached + 1 || section == memory_models && reached == capabilities)
 
+-- whether a number is a storage class
 abbrev pub is_class : ℕ → Bool
 is_class class =
     list_any (λ c. c == class)
     (storage_class.INPUT ∷ storage_class.UNIFORM ∷ storage_class.OUTPUT ∷ storage_class.PRIVATE ∷ storage_class.FUNCTION ∷ storage_class.PUSH_CONSTANT ∷ [])
 
+-- whether a number is a stage
 abbrev pub is_model : ℕ → Bool
 is_model model = list_any (λ other. other == model) (execution_model.VERTEX ∷ execution_model.FRAGMENT ∷ execution_model.GL_COMPUTE ∷ [])
 
+-- whether a number is that of a built-in variable
 abbrev pub is_built_in : ℕ → Bool
 is_built_in n =
     list_any (λ b. b == n)
@@ -96,6 +100,7 @@ is_built_in n =
 abbrev pub is_mode : ℕ → List ℕ → Bool
 is_mode mode parts = mode == execution_mode.LOCAL_SIZE && length parts == 3 || mode == execution_mode.ORIGIN_UPPER_LEFT && length parts == 0
 
+-- whether the literals of a BuiltIn are numbers of built-in variables
 abbrev pub has_built_in : ℕ → List ℕ → Bool
 has_built_in d literals = not (d == decoration.BUILT_IN) || list_all is_built_in literals
 
@@ -114,6 +119,7 @@ has_numbers (Function type r control function_type) = control == 0
 has_numbers Unknown = false
 has_numbers _ = true
 
+-- whether an instruction stands in its section, with numbers that it may have
 abbrev pub in_section : Code → Instr → Bool
 in_section before i = may_come (reached before) (section_from (reached before) (read i)) && has_numbers (read i)
 
@@ -121,8 +127,10 @@ in_section before i = may_come (reached before) (section_from (reached before) (
 abbrev pub is_complete : Module → Bool
 is_complete m = nat_le entry_points (reached (whole m))
 
+-- whether the header's bound is one that it may be
 abbrev pub has_bound : Module → Bool
 has_bound m = nat_le 1 m.bound && nat_le m.bound most_bound
 
+-- the header, the first instruction or the end that breaks V1
 abbrev pub sections : Module → Option ℕ
 sections m = unless (has_bound m) bound_place otherwise first_broken in_section m otherwise unless (is_complete m) (count_of_words m)

@@ -1,10 +1,11 @@
 -- V12: the blocks of a function are one run.
-use Rattle.std.specs.Prelude.{ℕ, ◌+◌, Bool, true, false, ◌==◌, ◌||◌, not, List, [], ◌∷◌, Option, Some, None, if◌then◌else◌}
+use Rattle.std.specs.Prelude.{ℕ, ◌+◌, Bool, ◌==◌, ◌||◌, not, List, [], ◌∷◌, Option, Some, None, if◌then◌else◌}
 use Rattle.gsl_words.specs.declared.module.Module.{Module}
 use Rattle.gsl_valid.specs.Instruction.{Instruction, Label, FunctionEnd, read}
-use Rattle.gsl_valid.specs.Search.{Code, Placed, placed}
+use Rattle.gsl_valid.specs.Placed.{Placed, placed}
 use Rattle.gsl_valid.specs.Types.{function_begins}
 
+-- how many blocks come from an instruction on
 abbrev pub blocks_with : ℕ → Instruction → ℕ
 blocks_with later (Label r) = 1 + later
 blocks_with later FunctionEnd = 0
@@ -24,5 +25,6 @@ abbrev pub no_run : List Placed → Option ℕ
 no_run [] = None
 no_run (p ∷ code) = if not (function_begins (read p.instr)) || is_run code then no_run code else Some p.at
 
+-- the first Function that breaks V12
 abbrev pub structure : Module → Option ℕ
 structure m = no_run (placed m)

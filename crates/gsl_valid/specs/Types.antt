@@ -1,22 +1,24 @@
 -- What the types, constants and variables of a module are, found by their ids.
-use Rattle.std.specs.Prelude.{ℕ, ◌+◌, Bool, true, false, ◌==◌, ◌&&◌, not, List, [], ◌∷◌, Option, Some, None, max, fold, map, if◌then◌else◌}
-use Rattle.gsl_words.specs.declared.module.Instr.{Instr}
+use Rattle.std.specs.Prelude.{ℕ, ◌+◌, Bool, true, false, ◌==◌, List, [], ◌∷◌, Option, Some, None, max, fold, map, if◌then◌else◌}
 use Rattle.gsl_words.specs.declared.module.Module.{Module}
 use Rattle.gsl_words.specs.declared.enumerant.storage_class.TheConstants as storage_class
-use Rattle.gsl_valid.specs.Instruction.{Instruction, TypeVoid, TypeInt, TypeStruct, TypePointer, TypeFunction, Constant, Variable, Function, AccessChain, Load, IAdd, read}
-use Rattle.gsl_valid.specs.Search.{Code}
+use Rattle.gsl_valid.specs.Instruction.{Instruction, TypeVoid, TypeInt, TypeStruct, TypePointer, Constant, Variable, Function, AccessChain, Load, IAdd, read}
+use Rattle.gsl_valid.specs.Placed.{Code}
 use Rattle.gsl_valid.specs.Ids.{defines, definition}
 
 -- Kinds of types ----------------------------------------------------------------------------------------------
 
+-- Void
 abbrev pub void_type : Instruction → Bool
 void_type (TypeVoid r) = true
 void_type _ = false
 
+-- a type Int
 abbrev pub int_type : Instruction → Bool
 int_type (TypeInt r width signedness) = true
 int_type _ = false
 
+-- a struct
 abbrev pub struct_type : Instruction → Bool
 struct_type (TypeStruct r members) = true
 struct_type _ = false
@@ -42,15 +44,19 @@ module _ (m : Module) where
   abbrev pub defined_as : ℕ → Instruction
   defined_as id = definition m.instrs id
 
+  -- whether an id is that of Void
   abbrev pub is_void : ℕ → Bool
   is_void id = void_type (defined_as id)
 
+  -- whether it is that of an Int
   abbrev pub is_int : ℕ → Bool
   is_int id = int_type (defined_as id)
 
+  -- whether it is that of a struct
   abbrev pub is_struct : ℕ → Bool
   is_struct id = struct_type (defined_as id)
 
+  -- whether it is that of a type of values
   abbrev pub is_value_type : ℕ → Bool
   is_value_type id = value_type (defined_as id)
 
@@ -66,6 +72,7 @@ pub record Target : Type 0 where
   pub class : ℕ
   pub pointee : ℕ
 
+-- what a pointer type points to
 abbrev pub target_of : Instruction → Option Target
 target_of (TypePointer r class pointee) = Some (record { class = class; pointee = pointee })
 target_of _ = None
@@ -79,6 +86,7 @@ type_of (Load type r pointer) = Some type
 type_of (IAdd type r a b) = Some type
 type_of _ = None
 
+-- whether there is a type, and it is this
 abbrev pub is_type : ℕ → Option ℕ → Bool
 is_type type None = false
 is_type type (Some other) = other == type
@@ -102,12 +110,14 @@ abbrev pub variable_of : ℕ → Instruction → Bool
 variable_of class (Variable type r c initialiser) = c == class
 variable_of class _ = false
 
+-- whether an instruction begins a function
 abbrev pub function_begins : Instruction → Bool
 function_begins (Function type r control function_type) = true
 function_begins _ = false
 
 -- Heights --------------------------------------------------------------------------------------------------------
 
+-- the greatest of some heights
 abbrev pub highest : List ℕ → ℕ
 highest heights = fold max 0 heights
 

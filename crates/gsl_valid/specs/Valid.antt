@@ -27,6 +27,7 @@ pub record Rule : Type 0 where
   pub number : ℕ
   pub broken_at : Module → Option ℕ
 
+-- a rule by its number and its function
 abbrev pub rule : ℕ → (Module → Option ℕ) → Rule
 rule number broken_at = record { number = number; broken_at = broken_at }
 
@@ -37,6 +38,7 @@ rules =
     ∷ rule 7 decorations ∷ rule 8 layouts ∷ rule 9 entry ∷ rule 10 function_shape ∷ rule 11 calls ∷ rule 12 structure
     ∷ rule 13 locality ∷ rule 14 operand_types ∷ rule 15 memory ∷ rule 16 returns ∷ rule 17 extended ∷ rule 18 limits ∷ []
 
+-- what is broken by a rule, or else later
 abbrev pub broken_or : Option (ℕ × ℕ) → ℕ → Option ℕ → Option (ℕ × ℕ)
 broken_or later number None = later
 broken_or later number (Some place) = Some (number, place)
