@@ -10,7 +10,7 @@ use Rattle.gsl_cmd.specs.declared.lowering.id.TheConstants as id
 use Rattle.gsl_cmd.specs.Form.{IsProgram}
 use Rattle.gsl_cmd.specs.Lowering.{code_of, constant_code, constant_id, constants_of}
 use Rattle.gsl_cmd.proofs.Known.{among, place, place_within, value_at_place}
-use Rattle.gsl_cmd.proofs.Parts.{constant_at, in_types, in_constants, in_variable, in_function, has_range}
+use Rattle.gsl_cmd.proofs.Parts.{constant_at, in_types, in_constants, in_variable, in_main, has_range}
 use Rattle.gsl_cmd.proofs.ValidIds.{defined_by}
 
 pub record Facts (p : Program) : Type 0 where
@@ -39,7 +39,7 @@ facts p fits = record {
   block_pointer = defined_by p fits _ id.BLOCK_POINTER (in_types p _ (inr (inr (inr (inr (inl refl)))))) refl;
   member_pointer = defined_by p fits _ id.MEMBER_POINTER (in_types p _ (inr (inr (inr (inr (inr (inl refl))))))) refl;
   buffer = defined_by p fits _ id.BUFFER (in_variable p _ (inl refl)) refl;
-  main = defined_by p fits _ id.MAIN (in_function p _ (inl refl)) refl;
+  main = defined_by p fits _ id.MAIN (in_main p _ (inl refl)) refl;
   constant = λ v known.
       defined_by p fits _ (constant_id (constants_of p) v) (in_constants p _ (has_constant p v known)) refl
       ∙ ap (Constant id.INT (constant_id (constants_of p) v)) (value_at_place (constants_of p) v known);

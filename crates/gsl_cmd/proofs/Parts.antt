@@ -136,8 +136,8 @@ module _ (p : Program) where
   pub in_variable : (i : Instr) → Has variable_code i → Has (code_of p) i
   in_variable i has = behind_types i (has_right (constant_code (constants_of p)) from_variable i (has_left variable_code the_function i has))
 
-  pub in_function : (i : Instr) → Has the_function i → Has (code_of p) i
-  in_function i has = behind_types i (has_right (constant_code (constants_of p)) from_variable i (has_right variable_code the_function i has))
+  pub in_main : (i : Instr) → Has the_function i → Has (code_of p) i
+  in_main i has = behind_types i (has_right (constant_code (constants_of p)) from_variable i (has_right variable_code the_function i has))
 
 pub has_range : (f : ℕ → Instr) (first count k : ℕ) → first ≤ k → k < first + count → Has (map f (range_with_len first count)) (f k)
 has_range f first zero k low high = absurd (omega arith)
@@ -193,3 +193,9 @@ module _ (p : Program) (f : Instr → Bool) where
       ∙ or_from (list_any f members) (list_any f behind) (none_in_range f member_offset 0 (length p.members) (λ k low high. each k))
       (or_from (f (instr op.DECORATE (id.BUFFER ∷ decoration.DESCRIPTOR_SET ∷ 0 ∷ []))) (list_any f last) set
       (or_from (f (instr op.DECORATE (id.BUFFER ∷ decoration.BINDING ∷ 0 ∷ []))) false binding refl)))
+
+  -- no instruction before the variable passes
+  pub none_before_variable : list_any f (before_constants p) ≡ false → ((k : ℕ) → f (constant_at (constants_of p) k) ≡ false) → list_any f (before_variable p) ≡ false
+  none_before_variable first each =
+      none_passed f (before_constants p) (constant_code (constants_of p)) first
+      (none_in_range f (constant_at (constants_of p)) 0 (length (constants_of p)) (λ k low high. each k))

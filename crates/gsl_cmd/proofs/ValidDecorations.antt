@@ -18,7 +18,7 @@ use Rattle.gsl_cmd.specs.declared.program.Program.{Program}
 use Rattle.gsl_cmd.specs.declared.lowering.id.TheConstants as id
 use Rattle.gsl_cmd.specs.Form.{IsProgram}
 use Rattle.gsl_cmd.specs.Lowering.{Code, instr, code_of, constants_of, constant_code, module_of}
-use Rattle.gsl_cmd.proofs.Parts.{member_offset, constant_at, before_names, before_decorations, before_types, before_constants, before_variable, before_function, passes_parts, none_passed, none_in_range, none_before_decorations, none_before_types, none_in_decorations}
+use Rattle.gsl_cmd.proofs.Parts.{member_offset, constant_at, before_names, before_decorations, before_types, before_constants, before_variable, before_function, passes_parts, none_passed, none_in_range, none_before_decorations, none_before_variable, none_before_types, none_in_decorations}
 use Rattle.gsl_cmd.proofs.Facts.{Facts, facts}
 use Rattle.gsl_cmd.proofs.Quiet.{block_decoration, set_decoration, binding_decoration, names_pass, decorations_pass, constants_pass, function_pass}
 use Rattle.gsl_cmd.proofs.Decorated.{is_on, block_is_buffer, block_is_no_block, buffer_set, buffer_binding, member_is_at}
@@ -64,9 +64,7 @@ module _ (p : Program) (fits : IsProgram p) where
   first_bound : (set binding : Option ℕ) → list_any (λ i. is_bound_to (module_of p) set binding (read i)) (before_variable p) ≡ false
   first_bound set binding =
       let f : Instr → Bool = λ i. is_bound_to (module_of p) set binding (read i) in
-      none_passed f (before_constants p) (constant_code (constants_of p))
-      (none_before_types p f refl refl (λ k. refl) (none_in_decorations p f refl (λ k. refl) refl refl))
-      (none_in_range f (constant_at (constants_of p)) 0 (length (constants_of p)) (λ k low high. refl))
+      none_before_variable p f (none_before_types p f refl refl (λ k. refl) (none_in_decorations p f refl (λ k. refl) refl refl)) (λ k. refl)
 
   pub decorations_kept : Passes (decorated (module_of p)) [] (code_of p)
   decorations_kept =

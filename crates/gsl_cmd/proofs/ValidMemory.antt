@@ -21,7 +21,7 @@ use Rattle.gsl_cmd.specs.Form.{IsProgram}
 use Rattle.gsl_cmd.specs.Lowering.{code_of, constants_of, constant_id, first_id, module_of, pointer}
 use Rattle.gsl_cmd.proofs.Known.{among, member_known, program_known}
 use Rattle.gsl_cmd.proofs.Walks.{Walk, load, add, statements_pass}
-use Rattle.gsl_cmd.proofs.Parts.{before_names, before_decorations, before_constants, before_code, ending, in_function, passes_parts}
+use Rattle.gsl_cmd.proofs.Parts.{before_names, before_decorations, before_constants, before_code, ending, in_main, passes_parts}
 use Rattle.gsl_cmd.proofs.ValidIds.{bound_of, defined_by}
 use Rattle.gsl_cmd.proofs.Facts.{Facts, facts}
 use Rattle.gsl_cmd.proofs.Quiet.{the_code, names_pass, decorations_pass, constants_pass}
@@ -38,7 +38,7 @@ module _ (p : Program) (fits : IsProgram p) where
   Part i = Has (code_of p) i
 
   each_part : (i : Instr) → Has (the_code p) i → Part i
-  each_part i has = in_function p i (inr (inr has))
+  each_part i has = in_main p i (inr (inr has))
 
   abbrev IsInt : ℕ → Type 0
   IsInt v = has_type m id.INT v ≡ true

@@ -1,8 +1,11 @@
 -- The sections of a program's module stand in order, and its numbers are those that they may be.
-use Rattle.std.proofs.Common.{◌≡◌, ℕ, ◌≤◌, true, ◌&&◌, List, [], ◌∷◌, length, map, None, refl, ap, ◌∙◌, arith}
+use Rattle.std.proofs.Common.{◌≡◌, ℕ, Bool, false, ◌≤◌, true, ◌&&◌, List, [], ◌∷◌, length, map, None, refl, ap, ◌∙◌, arith}
 use Rattle.std.specs.Prelude.{nat_le, ◌==◌, if◌then◌else◌}
-use Rattle.std.specs.List.{range_with_len}
-use Rattle.std.proofs.lemmas.Bool.{and_from, le-leb}
+use Rattle.std.specs.List.{list_any, range_with_len}
+use Rattle.std.proofs.lemmas.Bool.{and_from, or_parts, le-leb}
+use Rattle.gsl_words.specs.declared.module.Instr.{Instr}
+use Rattle.gsl_valid.specs.Instruction.{Instruction, Function, FunctionEnd, read}
+use Rattle.gsl_valid.specs.Types.{function_begins, in_function, in_function_after}
 use Rattle.gsl_valid.specs.Placed.{count_of_words, bound_place}
 use Rattle.gsl_valid.specs.Search.{passed, unless, Passes, ◌otherwise◌, first_broken}
 use Rattle.gsl_valid.specs.Sections.{sections, in_section, reached, may_come, is_complete, most_bound, functions, globals, decorations, names, entry_points}
@@ -12,7 +15,7 @@ use Rattle.gsl_cmd.specs.Form.{IsProgram}
 use Rattle.gsl_cmd.specs.Lowering.{Code, code_of, constants_of, constant_code, first_id, module_of}
 use Rattle.gsl_cmd.proofs.Known.{program_known}
 use Rattle.gsl_cmd.proofs.Walks.{Walk, statements_pass}
-use Rattle.gsl_cmd.proofs.Parts.{member_name, member_offset, constant_at, before_names, before_decorations, before_types, before_constants, before_variable, before_function, before_code, ending, passes_parts}
+use Rattle.gsl_cmd.proofs.Parts.{member_name, member_offset, constant_at, before_names, before_decorations, before_types, before_constants, before_variable, before_function, before_code, ending, passes_parts, none_before_types, none_before_variable, none_in_decorations}
 use Rattle.gsl_cmd.proofs.ValidIds.{bound_of}
 use Rattle.gsl_cmd.proofs.Counts.{bound_below}
 use Rattle.gsl_cmd.proofs.Quiet.{behind_all, block_name, block_decoration, set_decoration, binding_decoration}
@@ -20,6 +23,17 @@ use Rattle.gsl_cmd.proofs.Quiet.{behind_all, block_name, block_decoration, set_d
 -- What is reached and what may come there.
 comes : (at next : ℕ) (section : ℕ) → at ≡ next → may_come next section ≡ true → (may_come at section && true) ≡ true
 comes at next section e may = and_from _ _ (ap (λ r. may_come r section) e ∙ may) refl
+
+outside_still : (d : Instruction) (inside : Bool) → function_begins d ≡ false → inside ≡ false → in_function_after inside d ≡ false
+outside_still (Function type r control function_type) inside begins outside = absurd (cc)
+outside_still FunctionEnd inside begins outside = refl
+outside_still d inside begins outside = outside
+
+-- where no function begins, code stands in none
+not_in_function : (code : Code) → list_any (λ i. function_begins (read i)) code ≡ false → in_function code ≡ false
+not_in_function [] none = refl
+not_in_function (i ∷ code) none =
+    let parts = or_parts (function_begins (read i)) _ none in outside_still (read i) (in_function code) parts.0 (not_in_function code parts.1)
 
 module _ (constants : List ℕ) (members bound : ℕ) where
   abbrev sections_walk : Walk constants members bound (λ i. Unit {0}) in_section
@@ -60,6 +74,13 @@ module _ (p : Program) where
   types_stand =
       ap reached (passed_append (block_decoration ∷ before_decorations p) (map member_offset (range_with_len 0 (length p.members))) (set_decoration ∷ binding_decoration ∷ []))
 
+  -- the variable stands in no function
+  outside_functions : in_function (before_variable p) ≡ false
+  outside_functions =
+      let f : Instr → Bool = λ i. function_begins (read i) in
+      not_in_function (before_variable p)
+      (none_before_variable p f (none_before_types p f refl refl (λ k. refl) (none_in_decorations p f refl (λ k. refl) refl refl)) (λ k. refl))
+
   pub sections_stand : IsProgram p → Passes in_section [] (code_of p)
   sections_stand fits =
       passes_parts p in_section (refl, (refl, (refl, (refl, tt)))) (refl, names_stand.0) (
@@ -69,9 +90,12 @@ module _ (p : Program) where
             (comes _ decorations decorations offsets_stand.1 refl, (refl, tt)),
       )
       (comes (reached (before_types p)) decorations globals types_stand refl, (refl, (refl, (refl, (refl, (refl, tt))))))
-      constants_stand.0
-      (ap (λ r. may_come r (if r == functions then functions else globals) && true) constants_stand.1, tt) (
-        comes (reached (before_function p)) globals functions (ap (λ r. if r == functions then functions else globals) constants_stand.1) refl,
+      constants_stand.0 (
+        ap (λ inside. may_come (reached (before_variable p)) (if inside then functions else globals) && true) outside_functions
+            ∙ comes (reached (before_variable p)) globals globals constants_stand.1 refl,
+        tt,
+      ) (
+        comes (reached (before_function p)) globals functions (ap (λ inside. if inside then functions else globals) outside_functions) refl,
         (
           refl,
           statements_pass (constants_of p) (length p.members) (bound_of p) (λ i. Unit {0}) in_section

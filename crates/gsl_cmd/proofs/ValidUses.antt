@@ -15,7 +15,7 @@ use Rattle.gsl_cmd.specs.Form.{IsProgram}
 use Rattle.gsl_cmd.specs.Lowering.{Code, code_of, constants_of, constant_code, constant_id, first_id, module_of, pointer}
 use Rattle.gsl_cmd.proofs.Known.{among, program_known, member_known}
 use Rattle.gsl_cmd.proofs.Walks.{Walk, load, add, statements_pass}
-use Rattle.gsl_cmd.proofs.Parts.{constant_at, before_names, before_decorations, before_constants, before_variable, before_code, ending, passes_parts, in_types, in_variable, in_function}
+use Rattle.gsl_cmd.proofs.Parts.{constant_at, before_names, before_decorations, before_constants, before_variable, before_code, ending, passes_parts, in_types, in_variable, in_main}
 use Rattle.gsl_cmd.proofs.ValidIds.{bound_of}
 use Rattle.gsl_cmd.proofs.Facts.{has_constant}
 use Rattle.gsl_cmd.proofs.Quiet.{names_pass, decorations_pass}
@@ -80,7 +80,7 @@ module _ (p : Program) where
 
   -- what may come later is defined
   main_defined : defined (code_of p) id.MAIN ≡ true
-  main_defined = has_defined (code_of p) _ id.MAIN (in_function p _ (inl refl)) refl
+  main_defined = has_defined (code_of p) _ id.MAIN (in_main p _ (inl refl)) refl
 
   block_defined : defined (code_of p) id.BLOCK ≡ true
   block_defined = has_defined (code_of p) _ id.BLOCK (in_types p _ (inr (inr (inr (inl refl))))) refl

@@ -95,6 +95,9 @@ names_after_decorations = refl
 no_entry_point : broken (module_with 14 (i op.CAPABILITY (1 ∷ []) ∷ i op.MEMORY_MODEL (0 ∷ 1 ∷ []) ∷ [])) ≡ Some (1, 10)
 no_entry_point = refl
 
+variable_behind_the_function : broken (module_with 15 (front ++ decorations ++ globals ++ main ++ i op.VARIABLE (7 ∷ 14 ∷ storage_class.UNIFORM ∷ []) ∷ [])) ≡ Some (1, 98)
+variable_behind_the_function = refl
+
 unknown_opcode : broken (module_with 14 (front ++ decorations ++ globals ++ begun 1 4 ++ i op.KILL [] ∷ ended)) ≡ Some (1, 79)
 unknown_opcode = refl
 
@@ -139,6 +142,12 @@ two_blocks = refl
 
 value_of_another_function : broken (module_with 16 (front ++ decorations ++ globals ++ main ++ begun 14 15 ++ store 12 ++ returned ++ ended)) ≡ Some (13, 105)
 value_of_another_function = refl
+
+variable_without_initialiser : broken (module_with 16 (front ++ decorations ++ globals ++ i op.TYPE_POINTER (14 ∷ storage_class.FUNCTION ∷ 5 ∷ []) ∷ begun 1 4 ++ i op.VARIABLE (14 ∷ 15 ∷ storage_class.FUNCTION ∷ []) ∷ returned ++ ended)) ≡ Some (10, 83)
+variable_without_initialiser = refl
+
+variable_of_a_function : broken (module_with 16 (front ++ decorations ++ globals ++ i op.TYPE_POINTER (14 ∷ storage_class.FUNCTION ∷ 5 ∷ []) ∷ begun 1 4 ++ i op.VARIABLE (14 ∷ 15 ∷ storage_class.FUNCTION ∷ 10 ∷ []) ∷ i op.STORE (15 ∷ 10 ∷ []) ∷ returned ++ ended)) ≡ None
+variable_of_a_function = refl
 
 sum_of_a_pointer : broken (module_with 14 (front ++ decorations ++ globals ++ begun 1 4 ++ sum 11 10 ++ store 13 ++ returned ++ ended)) ≡ Some (14, 88)
 sum_of_a_pointer = refl

@@ -1,17 +1,12 @@
 -- V6: the classes, types and initialisers of global variables.
 use Rattle.std.specs.Prelude.{ℕ, Bool, true, false, ◌==◌, ◌&&◌, ◌||◌, List, length, Option, Some, None, if◌then◌else◌}
-use Rattle.std.specs.List.{list_any}
 use Rattle.gsl_words.specs.declared.module.Instr.{Instr}
 use Rattle.gsl_words.specs.declared.module.Module.{Module}
 use Rattle.gsl_words.specs.declared.enumerant.storage_class.TheConstants as storage_class
 use Rattle.gsl_valid.specs.Instruction.{Instruction, Variable, read}
 use Rattle.gsl_valid.specs.Placed.{Code}
 use Rattle.gsl_valid.specs.Search.{first_broken}
-use Rattle.gsl_valid.specs.Types.{Target, target_of, defined_as, is_int, is_struct, is_value_type, initialises, function_begins}
-
--- whether a function has begun
-abbrev pub in_functions : Code → Bool
-in_functions before = list_any (λ i. function_begins (read i)) before
+use Rattle.gsl_valid.specs.Types.{Target, target_of, defined_as, is_int, is_struct, is_value_type, initialises, in_function}
 
 -- whether a global variable of a class may hold values of a type
 abbrev pub holds : Module → ℕ → ℕ → Bool
@@ -38,7 +33,7 @@ is_global m _ = true
 
 -- whether V6 is kept by an instruction
 abbrev pub global_kept : Module → Code → Instr → Bool
-global_kept m before i = in_functions before || is_global m (read i)
+global_kept m before i = in_function before || is_global m (read i)
 
 -- the first instruction that breaks V6
 abbrev pub globals : Module → Option ℕ

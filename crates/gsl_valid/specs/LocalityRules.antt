@@ -8,8 +8,7 @@ use Rattle.gsl_valid.specs.Instruction.{Instruction, Function, Label, AccessChai
 use Rattle.gsl_valid.specs.Placed.{Code}
 use Rattle.gsl_valid.specs.Search.{first_broken}
 use Rattle.gsl_valid.specs.Ids.{defined, needs, mentions}
-use Rattle.gsl_valid.specs.Types.{defined_as, variable_of}
-use Rattle.gsl_valid.specs.GlobalRules.{in_functions}
+use Rattle.gsl_valid.specs.Types.{defined_as, variable_of, in_function}
 
 -- whether an instruction is one that defines an id for its block only
 abbrev pub of_block : Instruction → Bool
@@ -41,7 +40,7 @@ back_to bounds (i ∷ before) = if bounds (read i) then [] else i ∷ back_to bo
 abbrev pub near_as : Code → ℕ → Instruction → Bool
 near_as before id d =
     if of_block d then defined (back_to bounds_block before) id
-    else (not (variable_of storage_class.FUNCTION d) || not (in_functions before) || defined (back_to bounds_function before) id)
+    else (not (variable_of storage_class.FUNCTION d) || not (in_function before) || defined (back_to bounds_function before) id)
 
 -- whether an id may be used behind some code
 abbrev pub is_near : Module → Code → ℕ → Bool

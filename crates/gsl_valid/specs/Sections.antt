@@ -12,6 +12,7 @@ use Rattle.gsl_words.specs.declared.enumerant.decoration.TheConstants as decorat
 use Rattle.gsl_words.specs.declared.enumerant.built_in.TheConstants as built_in
 use Rattle.gsl_valid.specs.Instruction.{Instruction, Capability, MemoryModel, EntryPoint, ExecutionMode, Name, MemberName, Decorate, MemberDecorate, TypeVoid, TypeInt, TypeStruct, TypePointer, TypeFunction, Constant, Variable, Function, Unknown, read}
 use Rattle.gsl_valid.specs.Placed.{Code, count_of_words, bound_place}
+use Rattle.gsl_valid.specs.Types.{in_function}
 use Rattle.gsl_valid.specs.Search.{first_broken, whole, unless, ◌otherwise◌}
 
 -- the most that a bound can be
@@ -47,30 +48,29 @@ globals = 8
 abbrev pub functions : ℕ
 functions = 9
 
--- the section in which an instruction stands, where a section is reached: a Variable behind the first Function
--- stands in a function
-abbrev pub section_from : ℕ → Instruction → ℕ
-section_from reached (Capability c) = capabilities
-section_from reached (MemoryModel addressing memory) = memory_models
-section_from reached (EntryPoint model function name interface) = entry_points
-section_from reached (ExecutionMode function mode parts) = modes
-section_from reached (Name target text) = names
-section_from reached (MemberName target member text) = names
-section_from reached (Decorate target d literals) = decorations
-section_from reached (MemberDecorate target member d literals) = decorations
-section_from reached (TypeVoid r) = globals
-section_from reached (TypeInt r width signedness) = globals
-section_from reached (TypeStruct r members) = globals
-section_from reached (TypePointer r class pointee) = globals
-section_from reached (TypeFunction r returned parameters) = globals
-section_from reached (Constant type r value) = globals
-section_from reached (Variable type r class initialiser) = if reached == functions then functions else globals
-section_from reached _ = functions
+-- the section to which an instruction belongs, in a function or outside: a Variable belongs to one or to the globals
+abbrev pub section_of : Bool → Instruction → ℕ
+section_of inside (Capability c) = capabilities
+section_of inside (MemoryModel addressing memory) = memory_models
+section_of inside (EntryPoint model function name interface) = entry_points
+section_of inside (ExecutionMode function mode parts) = modes
+section_of inside (Name target text) = names
+section_of inside (MemberName target member text) = names
+section_of inside (Decorate target d literals) = decorations
+section_of inside (MemberDecorate target member d literals) = decorations
+section_of inside (TypeVoid r) = globals
+section_of inside (TypeInt r width signedness) = globals
+section_of inside (TypeStruct r members) = globals
+section_of inside (TypePointer r class pointee) = globals
+section_of inside (TypeFunction r returned parameters) = globals
+section_of inside (Constant type r value) = globals
+section_of inside (Variable type r class initialiser) = if inside then functions else globals
+section_of inside _ = functions
 
 -- the section that these instructions have reached, the last first
 abbrev pub reached : Code → ℕ
 reached [] = 0
-reached (i ∷ before) = section_from (reached before) (read i)
+reached (i ∷ before) = section_of (in_function before) (read i)
 
 -- whether an instruction of a section may come where one is reached. The first four have one instruction each, of
 -- which the import may be left out; each of the others has any number.
@@ -121,7 +121,7 @@ has_numbers _ = true
 
 -- whether an instruction stands in its section, with numbers that it may have
 abbrev pub in_section : Code → Instr → Bool
-in_section before i = may_come (reached before) (section_from (reached before) (read i)) && has_numbers (read i)
+in_section before i = may_come (reached before) (section_of (in_function before) (read i)) && has_numbers (read i)
 
 -- whether the sections that must stand are there
 abbrev pub is_complete : Module → Bool
