@@ -76,7 +76,7 @@ is_bound_to m set binding (Variable type r class initialiser) =
     class == storage_class.UNIFORM && same_number (number_on m decoration.DESCRIPTOR_SET r) set && same_number (number_on m decoration.BINDING r) binding
 is_bound_to m set binding _ = false
 
--- exactly one of two
+-- whether exactly one of two holds
 abbrev pub differ : Bool → Bool → Bool
 differ a b = a && not b || not a && b
 

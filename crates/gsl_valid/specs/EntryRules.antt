@@ -112,8 +112,8 @@ gives_location m (Some class) location (Decorate target kind (n ∷ literals)) =
     kind == decoration.LOCATION && n == location && is_of_class class (class_of (defined_as m target))
 gives_location m class location _ = false
 
--- whether a variable may have a location: in no compute shader, no other one of its class behind it has the same, and a
--- fragment shader's input is flat
+-- whether a variable may have a location: in no compute shader, where no decoration before gives it to another of its
+-- class, and where it is flat if it is an input of a fragment shader
 abbrev pub may_have_location : Module → Code → ℕ → List ℕ → Bool
 may_have_location m before target (location ∷ []) =
     let model = model_of m.instrs in

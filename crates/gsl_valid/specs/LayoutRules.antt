@@ -51,12 +51,12 @@ abbrev pub need : Module → Code → ℕ → ℕ
 need m [] id = 0
 need m (i ∷ before) id = if defines i id then need_as m (need m before) (read i) else need m before id
 
--- the end of a member that may have this offset, behind the one that ends there
+-- whether a member of this need may have this offset, behind the one that ends there
 abbrev pub is_at : Option ℕ → ℕ → ℕ → Bool
 is_at None end need = false
 is_at (Some offset) end need = offset % 4 == 0 && nat_le end offset && nat_lt (offset + need) (2 ^ 31)
 
--- whether these members, numbered from one on, are laid behind an end
+-- whether these members of a struct, numbered from one on, may be laid behind an end
 abbrev pub is_laid : Module → Code → ℕ → ℕ → ℕ → List ℕ → Bool
 is_laid m before struct member end [] = true
 is_laid m before struct member end (type ∷ types) =

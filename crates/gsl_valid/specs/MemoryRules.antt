@@ -11,7 +11,7 @@ use Rattle.gsl_valid.specs.Search.{first_broken}
 use Rattle.gsl_valid.specs.Types.{Target, target_of, type_of, defined_as, is_int, has_type}
 use Rattle.gsl_valid.specs.Decorations.{has, member_has}
 
--- What an id points to: the type of a pointer, if it is of one.
+-- what a value of a type points to, if that is a pointer type
 abbrev pub target_at : Module → Option ℕ → Option Target
 target_at m None = None
 target_at m (Some type) = target_of (defined_as m type)
