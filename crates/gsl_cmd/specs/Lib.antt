@@ -7,3 +7,6 @@ pub mod Plan
 pub mod Job
 pub mod Performs
 pub mod Command
+pub mod Layout
+pub mod Places
+pub mod Weight

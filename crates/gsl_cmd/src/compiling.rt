@@ -19,6 +19,9 @@ pub const MAX_SOURCE_BYTES: usize = 1_048_576;
 
 /// The bytes of the module that the sources of a stage compile to, or their first fault.
 ///
+/// The module keeps the rules V1 to V18, has the buffer, its members and their names where
+/// `specs/Places.antt` says, and is no larger than `specs/Weight.antt` says.
+///
 /// One source is taken so far. `Refusal::Source` comes exactly where the sources have a fault: `E0900`
 /// where one is longer than `MAX_SOURCE_BYTES`, and else `E0001` where it is not of the form that
 /// `docs/LANGUAGE.md` describes.

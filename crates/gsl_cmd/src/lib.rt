@@ -3,7 +3,8 @@
 //!
 //! `glsl_main` carries what a run does, against the job of its words and files (`specs/Job.antt`,
 //! `specs/Performs.antt`), and `compile` what a source compiles to (`specs/Verdict.antt`). The sources
-//! that are taken so far are those of `specs/Form.antt`, and `specs/Lowering.antt` has the module of each.
+//! that are taken so far are those of `specs/Form.antt`, and `specs/Lowering.antt` has the module of each,
+//! which is valid, placed as `specs/Places.antt` says and small as `specs/Weight.antt` says.
 #![tactic(auto)]
 
 mod code;
@@ -15,6 +16,7 @@ mod plan;
 mod program;
 mod reading;
 mod text;
+mod validity;
 
 pub use command::glsl_main;
 pub use compiling::{MAX_SOURCE_BYTES, compile};
@@ -22,3 +24,4 @@ pub use laws::{one_job, one_program, one_verdict};
 pub use program::{
     MAX_MEMBERS, MAX_STATEMENTS, MAX_TERMS, Names, Program, Statement, Statements, Term, Terms,
 };
+pub use validity::{module_is_placed, module_is_small, module_is_valid};

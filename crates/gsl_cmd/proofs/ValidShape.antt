@@ -1,0 +1,186 @@
+-- The function of a program's module is one block, and returns nothing.
+use Rattle.std.proofs.Common.{◌≡◌, ℕ, ◌+◌, Bool, true, false, not, eqb, [], ◌∷◌, ◌++◌, length, append-nil, map, None, refl, ap, subst, ◌∙◌, arith}
+use Rattle.std.specs.List.{range_with_len}
+use Rattle.std.proofs.lemmas.Bool.{and_from, or_left, cond-true}
+use Rattle.gsl_words.specs.declared.enumerant.storage_class.TheConstants as storage_class
+use Rattle.gsl_words.specs.Instructions.{word_count}
+use Rattle.gsl_valid.specs.Instruction.{Instruction, Function, Label, FunctionEnd, read}
+use Rattle.gsl_valid.specs.Placed.{placed_from, header_size, count_of_words}
+use Rattle.gsl_valid.specs.Search.{Test, passed, whole, unless, Passes, ◌otherwise◌}
+use Rattle.gsl_valid.specs.Types.{function_begins, void_type}
+use Rattle.gsl_valid.specs.FunctionRules.{function_shape, in_shape, standing, Outside, Begun, outside, may_be_variable, may_begin, in_block, gives, parameters_of}
+use Rattle.gsl_valid.specs.StructureRules.{structure, no_run, is_run, blocks, blocks_with}
+use Rattle.gsl_valid.specs.ReturnRules.{returns_kept, function_at, gives_void}
+use Rattle.gsl_valid.proofs.Searching.{passed_append, passes_append, passes_range, none_broken}
+use Rattle.gsl_cmd.specs.declared.program.Program.{Program}
+use Rattle.gsl_cmd.specs.declared.lowering.id.TheConstants as id
+use Rattle.gsl_cmd.specs.Form.{IsProgram}
+use Rattle.gsl_cmd.specs.Lowering.{Code, code_of, constants_of, constant_code, decoration_code, first_id, module_of, name_code, preamble, type_code, variable_code}
+use Rattle.gsl_cmd.proofs.Known.{program_known}
+use Rattle.gsl_cmd.proofs.Walks.{Walk, statements_pass}
+use Rattle.gsl_cmd.proofs.Parts.{member_name, member_offset, constant_at, before_names, before_decorations, before_types, before_constants, before_variable, before_code, ending, the_function, passes_parts}
+use Rattle.gsl_cmd.proofs.ValidIds.{bound_of}
+use Rattle.gsl_cmd.proofs.Facts.{facts}
+use Rattle.gsl_cmd.proofs.Quiet.{behind_all, block_name, block_decoration, set_decoration, binding_decoration, main_function, main_label, the_code, names_pass, decorations_pass, constants_pass, code_pass}
+
+-- Where the code stands -------------------------------------------------------------------------------------------
+
+module _ (p : Program) where
+  abbrev StandsOutside : ℕ → Code → Type 0
+  StandsOutside k before = standing (module_of p) before ≡ Outside
+
+  outside_names : standing (module_of p) (before_decorations p) ≡ Outside
+  outside_names =
+      (passes_range (λ b i. true) StandsOutside (member_name p.members) 0 (length p.members) (λ k b low high now. (refl, now)) (block_name ∷ before_names) refl).1
+
+  outside_offsets : standing (module_of p) (passed (block_decoration ∷ before_decorations p) (map member_offset (range_with_len 0 (length p.members)))) ≡ Outside
+  outside_offsets =
+      (passes_range (λ b i. true) StandsOutside member_offset 0 (length p.members) (λ k b low high now. (refl, now)) (block_decoration ∷ before_decorations p) outside_names).1
+
+  outside_types : standing (module_of p) (before_types p) ≡ Outside
+  outside_types =
+      ap (standing (module_of p)) (passed_append (block_decoration ∷ before_decorations p) (map member_offset (range_with_len 0 (length p.members))) (set_decoration ∷ binding_decoration ∷ []))
+      ∙ outside_offsets
+
+  outside_constants : standing (module_of p) (before_variable p) ≡ Outside
+  outside_constants =
+      (passes_range (λ b i. true) StandsOutside (constant_at (constants_of p)) 0 (length (constants_of p)) (λ k b low high now. (refl, now)) (before_constants p) outside_types).1
+
+  abbrev shape_walk : Walk (constants_of p) (length p.members) (bound_of p) (λ i. Unit {0}) (in_shape (module_of p))
+  shape_walk = record {
+    ready = λ n before. in_block (standing (module_of p) before) ≡ true;
+    value = λ v before. Unit {0};
+    points = λ v before. Unit {0};
+    chain = λ n k before within room here now. (now, refl, tt);
+    chain_keeps = λ n k v before held. tt;
+    load_passes = λ n q before room here now at. (now, refl, tt);
+    load_keeps = λ n q v before held. tt;
+    add_passes = λ n a b before room here now x y. (now, refl, tt);
+    store_passes = λ n q v before here now at held. (now, refl);
+    literal = λ n v before known now. tt;
+  }
+
+  pub in_shape_kept : IsProgram p → Passes (in_shape (module_of p)) [] (code_of p)
+  in_shape_kept fits =
+      let test = in_shape (module_of p) in
+      let known = facts p fits in
+      passes_parts p test (refl, (refl, (refl, (refl, tt)))) (names_pass test p.members before_names (λ b. refl) (λ k b. refl))
+      (decorations_pass test (length p.members) (before_decorations p) (λ b. refl) (λ k within b. refl) (λ b. refl) (λ b. refl))
+      (refl, (refl, (refl, (refl, (refl, (refl, tt))))))
+      (constants_pass test (constants_of p) (before_constants p) (λ k within b. refl))
+      (ap (may_be_variable (module_of p) id.BLOCK_POINTER storage_class.UNIFORM []) outside_constants, tt) (
+        and_from _ _ (ap outside outside_constants) (ap (gives id.VOID) known.main_type),
+        (
+          ap (λ d. may_begin (Begun (parameters_of d))) known.main_type,
+          statements_pass (constants_of p) (length p.members) (bound_of p) (λ i. Unit {0}) test shape_walk (first_id (constants_of p)) p.statements ending
+              (before_code p) (program_known p fits) (omega arith) (λ i has. tt) refl (λ end behind e now. (now, (refl, tt))),
+        ),
+      )
+
+  pub shape_none : IsProgram p → function_shape (module_of p) ≡ None
+  shape_none fits =
+      let m = module_of p in
+      let ends : outside (standing m (whole m)) ≡ true = behind_all p (λ code. outside (standing m code) ≡ true) (λ before. refl) in
+      ap (λ o. o otherwise unless (outside (standing m (whole m))) (count_of_words m)) (none_broken (in_shape m) m (in_shape_kept fits))
+      ∙ ap (λ b. unless b (count_of_words m)) ends
+
+  -- Return ----------------------------------------------------------------------------------------------------------
+
+  abbrev returns_walk : Walk (constants_of p) (length p.members) (bound_of p) (λ i. Unit {0}) (returns_kept (module_of p))
+  returns_walk = record {
+    ready = λ n before. function_at before ≡ Function id.VOID id.MAIN 0 id.MAIN_TYPE;
+    value = λ v before. Unit {0};
+    points = λ v before. Unit {0};
+    chain = λ n k before within room here now. (refl, now, tt);
+    chain_keeps = λ n k v before held. tt;
+    load_passes = λ n q before room here now at. (refl, now, tt);
+    load_keeps = λ n q v before held. tt;
+    add_passes = λ n a b before room here now x y. (refl, now, tt);
+    store_passes = λ n q v before here now at held. (refl, now);
+    literal = λ n v before known now. tt;
+  }
+
+  pub void_returned : IsProgram p → Passes (returns_kept (module_of p)) [] (code_of p)
+  void_returned fits =
+      let test = returns_kept (module_of p) in
+      let known = facts p fits in
+      passes_parts p test (refl, (refl, (refl, (refl, tt)))) (names_pass test p.members before_names (λ b. refl) (λ k b. refl))
+      (decorations_pass test (length p.members) (before_decorations p) (λ b. refl) (λ k within b. refl) (λ b. refl) (λ b. refl))
+      (refl, (refl, (refl, (refl, (refl, (refl, tt))))))
+      (constants_pass test (constants_of p) (before_constants p) (λ k within b. refl)) (refl, tt) (
+        refl,
+        (
+          refl,
+          statements_pass (constants_of p) (length p.members) (bound_of p) (λ i. Unit {0}) test returns_walk (first_id (constants_of p)) p.statements ending
+              (before_code p) (program_known p fits) (omega arith) (λ i has. tt) refl
+              (λ end behind e now. (ap (gives_void (module_of p)) now ∙ ap void_type known.void, (refl, tt))),
+        ),
+      )
+
+-- Blocks ----------------------------------------------------------------------------------------------------------
+
+abbrev no_function : Test
+no_function before i = not (function_begins (read i))
+
+abbrev is_label : Instruction → Bool
+is_label (Label r) = true
+is_label _ = false
+
+abbrev no_label : Test
+no_label before i = not (is_label (read i))
+
+none_begun : (before code rest : Code) (at : ℕ) → Passes no_function before code → ((later : ℕ) → no_run (placed_from later rest) ≡ None) → no_run (placed_from at (code ++ rest)) ≡ None
+none_begun before [] rest at all each = each at
+none_begun before (i ∷ code) rest at all each =
+    cond-true _ _ _ (or_left _ _ all.0) ∙ none_begun (i ∷ before) code rest (at + word_count i) all.1 each
+
+no_block : (d : Instruction) (later : ℕ) → not (is_label d) ≡ true → later ≡ 0 → blocks_with later d ≡ 0
+no_block (Label r) later none e = absurd (cc)
+no_block FunctionEnd later none e = refl
+no_block d later none e = e
+
+none_labelled : (before code : Code) (at : ℕ) → Passes no_label before code → blocks (placed_from at code) ≡ 0
+none_labelled before [] at all = refl
+none_labelled before (i ∷ code) at all = no_block (read i) _ all.0 (none_labelled (i ∷ before) code (at + word_count i) all.1)
+
+module _ (p : Program) (fits : IsProgram p) where
+  one_block : (at : ℕ) → is_run (placed_from at (main_label ∷ the_code p)) ≡ true
+  one_block at =
+      ap (λ n. eqb (1 + n) 1)
+      (none_labelled [] (the_code p) (at + word_count main_label)
+      (code_pass no_label p fits [] (λ n k b. refl) (λ n q b. refl) (λ n a c b. refl) (λ q v b. refl) (λ b. refl) (λ b. refl)))
+
+  code_none : (at : ℕ) → no_run (placed_from at (the_code p)) ≡ None
+  code_none at =
+      subst (λ code. no_run (placed_from at code) ≡ None) (append-nil (the_code p))
+      (none_begun [] (the_code p) [] at (code_pass no_function p fits [] (λ n k b. refl) (λ n q b. refl) (λ n a c b. refl) (λ q v b. refl) (λ b. refl) (λ b. refl)) (λ later. refl))
+
+  function_none : (at : ℕ) → no_run (placed_from at (the_function p)) ≡ None
+  function_none at = cond-true _ _ _ (one_block (at + word_count main_function)) ∙ code_none ((at + word_count main_function) + word_count main_label)
+
+  front : Code
+  front =
+      ((((preamble ++ name_code p.members) ++ decoration_code (length p.members)) ++ type_code (length p.members)) ++ constant_code (constants_of p)) ++ variable_code
+
+  front_passes : Passes no_function [] front
+  unfolding front
+  front_passes =
+      let a = preamble in
+      let ab = a ++ name_code p.members in
+      let abc = ab ++ decoration_code (length p.members) in
+      let abcd = abc ++ type_code (length p.members) in
+      let abcde = abcd ++ constant_code (constants_of p) in
+      passes_append no_function [] abcde variable_code
+      (passes_append no_function [] abcd (constant_code (constants_of p))
+      (passes_append no_function [] abc (type_code (length p.members))
+      (passes_append no_function [] ab (decoration_code (length p.members))
+      (passes_append no_function [] a (name_code p.members) (refl, (refl, (refl, (refl, tt))))
+      (names_pass no_function p.members (passed [] a) (λ b. refl) (λ k b. refl)))
+      (decorations_pass no_function (length p.members) (passed [] ab) (λ b. refl) (λ k within b. refl) (λ b. refl) (λ b. refl)))
+      (refl, (refl, (refl, (refl, (refl, (refl, tt)))))))
+      (constants_pass no_function (constants_of p) (passed [] abcd) (λ k within b. refl)))
+      (refl, tt)
+
+  pub structure_none : structure (module_of p) ≡ None
+  unfolding front
+  structure_none = none_begun [] front (the_function p) header_size front_passes function_none

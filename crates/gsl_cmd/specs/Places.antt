@@ -1,0 +1,78 @@
+-- Where a module puts what a program declares: its stage, its buffer with the members' offsets, and its names.
+use Rattle.std.specs.Prelude.{◌≡◌, ℕ, ◌+◌, Bool, true, false, List, [], ◌∷◌, length, map, filter, replicate, codes, Some}
+use Rattle.gsl_words.specs.declared.module.Module.{Module}
+use Rattle.gsl_words.specs.declared.enumerant.execution_model.TheConstants as execution_model
+use Rattle.gsl_words.specs.declared.enumerant.execution_mode.TheConstants as execution_mode
+use Rattle.gsl_words.specs.declared.enumerant.storage_class.TheConstants as storage_class
+use Rattle.gsl_words.specs.declared.enumerant.decoration.TheConstants as decoration
+use Rattle.gsl_words.specs.Strings.{string_words}
+use Rattle.gsl_valid.specs.Instruction.{Instruction, EntryPoint, ExecutionMode, Name, MemberName, MemberDecorate, TypeInt, TypeStruct, TypePointer, Variable, read}
+use Rattle.gsl_valid.specs.Placed.{Code}
+use Rattle.gsl_valid.specs.Types.{defined_as}
+use Rattle.gsl_valid.specs.Decorations.{On, literals_on, number_on}
+use Rattle.gsl_cmd.specs.declared.program.Program.{Program}
+use Rattle.gsl_cmd.specs.Form.{Name as Text}
+use Rattle.gsl_cmd.specs.Layout.{offsets, member_types}
+
+-- the instructions of a class
+abbrev pub those : (Instruction → Bool) → Code → List Instruction
+those of_class code = filter of_class (map read code)
+
+-- entry points
+abbrev pub is_entry : Instruction → Bool
+is_entry (EntryPoint model function name interface) = true
+is_entry _ = false
+
+-- modes of entry points
+abbrev pub is_mode : Instruction → Bool
+is_mode (ExecutionMode function mode parts) = true
+is_mode _ = false
+
+-- variables
+abbrev pub is_variable : Instruction → Bool
+is_variable (Variable type r class initialiser) = true
+is_variable _ = false
+
+-- names
+abbrev pub is_name : Instruction → Bool
+is_name (Name target text) = true
+is_name (MemberName target member text) = true
+is_name _ = false
+
+-- decorations of members
+abbrev pub is_of_member : Instruction → Bool
+is_of_member (MemberDecorate target member d literals) = true
+is_of_member _ = false
+
+-- the names of members, numbered from one on
+abbrev pub member_names : ℕ → ℕ → List Text → List Instruction
+member_names block member [] = []
+member_names block member (name ∷ names) = MemberName block member (string_words name) ∷ member_names block (member + 1) names
+
+-- the offsets of members, numbered from one on
+abbrev pub member_offsets : ℕ → ℕ → List ℕ → List Instruction
+member_offsets block member [] = []
+member_offsets block member (offset ∷ offsets) = MemberDecorate block member decoration.OFFSET (offset ∷ []) ∷ member_offsets block (member + 1) offsets
+
+-- The module places the program, with its entry point, its types `int` and of the block, and its one variable by their ids.
+pub record Places (m : Module) (p : Program) : Type 0 where
+  pub main : ℕ
+  pub int : ℕ
+  pub block : ℕ
+  pub pointer : ℕ
+  pub buffer : ℕ
+  -- the entry point is that of a compute shader, of one invocation a group
+  pub entry : those is_entry m.instrs ≡ EntryPoint execution_model.GL_COMPUTE main (string_words (codes "main")) [] ∷ []
+  pub mode : those is_mode m.instrs ≡ ExecutionMode main execution_mode.LOCAL_SIZE (1 ∷ 1 ∷ 1 ∷ []) ∷ []
+  -- one variable, which is the buffer at set 0 and binding 0
+  pub variable : those is_variable m.instrs ≡ Variable pointer buffer storage_class.UNIFORM [] ∷ []
+  pub points : defined_as m pointer ≡ TypePointer pointer storage_class.UNIFORM block
+  pub set : number_on m decoration.DESCRIPTOR_SET buffer ≡ Some 0
+  pub binding : number_on m decoration.BINDING buffer ≡ Some 0
+  -- its struct is a buffer's block of `int` members, each at its offset and with no other decoration
+  pub buffer_block : literals_on m.instrs (On block) decoration.BUFFER_BLOCK ≡ Some []
+  pub struct : defined_as m block ≡ TypeStruct block (replicate (length p.members) int)
+  pub ints : defined_as m int ≡ TypeInt int 32 1
+  pub offset : those is_of_member m.instrs ≡ member_offsets block 0 (offsets (member_types p))
+  -- the block and its members have their names, and nothing else has one
+  pub names : those is_name m.instrs ≡ Name block (string_words (codes "B")) ∷ member_names block 0 p.members

@@ -1,0 +1,4 @@
+pub mod Searching
+pub mod Lookups
+pub mod Rules
+mod Example
