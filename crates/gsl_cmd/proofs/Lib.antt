@@ -29,3 +29,4 @@ pub mod ValidMemory
 pub mod ValidModule
 pub mod Placement
 pub mod Sizes
+pub mod Wrote

@@ -10,3 +10,4 @@ pub mod Command
 pub mod Layout
 pub mod Places
 pub mod Weight
+pub mod Written

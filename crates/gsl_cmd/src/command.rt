@@ -12,6 +12,7 @@ ghost use Rattle.gsl_cmd.specs.Plan.{Plan, plan_of, targets_of};
 ghost use Rattle.gsl_cmd.specs.Plan as spec;
 ghost use Rattle.gsl_cmd.specs.Command.{plan_in, Ended, Said, Reported, ReadsSource, CompilesSource};
 ghost use Rattle.gsl_cmd.specs.Performs.{Performs};
+ghost use Rattle.gsl_cmd.specs.Written.{Written};
 
 use crate::compiling::{MAX_SOURCE_BYTES, compile, fault_in};
 use crate::plan::{Command, Stop};
@@ -179,6 +180,10 @@ pub fn glsl_main<H: Host>(alloc: Global, words: &Words, host: &mut H) -> u8
     ensures told { (plan : Plan) → plan_of words.now ≡ Some plan → (files : Files) → H.files host.old ≡ Some files →
         (job : Job) × IsJob plan files job
         × Performs job files (H.files host.new) (H.faults host.old) (H.faults host.new) (H.printed host.old) (H.printed host.new) result }
+
+    // Status 0 means that the module of the sources has been written, and that it is valid, placed and small.
+    ensures written { result ≡ 0 → (plan : Plan) → plan_of words.now ≡ Some plan → (files : Files) → H.files host.old ≡ Some files →
+        Written plan files (H.files host.new) }
 
     // On every host, status 3 comes only where something failed that the command reaches for.
     ensures cause { result ≡ 3 → (plan : Plan) × (target : Target) × (plan_of words.now ≡ Some plan) × Contains (targets_of plan) target
