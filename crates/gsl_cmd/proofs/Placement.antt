@@ -16,7 +16,7 @@ use Rattle.gsl_cmd.specs.declared.program.Program.{Program}
 use Rattle.gsl_cmd.specs.declared.lowering.id.TheConstants as id
 use Rattle.gsl_cmd.specs.Form.{IsProgram, name_of, Name as Text}
 use Rattle.gsl_cmd.specs.Lowering.{Code, instr, code_of, constants_of, constant_code, decoration_code, module_of, name_code, type_code, variable_code}
-use Rattle.gsl_cmd.specs.Layout.{Int, first_multiple, offsets_from, offsets, member_types}
+use Rattle.gsl_cmd.specs.Layout.{MemberType, Int, first_multiple, offsets_from, offsets, need, block_size, member_types}
 use Rattle.gsl_cmd.specs.Places.{Places, those, is_entry, is_mode, is_variable, is_name, is_of_member, member_names, member_offsets}
 use Rattle.gsl_cmd.proofs.Parts.{member_offset, before_names, before_decorations, before_types, before_constants, before_variable, before_function, from_names, from_decorations, from_types, from_constants, from_variable, the_function, in_parts, passes_from_names}
 use Rattle.gsl_cmd.proofs.Facts.{facts}
@@ -150,3 +150,12 @@ module _ (p : Program) (fits : IsProgram p) where
         offset = offsets_placed;
         names = names_placed;
       }
+
+-- Three members, by the layout's equations -------------------------------------------------------------------------
+
+three : List MemberType
+three = Int ∷ Int ∷ Int ∷ []
+
+three_offsets : (offsets three ≡ 0 ∷ 4 ∷ 8 ∷ []) × (need three ≡ 12) × (block_size three ≡ 12)
+unfolding three
+three_offsets = (refl, refl, refl)
