@@ -17,8 +17,8 @@ use Rattle.gsl_valid.proofs.Searching.{passes_append, passes_range}
 use Rattle.gsl_cmd.specs.declared.program.Program.{Program}
 use Rattle.gsl_cmd.specs.declared.lowering.id.TheConstants as id
 use Rattle.gsl_cmd.specs.Form.{IsProgram}
-use Rattle.gsl_cmd.specs.Lowering.{Code, instr, code_of, constants_of, constant_code, module_of}
-use Rattle.gsl_cmd.proofs.Parts.{member_offset, constant_at, before_names, before_decorations, before_types, before_constants, before_variable, before_function, passes_parts, none_passed, none_in_range, none_before_decorations, none_before_variable, none_before_types, none_in_decorations}
+use Rattle.gsl_cmd.specs.Lowering.{Code, instr, code_of, constants_of, module_of}
+use Rattle.gsl_cmd.proofs.Parts.{member_offset, before_names, before_decorations, before_types, before_constants, before_variable, before_function, passes_parts, none_before_decorations, none_before_variable, none_before_types, none_in_decorations}
 use Rattle.gsl_cmd.proofs.Facts.{Facts, facts}
 use Rattle.gsl_cmd.proofs.Quiet.{block_decoration, set_decoration, binding_decoration, names_pass, decorations_pass, constants_pass, function_pass}
 use Rattle.gsl_cmd.proofs.Decorated.{is_on, block_is_buffer, block_is_no_block, buffer_set, buffer_binding, member_is_at}

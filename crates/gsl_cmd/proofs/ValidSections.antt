@@ -1,6 +1,6 @@
 -- The sections of a program's module stand in order, and its numbers are those that they may be.
 use Rattle.std.proofs.Common.{◌≡◌, ℕ, Bool, false, ◌≤◌, true, ◌&&◌, List, [], ◌∷◌, length, map, None, refl, ap, ◌∙◌, arith}
-use Rattle.std.specs.Prelude.{nat_le, ◌==◌, if◌then◌else◌}
+use Rattle.std.specs.Prelude.{nat_le, if◌then◌else◌}
 use Rattle.std.specs.List.{list_any, range_with_len}
 use Rattle.std.proofs.lemmas.Bool.{and_from, or_parts, le-leb}
 use Rattle.gsl_words.specs.declared.module.Instr.{Instr}

@@ -4,7 +4,7 @@ use Rattle.gsl_host.specs.Outside.{Files}
 use Rattle.gsl_host.specs.declared.target.Stream.{Stream}
 use Rattle.gsl_host.specs.declared.target.Target.{Target}
 use Rattle.gsl_cmd.specs.Form.{Name}
-use Rattle.gsl_cmd.specs.Job.{Job, Effect, IsJob, IsCompileJob, Gathered, Sources, Absent, TooLong, gather, reads}
+use Rattle.gsl_cmd.specs.Job.{Job, IsJob, IsCompileJob, Gathered, Sources, Absent, TooLong, gather, reads}
 use Rattle.gsl_cmd.specs.Lowering.{module_of}
 use Rattle.gsl_cmd.specs.Performs.{Performs, effect_on}
 use Rattle.gsl_cmd.specs.Plan.{Plan}
@@ -21,10 +21,17 @@ module _ (stage : Stage) (out : Name) (names : List Name) (before : Files) (afte
   by_gathered Absent e is = absurd (let no : 3 ≡ 0 = sym (ap (λ (j : Job). j.status) is) ∙ zero in cc)
   by_gathered (TooLong unit) e is = absurd (let no : 1 ≡ 0 = sym (ap (λ (j : Job). j.status) is) ∙ zero in cc)
   by_gathered (Sources sources) e (Err fault, right, is) = absurd (let no : 1 ≡ 0 = sym (ap (λ (j : Job). j.status) is) ∙ zero in cc)
-  by_gathered (Sources sources) e (Ok p, right, is) =
-      ( sources, p, module_of p, e, right
-      , files ∙ ap Some (ap (λ (j : Job). effect_on j.effect before) is)
-      , module_valid p right.spelled.fits, module_placed p right.spelled.fits, module_small p right.spelled.fits)
+  by_gathered (Sources sources) e (Ok p, right, is) = (
+    sources,
+    p,
+    module_of p,
+    e,
+    right,
+    files ∙ ap Some (ap (λ (j : Job). effect_on j.effect before) is),
+    module_valid p right.spelled.fits,
+    module_placed p right.spelled.fits,
+    module_small p right.spelled.fits,
+  )
 
 pub job_written : (plan : Plan) (before : Files) (after : Option Files) (job : Job) → IsJob plan before job → job.status ≡ 0 →
     after ≡ Some (effect_on job.effect before) → Written plan before after

@@ -6,7 +6,7 @@ use Rattle.gsl_words.specs.Bytes.{bytes_of}
 use Rattle.gsl_words.specs.declared.module.Module.{Module}
 use Rattle.gsl_valid.specs.Valid.{Valid}
 use Rattle.gsl_cmd.specs.declared.program.Program.{Program}
-use Rattle.gsl_cmd.specs.Job.{gather, Gathered, Sources}
+use Rattle.gsl_cmd.specs.Job.{gather, Sources}
 use Rattle.gsl_cmd.specs.Places.{Places}
 use Rattle.gsl_cmd.specs.Plan.{Plan}
 use Rattle.gsl_cmd.specs.Verdict.{Accepts}

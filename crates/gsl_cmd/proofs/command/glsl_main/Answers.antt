@@ -1,5 +1,4 @@
-use Rattle.std.proofs.Common.{◌≡◌, ◌≢◌, ℕ, [], ◌∷◌, Option, Some, refl, ap, sym, subst, ◌∙◌}
-use Rattle.gsl_host.specs.Outside.{Files}
+use Rattle.std.proofs.Common.{[], ◌∷◌, subst}
 use Rattle.gsl_cmd.specs.Plan.{Plan}
 use Rattle.gsl_cmd.specs.Written.{Written}
 use Rattle.gsl_cmd.proofs.Wrote.{performed_written, same_plan}
