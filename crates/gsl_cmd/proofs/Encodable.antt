@@ -70,7 +70,7 @@ digits_plain (d ∷ digits) all =
     let high : d ≤ 57 = leb-true d 57 range.1 in
     and_from _ _ (and_from _ _ (lt-ltb 0 d (omega arith)) (lt-ltb d 128 (omega arith))) (digits_plain digits parts.1)
 
-name_plain : (name : Name) → is_name name ≡ true → (list_all plain name ≡ true) × (length name ≤ 4)
+pub name_plain : (name : Name) → is_name name ≡ true → (list_all plain name ≡ true) × (length name ≤ 4)
 name_plain [] good = absurd (cc)
 name_plain (letter ∷ digits) good =
     let parts = and_parts (is_ascii_lowercase letter && all_ascii_digits digits) _ good in
@@ -88,7 +88,7 @@ words_some (a ∷ b ∷ []) = omega arith
 words_some (a ∷ b ∷ c ∷ []) = omega arith
 words_some (a ∷ b ∷ c ∷ d ∷ text) = omega arith
 
-words_few : (text : List ℕ) → length (string_words text) ≤ length text + 1
+pub words_few : (text : List ℕ) → length (string_words text) ≤ length text + 1
 words_few [] = omega arith
 words_few (a ∷ []) = omega arith
 words_few (a ∷ b ∷ []) = omega arith

@@ -1,25 +1,22 @@
 -- The module of a program is small for its weight.
-use Rattle.std.proofs.Common.{◌≡◌, ℕ, zero, suc, ◌+◌, ◌*◌, ◌<◌, ◌≤◌, true, ◌&&◌, IsTrue, List, [], ◌∷◌, ◌++◌, length, map, refl, arith}
+use Rattle.std.proofs.Common.{◌≡◌, ℕ, zero, suc, ◌+◌, ◌*◌, ◌<◌, ◌≤◌, IsTrue, List, [], ◌∷◌, ◌++◌, length, map, refl, arith}
 use Rattle.std.specs.Prelude.{replicate}
 use Rattle.std.specs.List.{range_with_len}
-use Rattle.std.specs.Str.{all_ascii_digits}
-use Rattle.std.specs.Char.{is_ascii_lowercase}
 use Rattle.std.proofs.Math.ListN.{length-replicate}
-use Rattle.std.proofs.lemmas.Bool.{and_parts, leb-true}
 use Rattle.gsl_words.specs.declared.module.Instr.{Instr}
 use Rattle.gsl_words.specs.declared.op.TheConstants as op
 use Rattle.gsl_words.specs.Instructions.{word_count}
-use Rattle.gsl_words.specs.Strings.{string_words}
 use Rattle.gsl_valid.specs.Placed.{words_from, header_size, count_of_words}
 use Rattle.gsl_cmd.specs.declared.program.Term.{Term}
 use Rattle.gsl_cmd.specs.declared.program.Term.TheVariants.{Member, Literal}
 use Rattle.gsl_cmd.specs.declared.program.Statement.{Statement}
 use Rattle.gsl_cmd.specs.declared.program.Program.{Program}
 use Rattle.gsl_cmd.specs.declared.lowering.id.TheConstants as id
-use Rattle.gsl_cmd.specs.Form.{Name, name_of, is_name, IsProgram}
+use Rattle.gsl_cmd.specs.Form.{name_of, is_name, IsProgram}
 use Rattle.gsl_cmd.specs.Lowering.{Code, instr, pointer, sum_ids, sum_value, term_code, term_ids, term_value, more_code, sum_code, statement_ids, statements_code, first_id, constants_of, constant_code, decoration_code, module_of, name_code, preamble, type_code, variable_code}
 use Rattle.gsl_cmd.specs.Weight.{statements_weight, IsSmall}
 use Rattle.std.proofs.Math.Nat.{mul-suc}
+use Rattle.gsl_cmd.proofs.Encodable.{words_few, name_plain}
 use Rattle.gsl_cmd.proofs.Statements.{all_at}
 use Rattle.gsl_cmd.proofs.Parts.{member_name, member_offset, constant_at, ending, the_function}
 use Rattle.gsl_cmd.proofs.Counts.{bound_few}
@@ -47,18 +44,6 @@ words_range f each first (suc count) short at =
     omega arith
 
 -- Names -----------------------------------------------------------------------------------------------------------
-
-words_of_text : (text : List ℕ) → length (string_words text) ≤ length text + 1
-words_of_text [] = omega arith
-words_of_text (a ∷ []) = omega arith
-words_of_text (a ∷ b ∷ []) = omega arith
-words_of_text (a ∷ b ∷ c ∷ []) = omega arith
-words_of_text (a ∷ b ∷ c ∷ d ∷ text) = omega (arith, words_of_text text)
-
-name_short : (name : Name) → is_name name ≡ true → length name ≤ 4
-name_short [] good = absurd (cc)
-name_short (letter ∷ digits) good =
-    let few : length digits ≤ 3 = leb-true _ _ (and_parts (is_ascii_lowercase letter && all_ascii_digits digits) _ good).1 in omega arith
 
 -- Statements ------------------------------------------------------------------------------------------------------
 
@@ -102,8 +87,8 @@ module _ (p : Program) (fits : IsProgram p) where
   words_names : Words (3 + 8 * length p.members) (name_code p.members)
   words_names at =
       let each : (k : ℕ) → 0 ≤ k → k < 0 + length p.members → word_count (member_name p.members k) ≤ 8 = λ k low high.
-      let short = name_short (name_of p.members k) (all_at (λ name. IsTrue (is_name name)) p.members k [] fits.names (omega arith)) in
-      omega (arith, words_of_text (name_of p.members k)) in
+      let short = (name_plain (name_of p.members k) (all_at (λ name. IsTrue (is_name name)) p.members k [] fits.names (omega arith))).1 in
+      omega (arith, words_few (name_of p.members k)) in
       omega (arith, words_range (member_name p.members) 8 0 (length p.members) each (at + 3))
 
   words_decorations : Words (11 + 5 * length p.members) (decoration_code (length p.members))
