@@ -10,3 +10,4 @@ pub mod Verdicts
 pub mod Jobs
 pub mod Ends
 pub mod Unique
+pub mod Example

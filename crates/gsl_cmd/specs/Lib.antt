@@ -7,3 +7,12 @@ pub mod Plan
 pub mod Job
 pub mod Performs
 pub mod Command
+pub mod Words
+pub mod Buffers
+pub mod Proper
+pub mod Needs
+pub mod Shader
+pub mod Sections
+pub mod Machine
+pub mod Fits
+pub mod Carries

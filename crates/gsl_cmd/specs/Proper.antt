@@ -1,0 +1,53 @@
+-- Which inputs are proper: their lists stand in order, and their numbers fit their types.
+use Rattle.std.specs.Prelude.{◌≡◌, ℕ, ◌^◌, ◌<◌, ◌≤◌, ◌⊎◌, List, [], ◌∷◌, length, ⊤}
+use Rattle.std.specs.Option.{ForSome}
+use Rattle.std.specs.List.{AllByRecursion}
+use Rattle.gsl_base.specs.declared.input.Buffer.{Buffer}
+use Rattle.gsl_base.specs.declared.input.Located.{Located}
+use Rattle.gsl_base.specs.declared.input.Input.{Input}
+
+-- Each item stands before all that follow it.
+abbrev pub Ascends : {X : Type 0} → (X → X → Type 0) → List X → Type 0
+Ascends Before [] = ⊤
+Ascends Before (x ∷ xs) = AllByRecursion (Before x) xs × Ascends Before xs
+
+-- by set, and at one set by binding
+abbrev pub StandsBefore : Buffer → Buffer → Type 0
+StandsBefore a b = (a.set < b.set) ⊎ ((a.set ≡ b.set) × (a.binding < b.binding))
+
+abbrev pub IsLower : Located → Located → Type 0
+IsLower a b = a.location < b.location
+
+abbrev pub AreBytes : List ℕ → Type 0
+AreBytes bytes = AllByRecursion (λ byte. byte < 256) bytes
+
+abbrev pub AreWords : List ℕ → Type 0
+AreWords words = AllByRecursion (λ word. word < 2 ^ 32) words
+
+abbrev pub AreThreeWords : List ℕ → Type 0
+AreThreeWords words = (length words ≡ 3) × AreWords words
+
+pub record IsBuffer (buffer : Buffer) : Type 0 where
+  pub set : buffer.set < 2 ^ 32
+  pub binding : buffer.binding < 2 ^ 32
+  pub bytes : AreBytes buffer.bytes
+
+-- A value at a location has one to four words.
+pub record IsLocated (value : Located) : Type 0 where
+  pub location : value.location < 2 ^ 32
+  pub some : 1 ≤ length value.words
+  pub most : length value.words ≤ 4
+  pub words : AreWords value.words
+
+pub record IsProper (input : Input) : Type 0 where
+  pub buffers : AllByRecursion IsBuffer input.buffers
+  pub buffers_ascend : Ascends StandsBefore input.buffers
+  pub push : ForSome input.push AreBytes
+  pub ins : AllByRecursion IsLocated input.ins
+  pub ins_ascend : Ascends IsLower input.ins
+  pub group : AreThreeWords input.group
+  pub local : AreThreeWords input.local
+  pub groups : AreThreeWords input.groups
+  pub vertex : input.vertex < 2 ^ 32
+  pub instance : input.instance < 2 ^ 32
+  pub choices : AreWords input.choices
