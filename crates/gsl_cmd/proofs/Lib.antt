@@ -11,3 +11,6 @@ pub mod Jobs
 pub mod Ends
 pub mod Unique
 pub mod Example
+pub mod Bytes
+pub mod Blocks
+pub mod Stretches
