@@ -14,3 +14,5 @@ pub mod Example
 pub mod Bytes
 pub mod Blocks
 pub mod Stretches
+pub mod Follows
+pub mod Simulation

@@ -104,6 +104,9 @@ module _ (m : Module) where
       let r = going_before u (p.count + u1 - u) s q.state (ap (λ n. run m n s) (sym e) ∙ all) in
       record { state = r.0; runs = r.1 }
 
+  pub no_step : {u : ℕ} (s : State) → Stretch u s u (Going s)
+  no_step {u} s = record { count = 0; slow = omega arith; fast = omega arith; runs = refl }
+
   -- one step, which uses no unit
   pub one_step : {u : ℕ} (s : State) (o : Outcome) → suc (room_of o) ≤ room s → step m s ≡ o → Stretch u s u o
   one_step {u} s o h e =
