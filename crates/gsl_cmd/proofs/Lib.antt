@@ -16,3 +16,5 @@ pub mod Blocks
 pub mod Stretches
 pub mod Follows
 pub mod Simulation
+pub mod Among
+pub mod Lookups
