@@ -18,3 +18,4 @@ pub mod Follows
 pub mod Simulation
 pub mod Among
 pub mod Lookups
+pub mod Carried

@@ -73,7 +73,7 @@ module _ (m : Module) where
       from_bind Stuck h = absurd cc
 
   -- all words of the module
-  abbrev whole : ℕ
+  abbrev pub whole : ℕ
   whole = words_of m.instrs
 
   -- From s with u units to o with u' units left: at least a step for each unit that is used, and at most as many as the
