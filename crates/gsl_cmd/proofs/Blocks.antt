@@ -119,8 +119,8 @@ module _ (members : ℕ) (began words bytes : List ℕ) (holds : Holds members b
   pub holds_put : Holds members began (set words target value) (put_word bytes (word_offset target) value)
   holds_put = record {
     put =
-      ap (λ b. put_word b (word_offset target) value) holds.put
-      ∙ put_over 0 target (word_offset target) words began value inside (ap word_offset (omega arith));
+        ap (λ b. put_word b (word_offset target) value) holds.put
+        ∙ put_over 0 target (word_offset target) words began value inside (ap word_offset (omega arith));
     at = at_all;
     count = count_kept;
     small = small_all;

@@ -57,11 +57,11 @@ bytes_put : (bytes : List ℕ) (at word : ℕ) → at + 4 ≤ length bytes →
 unfolding put_word
 bytes_put bytes at word fits = record {
   first =
-    get_or-set_other _ (at + 3) at _ 0 (omega arith) ∙ get_or-set_other _ (at + 2) at _ 0 (omega arith)
-    ∙ get_or-set_other _ (at + 1) at _ 0 (omega arith) ∙ get_or-set_same bytes at _ 0 (omega arith);
+      get_or-set_other _ (at + 3) at _ 0 (omega arith) ∙ get_or-set_other _ (at + 2) at _ 0 (omega arith)
+      ∙ get_or-set_other _ (at + 1) at _ 0 (omega arith) ∙ get_or-set_same bytes at _ 0 (omega arith);
   second =
-    get_or-set_other _ (at + 3) (at + 1) _ 0 (omega arith) ∙ get_or-set_other _ (at + 2) (at + 1) _ 0 (omega arith)
-    ∙ get_or-set_same _ (at + 1) _ 0 (longer _ at _ _ (omega arith));
+      get_or-set_other _ (at + 3) (at + 1) _ 0 (omega arith) ∙ get_or-set_other _ (at + 2) (at + 1) _ 0 (omega arith)
+      ∙ get_or-set_same _ (at + 1) _ 0 (longer _ at _ _ (omega arith));
   third = get_or-set_other _ (at + 3) (at + 2) _ 0 (omega arith) ∙ get_or-set_same _ (at + 2) _ 0 (longer _ (at + 1) _ _ (longer _ at _ _ (omega arith)));
   fourth = get_or-set_same _ (at + 3) _ 0 (longer _ (at + 2) _ _ (longer _ (at + 1) _ _ (longer _ at _ _ (omega arith))));
 }

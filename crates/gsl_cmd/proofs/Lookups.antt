@@ -316,7 +316,7 @@ module _ (p : Program) (fits : IsProgram p) where
     binding = binding_is;
     buffer = buffer_is;
     constant = λ value among.
-      ap (global_of (code_of p) (constant_id constants value)) (constant_is _ among.at) ∙ ap (λ v. Some (Word v)) (value_at constants value among.at);
+        ap (global_of (code_of p) (constant_id constants value)) (constant_is _ among.at) ∙ ap (λ v. Some (Word v)) (value_at constants value among.at);
   }
 
   -- The entry ------------------------------------------------------------------------------------------------

@@ -166,8 +166,8 @@ module _ (m : Module) (input : Input) (members : ℕ) (constants : List ℕ) (be
         };
         fewer = omega arith;
         stretch =
-          stretch_on m (pointer_step next i _ ids bytes store.choices begun ready.0 ready.1)
-          (load_step (next + 1) next i rest ids1 bytes store.choices (give_same ids next (Points (member_at i))));
+            stretch_on m (pointer_step next i _ ids bytes store.choices begun ready.0 ready.1)
+            (load_step (next + 1) next i rest ids1 bytes store.choices (give_same ids next (Points (member_at i))));
       }
   term_follows next (Literal n) rest ids bytes store u begun holds ready = record {
     ids = ids;
@@ -254,9 +254,9 @@ module _ (m : Module) (input : Input) (members : ℕ) (constants : List ℕ) (be
         given = begun_on next ids ids2 begun (λ j h. give_other ids1 target j (Points (member_at s.target)) (omega arith) ∙ has.kept j h) (next + statement_ids constants s) (omega arith);
         fewer = omega arith;
         stretch =
-          stretch_on m (pointer_step target s.target _ ids1 bytes1 store1.choices (begun1 target (omega arith)) ready.target ready.among)
-          (store_step target value s.target v rest ids2 bytes1 store1.choices (give_same ids1 target (Points (member_at s.target)))
-          (give_other ids1 target value (Points (member_at s.target)) (omega (arith, bound)) ∙ has.value));
+            stretch_on m (pointer_step target s.target _ ids1 bytes1 store1.choices (begun1 target (omega arith)) ready.target ready.among)
+            (store_step target value s.target v rest ids2 bytes1 store1.choices (give_same ids1 target (Points (member_at s.target)))
+            (give_other ids1 target value (Points (member_at s.target)) (omega (arith, bound)) ∙ has.value));
       })
 
   behind_follows : (flow : Flow) (go : Store → ℕ → Ran Flow) (u : ℕ) (s : State) (rest : Code) (Q : Flow → Ids → Type 0) (store : Store) →
