@@ -6,7 +6,7 @@ use Rattle.std.proofs.lemmas.List.{length-set, length-map, get_or-set_same, get_
 use Rattle.gsl_base.specs.declared.input.Buffer.{Buffer}
 use Rattle.gsl_cmd.specs.Words.{word_at, put_word}
 use Rattle.gsl_cmd.specs.Buffers.{is_at, bytes_at, with_bytes, word_offset, seen, put_words}
-use Rattle.gsl_cmd.specs.Proper.{AreBytes, IsBuffer}
+use Rattle.gsl_cmd.specs.Proper.{AreBytes, FitsBuffer}
 use Rattle.gsl_cmd.proofs.Bytes.{put-length, word_at-put, word_before, word_behind, put-put_before, put-put_same, put-word_at, byte_small}
 
 -- Words and bytes ----------------------------------------------------------------------------------------
@@ -159,7 +159,7 @@ module _ (s b : ℕ) where
       by_test true again e = let same : bytes ≡ buffer.bytes = cc in ap (λ l. record buffer { bytes = l } ∷ buffers) same
       by_test false again e = ap (λ l. buffer ∷ l) (again e)
 
-  pub bytes_of_buffer : (buffers : List Buffer) (bytes : List ℕ) → AllByRecursion IsBuffer buffers → bytes_at buffers s b ≡ Some bytes → AreBytes bytes
+  pub bytes_of_buffer : (buffers : List Buffer) (bytes : List ℕ) → AllByRecursion FitsBuffer buffers → bytes_at buffers s b ≡ Some bytes → AreBytes bytes
   bytes_of_buffer [] bytes all e = absurd cc
   bytes_of_buffer (buffer ∷ buffers) bytes all e = by_test (is_at s b buffer) (bytes_of_buffer buffers bytes all.1) e
     where

@@ -14,7 +14,6 @@ use Rattle.gsl_cmd.specs.declared.lowering.id.TheConstants as id
 use Rattle.gsl_cmd.specs.Form.{IsProgram}
 use Rattle.gsl_cmd.specs.Lowering.{Code, instr, constants_of, statements_code, first_id, module_of}
 use Rattle.gsl_cmd.specs.Buffers.{bytes_at, with_bytes, word_offset, seen, put_words}
-use Rattle.gsl_cmd.specs.Proper.{IsProper}
 use Rattle.gsl_cmd.specs.Needs.{Block, Met, and_met, given, ids_met, meets}
 use Rattle.gsl_cmd.specs.Fits.{needs_of, fits, fits_module}
 use Rattle.gsl_cmd.specs.Shader.{Ran, Got, Ends, Strays, Goes, Flow, SET, BINDING, block_bytes, begin, output_of, outcome_of, run_statements}
@@ -68,7 +67,7 @@ module _ (p : Program) (form : IsProgram p) (input : Input) (fitting : IsFitting
 
   holds : Holds members began (seen members began) began
   holds =
-      holds_seen members began (bytes_of_buffer SET BINDING input.buffers began fitting.proper.buffers began_is)
+      holds_seen members began (bytes_of_buffer SET BINDING input.buffers began fitting.types.buffers began_is)
       (omega (arith, block_given.enough, ap (λ o. length (unwrap_or o [])) block_given.is))
 
   abbrev the_end : Code

@@ -1,6 +1,6 @@
 -- The meanings of small shaders and of their modules, computed.
 use Rattle.std.specs.Prelude.{◌≡◌, ℕ, false, List, [], ◌∷◌, codes, None, Ok, Err}
-use Rattle.std.proofs.Common.{refl}
+use Rattle.std.proofs.Common.{inr, refl, arith}
 use Rattle.gsl_base.specs.declared.input.Buffer.{Buffer}
 use Rattle.gsl_base.specs.declared.input.Input.{Input}
 use Rattle.gsl_base.specs.declared.input.Output.{Output}
@@ -11,6 +11,8 @@ use Rattle.gsl_cmd.specs.declared.program.Program.{Program}
 use Rattle.gsl_cmd.specs.Lowering.{module_of}
 use Rattle.gsl_cmd.specs.Words.{word_sum, word_at, put_word}
 use Rattle.gsl_cmd.specs.Fits.{fits, fits_module}
+use Rattle.gsl_cmd.specs.Proper.{StandsBefore}
+use Rattle.gsl_cmd.specs.Carries.{IsFitting}
 use Rattle.gsl_cmd.specs.Shader as shader
 use Rattle.gsl_cmd.specs.Machine as machine
 
@@ -73,12 +75,35 @@ module_wraps : machine.after (module_of itself_and_great) 20 before ≡ machine.
 unfolding word_sum word_at put_word
 module_wraps = refl
 
+in_order : StandsBefore (buffer 0 (7 ∷ 0 ∷ 0 ∷ 0 ∷ 255 ∷ 255 ∷ 255 ∷ 255 ∷ 9 ∷ [])) (buffer 3 (1 ∷ []))
+in_order = inr (refl, omega arith)
+
 -- an input that serves, one without the buffer, one with seven bytes in it, and one of an invocation past its work group
 shader_takes : fits b_and_one before ≡ Ok tt
 shader_takes = refl
 
 module_takes : fits_module (module_of b_and_one) before ≡ Ok tt
 module_takes = refl
+
+before_fits : IsFitting b_and_one before
+before_fits = record {
+  proper = record { buffers = ((in_order, tt), (tt, tt)); ins = tt; comps = tt };
+  types = record {
+    buffers = (
+      record { set = omega arith; binding = omega arith; bytes = (omega arith, (omega arith, (omega arith, (omega arith, (omega arith, (omega arith, (omega arith, (omega arith, (omega arith, tt))))))))) },
+      (record { set = omega arith; binding = omega arith; bytes = (omega arith, tt) }, tt),
+    );
+    push = λ bytes e. absurd (cc);
+    ins = tt;
+    group = (refl, (omega arith, (omega arith, (omega arith, tt))));
+    local = (refl, (omega arith, (omega arith, (omega arith, tt))));
+    groups = (refl, (omega arith, (omega arith, (omega arith, tt))));
+    vertex = omega arith;
+    instance = omega arith;
+    choices = (omega arith, (omega arith, tt));
+  };
+  fits = refl;
+}
 
 shader_wants : fits b_and_one (input_of (buffer 3 (1 ∷ []) ∷ [])) ≡ Err (NoBuffer 0 0)
 shader_wants = refl

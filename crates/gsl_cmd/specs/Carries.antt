@@ -4,7 +4,7 @@ use Rattle.gsl_base.specs.declared.input.Input.{Input}
 use Rattle.gsl_base.specs.declared.input.Output.{Output}
 use Rattle.gsl_words.specs.declared.module.Module.{Module}
 use Rattle.gsl_cmd.specs.declared.program.Program.{Program}
-use Rattle.gsl_cmd.specs.Proper.{IsProper}
+use Rattle.gsl_cmd.specs.Proper.{IsProper, FitsTypes}
 use Rattle.gsl_cmd.specs.Shader as shader
 use Rattle.gsl_cmd.specs.Machine as machine
 use Rattle.gsl_cmd.specs.Fits.{fits, fits_module}
@@ -12,6 +12,7 @@ use Rattle.gsl_cmd.specs.Fits.{fits, fits_module}
 -- An input that a shader may be run on.
 pub record IsFitting (p : Program) (input : Input) : Type 0 where
   pub proper : IsProper input
+  pub types : FitsTypes input
   pub fits : fits p input ≡ Ok tt
 
 -- how many instructions a module may take for so many loop turns and calls
