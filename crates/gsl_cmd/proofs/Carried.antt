@@ -1,28 +1,26 @@
 -- The module of a program carries the program.
-use Rattle.std.proofs.Common.{◌≡◌, ◌≢◌, ◌↔◌, ℕ, zero, suc, ◌+◌, ◌*◌, ◌≤◌, List, [], ◌∷◌, length, Option, Some, None, Bool, true, false, cond, ltb, refl, ap, sym, ◌∙◌, arith}
+use Rattle.std.proofs.Common.{◌≡◌, ℕ, ◌≤◌, List, [], ◌∷◌, length, Option, Some, None, Bool, true, false, cond, ltb, refl, ap, sym, ◌∙◌, arith}
 use Rattle.std.specs.Prelude.{Ok, Err}
 use Rattle.std.specs.Option.{unwrap_or}
 use Rattle.std.proofs.lemmas.Bool.{ltb-false}
-use Rattle.gsl_base.specs.declared.input.Buffer.{Buffer}
 use Rattle.gsl_base.specs.declared.input.Input.{Input}
 use Rattle.gsl_base.specs.declared.input.Output.{Output}
-use Rattle.gsl_base.specs.declared.input.InputRefusal.TheVariants.{NoBuffer, TooShort}
+use Rattle.gsl_base.specs.declared.input.InputRefusal.TheVariants.{TooShort}
 use Rattle.gsl_words.specs.declared.module.Module.{Module}
 use Rattle.gsl_words.specs.declared.op.TheConstants as op
 use Rattle.gsl_cmd.specs.declared.program.Program.{Program}
 use Rattle.gsl_cmd.specs.declared.lowering.id.TheConstants as id
 use Rattle.gsl_cmd.specs.Form.{IsProgram}
 use Rattle.gsl_cmd.specs.Lowering.{Code, instr, constants_of, statements_code, first_id, module_of}
-use Rattle.gsl_cmd.specs.Buffers.{bytes_at, with_bytes, word_offset, seen, put_words}
-use Rattle.gsl_cmd.specs.Needs.{Block, Met, and_met, given, ids_met, meets}
-use Rattle.gsl_cmd.specs.Fits.{needs_of, fits, fits_module}
+use Rattle.gsl_cmd.specs.Buffers.{bytes_at, with_bytes, word_offset, seen}
+use Rattle.gsl_cmd.specs.Needs.{Block, Met, and_met, given, meets}
 use Rattle.gsl_cmd.specs.Shader.{Ran, Got, Ends, Strays, Goes, Flow, SET, BINDING, block_bytes, begin, output_of, outcome_of, run_statements}
 use Rattle.gsl_cmd.specs.Shader as shader
 use Rattle.gsl_cmd.specs.Machine.{Ids, State, Outcome, globals, start, entry, run, words_of}
 use Rattle.gsl_cmd.specs.Machine as machine
 use Rattle.gsl_cmd.specs.Carries.{IsFitting, limit, Runs, EndAlike}
 use Rattle.gsl_cmd.proofs.Blocks.{Holds, holds_seen, with_bytes-same, bytes_of_buffer}
-use Rattle.gsl_cmd.proofs.Stretches.{Stretch, Lasts, IsOver, one_end, one_step, stretch_on, whole}
+use Rattle.gsl_cmd.proofs.Stretches.{Stretch, one_end, one_step, stretch_on, whole}
 use Rattle.gsl_cmd.proofs.Follows.{state, Follows, follows_on}
 use Rattle.gsl_cmd.proofs.Simulation.{statements_follow}
 use Rattle.gsl_cmd.proofs.Among.{program_ready}

@@ -1,5 +1,5 @@
 -- What the sections of a program's module say.
-use Rattle.std.proofs.Common.{◌≡◌, ◌≢◌, ◌⊎◌, inl, inr, ℕ, zero, suc, ◌+◌, ◌-◌, ◌*◌, ◌<◌, ◌≤◌, List, [], ◌∷◌, ◌++◌, length, get_or, map, drop, Option, Some, None, Bool, true, false, cond, ◌==◌, ◌&&◌, eqb, eq-eqb, ne_eqb, refl, ap, sym, ◌∙◌, arith}
+use Rattle.std.proofs.Common.{◌≡◌, ◌≢◌, ◌⊎◌, inl, inr, ℕ, zero, suc, ◌+◌, ◌-◌, ◌*◌, ◌<◌, ◌≤◌, List, [], ◌∷◌, ◌++◌, length, get_or, map, drop, Option, Some, None, Bool, true, false, cond, ◌==◌, ◌&&◌, eq-eqb, ne_eqb, refl, ap, ◌∙◌, arith}
 use Rattle.std.specs.Option.{is_some, option_map, option_and_then}
 use Rattle.std.specs.List.{range_with_len, AllByRecursion, filter_map, cons_option}
 use Rattle.std.proofs.Math.ListN.{replicate}
@@ -10,21 +10,20 @@ use Rattle.gsl_words.specs.declared.module.Instr.{Instr}
 use Rattle.gsl_words.specs.declared.op.TheConstants as op
 use Rattle.gsl_words.specs.declared.enumerant.execution_mode.TheConstants as execution_mode
 use Rattle.gsl_words.specs.declared.enumerant.decoration.TheConstants as decoration
-use Rattle.gsl_words.specs.Instructions.{word_count}
 use Rattle.gsl_cmd.specs.declared.program.Term.{Term}
 use Rattle.gsl_cmd.specs.declared.program.Term.TheVariants.{Member, Literal}
 use Rattle.gsl_cmd.specs.declared.program.Statement.{Statement}
 use Rattle.gsl_cmd.specs.declared.program.Program.{Program}
 use Rattle.gsl_cmd.specs.declared.lowering.id.TheConstants as id
 use Rattle.gsl_cmd.specs.Form.{Name, IsProgram}
-use Rattle.gsl_cmd.specs.Lowering.{Code, instr, constants_of, constant_id, term_code, term_ids, term_value, more_code, sum_code, statements_code, statement_ids, first_id, function_code, constant_code, preamble, name_code, decoration_code, type_code, variable_code, code_of, module_of}
+use Rattle.gsl_cmd.specs.Lowering.{Code, instr, constants_of, constant_id, term_code, term_ids, more_code, sum_code, statements_code, statement_ids, first_id, function_code, constant_code, preamble, name_code, decoration_code, type_code, variable_code, code_of, module_of}
 use Rattle.gsl_cmd.specs.Buffers.{word_offset}
 use Rattle.gsl_cmd.specs.Sections.{has_at, begin_with, operands, operand, decoration_of, member_decoration_of, is_int, members_of, pointee_of, constant_of, variable_type_of}
 use Rattle.gsl_cmd.specs.Shader.{SET, BINDING}
-use Rattle.gsl_cmd.specs.Machine.{Value, Word, Points, globals, global_of, in_function, from_label, entry_code, entry, words_of}
+use Rattle.gsl_cmd.specs.Machine.{Word, Points, globals, global_of, in_function, from_label, entry_code, entry, words_of}
 use Rattle.gsl_cmd.specs.Needs.{Block, Needs}
 use Rattle.gsl_cmd.specs.Fits.{needs_of, in_order, member_end, need_of, variable_block, operands_block, block_of, size_of_entry, local_size_of, module_needs}
-use Rattle.gsl_cmd.proofs.Simulation.{IsAmong, Knows, whole_block}
+use Rattle.gsl_cmd.proofs.Simulation.{Knows, whole_block}
 use Rattle.gsl_cmd.proofs.Among.{value_at}
 
 -- Any code ----------------------------------------------------------------------------------------------

@@ -1,5 +1,5 @@
 -- The code of a program's statements does what they do: one lemma for each construct, over the code that follows.
-use Rattle.std.proofs.Common.{◌≡◌, ◌≢◌, ℕ, zero, suc, ◌+◌, ◌*◌, ◌^◌, ◌<◌, ◌≤◌, List, [], ◌∷◌, length, get_or, set, Option, Some, Bool, true, cond, ◌==◌, eqb, eq-eqb, ne_eqb, ltb, refl, ap, sym, ◌∙◌, arith}
+use Rattle.std.proofs.Common.{◌≡◌, ◌≢◌, ℕ, ◌+◌, ◌^◌, ◌<◌, ◌≤◌, List, [], ◌∷◌, length, get_or, Some, true, cond, ◌==◌, eq-eqb, ne_eqb, refl, ap, ◌∙◌, arith}
 use Rattle.std.specs.List.{position_or_len, AllByRecursion}
 use Rattle.std.proofs.Math.ListN.{replicate}
 use Rattle.std.proofs.lemmas.Bool.{lt-ltb}
@@ -17,12 +17,12 @@ use Rattle.gsl_cmd.specs.Lowering.{Code, instr, constant_id, pointer, term_code,
 use Rattle.gsl_cmd.specs.Words.{word_sum, word_at, put_word}
 use Rattle.gsl_cmd.specs.Buffers.{bytes_at, with_bytes, word_offset}
 use Rattle.gsl_cmd.specs.Sections.{decoration_of, member_decoration_of, is_int, members_of}
-use Rattle.gsl_cmd.specs.Shader.{Store, Ran, Got, Flow, Normal, SET, BINDING, eval_term, eval_more, eval_sum, run_statement, run_statements, behind}
-use Rattle.gsl_cmd.specs.Machine.{Ids, give, globals, Value, Word, Points, Pointer, State, Outcome, Going, Strayed, Stuck, on, on_word, on_pointer, into_struct, walk, on_buffer, read, write, step, place_of}
+use Rattle.gsl_cmd.specs.Shader.{Store, Ran, Flow, Normal, SET, BINDING, eval_term, eval_more, eval_sum, run_statement, run_statements, behind}
+use Rattle.gsl_cmd.specs.Machine.{Ids, give, globals, Value, Word, Points, Pointer, State, Outcome, Going, Strayed, Stuck, on, on_word, on_pointer, into_struct, walk, on_buffer, read, write, place_of}
 use Rattle.gsl_cmd.proofs.Bytes.{sum_small}
 use Rattle.gsl_cmd.proofs.Blocks.{Holds, holds_put, bytes_at-with_bytes, with_bytes-with_bytes}
 use Rattle.gsl_cmd.proofs.Stretches.{Stretch, stretch_on, no_step, one_step}
-use Rattle.gsl_cmd.proofs.Follows.{state, Reaches, Follows, follows_on, follows_bind, follows_less}
+use Rattle.gsl_cmd.proofs.Follows.{state, Follows, follows_on, follows_bind, follows_less}
 
 pub give_same : (ids : Ids) (i : ℕ) (v : Value) → give ids i v i ≡ Some v
 give_same ids i v = ap (λ b. cond b (Some v) (ids i)) (eq-eqb i i refl)
