@@ -8,6 +8,7 @@
 
 mod boxed;
 mod fault;
+mod input;
 mod list;
 mod memory;
 mod stage;
@@ -15,6 +16,9 @@ mod text;
 
 pub use boxed::Boxed;
 pub use fault::{Code, Fault, Place, Refusal};
+pub use input::{
+    Buffer, Buffers, Choices32, Comps, Input, InputRefusal, Ins, Located, Output, Outs,
+};
 pub use list::List;
 pub use memory::Memory;
 pub use stage::Stage;

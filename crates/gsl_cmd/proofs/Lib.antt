@@ -30,3 +30,12 @@ pub mod ValidModule
 pub mod Placement
 pub mod Sizes
 pub mod Wrote
+pub mod Example
+pub mod Bytes
+pub mod Blocks
+pub mod Stretches
+pub mod Follows
+pub mod Simulation
+pub mod Among
+pub mod Lookups
+pub mod Carried

@@ -10,8 +10,7 @@ use Rattle.gsl_cmd.specs.Performs.{Performs, effect_on}
 use Rattle.gsl_cmd.specs.Plan.{Plan}
 use Rattle.gsl_cmd.specs.Written.{Written}
 use Rattle.gsl_base.specs.declared.stage.Stage.{Stage}
-use Rattle.gsl_cmd.proofs.ValidModule.{module_valid}
-use Rattle.gsl_cmd.proofs.Placement.{module_placed}
+use Rattle.gsl_cmd.proofs.Carried.{program_carries}
 use Rattle.gsl_cmd.proofs.Sizes.{module_small}
 
 module _ (stage : Stage) (out : Name) (names : List Name) (before : Files) (after : Option Files) (job : Job)
@@ -28,8 +27,7 @@ module _ (stage : Stage) (out : Name) (names : List Name) (before : Files) (afte
     e,
     right,
     files ∙ ap Some (ap (λ (j : Job). effect_on j.effect before) is),
-    module_valid p right.spelled.fits,
-    module_placed p right.spelled.fits,
+    program_carries p right.spelled.fits,
     module_small p right.spelled.fits,
   )
 

@@ -11,3 +11,12 @@ pub mod Layout
 pub mod Places
 pub mod Weight
 pub mod Written
+pub mod Words
+pub mod Buffers
+pub mod Proper
+pub mod Needs
+pub mod Shader
+pub mod Sections
+pub mod Machine
+pub mod Fits
+pub mod Carries

@@ -9,12 +9,11 @@ use Rattle.gsl_base.specs.declared.fault.Refusal.{Refusal}
 use Rattle.gsl_base.specs.declared.fault.Refusal.TheVariants as refusal
 use Rattle.gsl_base.specs.Checked.{Checked}
 use Rattle.gsl_words.specs.Bytes.{bytes_of}
-use Rattle.gsl_valid.specs.Valid.{Valid}
 use Rattle.gsl_cmd.specs.declared.compiling.TheConstants.{MAX_SOURCE_BYTES}
 use Rattle.gsl_cmd.specs.declared.program.Program.{Program}
 use Rattle.gsl_cmd.specs.Form.{Spells}
 use Rattle.gsl_cmd.specs.Lowering.{module_of}
-use Rattle.gsl_cmd.specs.Places.{Places}
+use Rattle.gsl_cmd.specs.Carries.{Carries}
 use Rattle.gsl_cmd.specs.Weight.{IsSmall}
 
 -- the fault of this code at the first line of a unit
@@ -48,10 +47,10 @@ abbrev pub Judges : Stage → List (List ℕ) → Checked Program → Type 0
 Judges stage sources (Ok p) = Accepts stage sources p
 Judges stage sources (Err fault) = FirstFault stage sources fault
 
--- What compiling the sources answers: the file of the program's module, which is valid, places the program and is
--- small for it, or the sources' first fault.
+-- What compiling the sources answers: the file of the program's module, which carries the program and is small for it,
+-- or the sources' first fault.
 abbrev pub Compiles : Stage → List (List ℕ) → Result (List ℕ) Refusal → Type 0
 Compiles stage sources (Ok bytes) =
-    (p : Program) × Accepts stage sources p × (bytes ≡ bytes_of (module_of p)) × Valid (module_of p) × Places (module_of p) p × IsSmall (module_of p) p
+    (p : Program) × Accepts stage sources p × (bytes ≡ bytes_of (module_of p)) × Carries (module_of p) p × IsSmall (module_of p) p
 Compiles stage sources (Err (refusal.Source fault)) = FirstFault stage sources fault
 Compiles stage sources (Err refusal.Memory) = Unit {0}

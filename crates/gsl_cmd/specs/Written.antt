@@ -4,17 +4,16 @@ use Rattle.std.specs.FinMap.{insert}
 use Rattle.gsl_host.specs.Outside.{Files}
 use Rattle.gsl_words.specs.Bytes.{bytes_of}
 use Rattle.gsl_words.specs.declared.module.Module.{Module}
-use Rattle.gsl_valid.specs.Valid.{Valid}
 use Rattle.gsl_cmd.specs.declared.program.Program.{Program}
 use Rattle.gsl_cmd.specs.Job.{gather, Sources}
-use Rattle.gsl_cmd.specs.Places.{Places}
+use Rattle.gsl_cmd.specs.Carries.{Carries}
 use Rattle.gsl_cmd.specs.Plan.{Plan}
 use Rattle.gsl_cmd.specs.Verdict.{Accepts}
 use Rattle.gsl_cmd.specs.Weight.{IsSmall}
 
--- The sources that the plan names give a program, and OUT is now the file of a module that is valid, places the
--- program, and is small for it. All other files are as before.
+-- The sources that the plan names give a program, and OUT is now the file of a module that carries it and is
+-- small for it. All other files are as before.
 abbrev pub Written : Plan → Files → Option Files → Type 0
 Written (Plan.Compile stage out names) before after =
     (sources : List (List ℕ)) × (p : Program) × (m : Module) × (gather before 0 names ≡ Sources sources) × Accepts stage sources p
-    × (after ≡ Some (insert before out (bytes_of m))) × Valid m × Places m p × IsSmall m p
+    × (after ≡ Some (insert before out (bytes_of m))) × Carries m p × IsSmall m p

@@ -12,6 +12,7 @@ mod command;
 mod compiling;
 mod laws;
 mod lowering;
+mod meaning;
 mod plan;
 mod program;
 mod reading;
@@ -21,6 +22,7 @@ mod validity;
 pub use command::glsl_main;
 pub use compiling::{MAX_SOURCE_BYTES, compile};
 pub use laws::{one_job, one_program, one_verdict};
+pub use meaning::{headline, module_runs};
 pub use program::{
     MAX_MEMBERS, MAX_STATEMENTS, MAX_TERMS, Names, Program, Statement, Statements, Term, Terms,
 };

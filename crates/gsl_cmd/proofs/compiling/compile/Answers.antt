@@ -3,8 +3,7 @@ use Rattle.gsl_base.specs.declared.stage.Stage.TheVariants.{Compute}
 use Rattle.gsl_cmd.specs.declared.program.Program.{Program}
 use Rattle.gsl_cmd.specs.Form.{Spells}
 use Rattle.gsl_cmd.proofs.Verdicts.{one_source, fault_long, fault_form, accepted}
-use Rattle.gsl_cmd.proofs.ValidModule.{module_valid}
-use Rattle.gsl_cmd.proofs.Placement.{module_placed}
+use Rattle.gsl_cmd.proofs.Carried.{program_carries}
 use Rattle.gsl_cmd.proofs.Sizes.{module_small}
 use Rattle.gsl_cmd.proofs.compiling.compile.Goals as goal
 
@@ -29,7 +28,6 @@ returns-in_ok-file_of-in-Some c =
       accepted c.args.stage c.args.sources.now c.index.result.now (one_source _ _ c.requires c.index.ensures) found.0 (omega (arith, count)) c.in-Some.program
           (subst (λ (s : List ℕ). Spells s c.in-Some.program) c.as_slice-source.ensures found.1),
       c.in_ok-file_of-in-Some.ensures,
-      module_valid c.in-Some.program fits,
-      module_placed c.in-Some.program fits,
+      program_carries c.in-Some.program fits,
       module_small c.in-Some.program fits,
     )

@@ -1,0 +1,61 @@
+-- Which inputs are proper, and which have numbers that fit their types.
+use Rattle.std.specs.Prelude.{◌≡◌, ℕ, ◌^◌, ◌<◌, ◌≤◌, ◌⊎◌, List, [], ◌∷◌, length, ⊤}
+use Rattle.std.specs.Option.{ForSome}
+use Rattle.std.specs.List.{AllByRecursion}
+use Rattle.gsl_base.specs.declared.input.Buffer.{Buffer}
+use Rattle.gsl_base.specs.declared.input.Located.{Located}
+use Rattle.gsl_base.specs.declared.input.Input.{Input}
+
+-- Each item stands before all that follow it.
+abbrev pub Ascends : {X : Type 0} → (X → X → Type 0) → List X → Type 0
+Ascends Before [] = ⊤
+Ascends Before (x ∷ xs) = AllByRecursion (Before x) xs × Ascends Before xs
+
+-- by set, and at one set by binding
+abbrev pub StandsBefore : Buffer → Buffer → Type 0
+StandsBefore a b = (a.set < b.set) ⊎ ((a.set ≡ b.set) × (a.binding < b.binding))
+
+abbrev pub IsLower : Located → Located → Type 0
+IsLower a b = a.location < b.location
+
+-- A value at a location has one to four words.
+pub record IsComps (value : Located) : Type 0 where
+  pub some : 1 ≤ length value.words
+  pub most : length value.words ≤ 4
+
+-- Buffers stand in ascending order of set and binding, and values in ascending order of location.
+pub record IsProper (input : Input) : Type 0 where
+  pub buffers : Ascends StandsBefore input.buffers
+  pub ins : Ascends IsLower input.ins
+  pub comps : AllByRecursion IsComps input.ins
+
+abbrev pub AreBytes : List ℕ → Type 0
+AreBytes bytes = AllByRecursion (λ byte. byte < 256) bytes
+
+abbrev pub AreWords : List ℕ → Type 0
+AreWords words = AllByRecursion (λ word. word < 2 ^ 32) words
+
+-- the three parts of a number of a work group or of an invocation
+abbrev pub AreThreeWords : List ℕ → Type 0
+AreThreeWords words = (length words ≡ 3) × AreWords words
+
+pub record FitsBuffer (buffer : Buffer) : Type 0 where
+  pub set : buffer.set < 2 ^ 32
+  pub binding : buffer.binding < 2 ^ 32
+  pub bytes : AreBytes buffer.bytes
+
+pub record FitsLocated (value : Located) : Type 0 where
+  pub location : value.location < 2 ^ 32
+  pub words : AreWords value.words
+
+-- Each number of the input is in the range of its type.
+pub record FitsTypes (input : Input) : Type 0 where
+  pub buffers : AllByRecursion FitsBuffer input.buffers
+  pub push : ForSome input.push AreBytes
+  pub ins : AllByRecursion FitsLocated input.ins
+  pub group : AreThreeWords input.group
+  pub local : AreThreeWords input.local
+  pub groups : AreThreeWords input.groups
+  pub vertex : input.vertex < 2 ^ 32
+  pub instance : input.instance < 2 ^ 32
+  pub choices : AreWords input.choices
