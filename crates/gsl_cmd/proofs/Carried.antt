@@ -11,6 +11,7 @@ use Rattle.gsl_words.specs.declared.op.TheConstants as op
 use Rattle.gsl_cmd.specs.declared.program.Program.{Program}
 use Rattle.gsl_cmd.specs.declared.lowering.id.TheConstants as id
 use Rattle.gsl_cmd.specs.Form.{IsProgram}
+use Rattle.gsl_cmd.specs.Fits.{fits}
 use Rattle.gsl_cmd.specs.Lowering.{Code, instr, constants_of, statements_code, first_id, module_of}
 use Rattle.gsl_cmd.specs.Buffers.{bytes_at, with_bytes, word_offset, seen}
 use Rattle.gsl_cmd.specs.Needs.{Block, Met, and_met, given, meets}
@@ -36,10 +37,10 @@ met_first (Ok tt) b e = refl
 met_first (Err refusal) b e = absurd (cc)
 
 -- the buffer of a block whose demand is met
-record IsGiven (block : Block) (o : Option (List ℕ)) : Type 0 where
-  bytes : List ℕ
-  is : o ≡ Some bytes
-  enough : block.need ≤ length bytes
+pub record IsGiven (block : Block) (o : Option (List ℕ)) : Type 0 where
+  pub bytes : List ℕ
+  pub is : o ≡ Some bytes
+  pub enough : block.need ≤ length bytes
 
 given_bytes : (block : Block) (o : Option (List ℕ)) → given block o ≡ Ok tt → IsGiven block o
 given_bytes block None e = absurd (cc)
@@ -48,6 +49,10 @@ given_bytes block (Some bytes) e = by_test (ltb (length bytes) block.need) refl 
     by_test : (b : Bool) → ltb (length bytes) block.need ≡ b → cond b (Err (TooShort block.set block.binding)) taken ≡ taken → IsGiven block (Some bytes)
     by_test true h e = absurd (cc)
     by_test false h e = record { bytes = bytes; is = refl; enough = ltb-false _ _ h }
+
+pub block_is_given : (p : Program) (input : Input) → fits p input ≡ Ok tt →
+    IsGiven (record { set = SET; binding = BINDING; need = word_offset (length p.members) }) (bytes_at input.buffers SET BINDING)
+block_is_given p input e = given_bytes _ _ (met_first _ _ (met_first _ _ e))
 
 module _ (p : Program) (form : IsProgram p) (input : Input) (fitting : IsFitting p input) where
   abbrev m : Module
@@ -60,7 +65,7 @@ module _ (p : Program) (form : IsProgram p) (input : Input) (fitting : IsFitting
   began = block_bytes input
 
   block_given : IsGiven (record { set = SET; binding = BINDING; need = word_offset members }) (bytes_at input.buffers SET BINDING)
-  block_given = given_bytes _ _ (met_first _ _ (met_first _ _ fitting.fits))
+  block_given = block_is_given p input fitting.fits
 
   began_is : bytes_at input.buffers SET BINDING ≡ Some began
   began_is = block_given.is ∙ ap (λ o. Some (unwrap_or o [])) (sym block_given.is)

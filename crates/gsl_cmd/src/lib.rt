@@ -4,7 +4,8 @@
 //! `glsl_main` carries what a run does, against the job of its words and files (`specs/Job.antt`,
 //! `specs/Performs.antt`), and `compile` what a source compiles to (`specs/Verdict.antt`). The sources
 //! that are taken so far are those of `specs/Form.antt`, and `specs/Lowering.antt` has the module of each,
-//! which is valid, placed as `specs/Places.antt` says and small as `specs/Weight.antt` says.
+//! which carries it as `specs/Carries.antt` says and is small as `specs/Weight.antt` says. The law `headline`
+//! says what that comes to.
 #![tactic(auto)]
 
 mod code;
@@ -22,8 +23,10 @@ mod validity;
 pub use command::glsl_main;
 pub use compiling::{MAX_SOURCE_BYTES, compile};
 pub use laws::{one_job, one_program, one_verdict};
+pub use lowering::lower;
 pub use meaning::{headline, module_runs};
 pub use program::{
     MAX_MEMBERS, MAX_STATEMENTS, MAX_TERMS, Names, Program, Statement, Statements, Term, Terms,
 };
+pub use reading::read_program;
 pub use validity::{module_is_placed, module_is_small, module_is_valid};
