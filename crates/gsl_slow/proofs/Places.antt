@@ -1,8 +1,8 @@
 -- The slow program of a shader against the shader's meaning.
-use Rattle.std.proofs.Common.{◌≡◌, ℕ, zero, suc, ◌+◌, ◌<◌, ◌≤◌, List, [], ◌∷◌, length, get_or, set, Option, Some, None, Bool, true, false, cond, not, ltb, refl, ap, sym, subst, ◌∙◌, arith}
+use Rattle.std.proofs.Common.{◌≡◌, ℕ, suc, ◌+◌, ◌<◌, ◌≤◌, List, [], ◌∷◌, length, get_or, set, Option, Some, None, Bool, true, false, cond, not, ltb, refl, ap, sym, ◌∙◌, arith}
 use Rattle.std.specs.Prelude.{Ok}
 use Rattle.std.specs.Option.{unwrap_or}
-use Rattle.std.specs.List.{position, position_or_len, AllByRecursion}
+use Rattle.std.specs.List.{position, position_or_len}
 use Rattle.std.proofs.Math.Numerals.{one-add}
 use Rattle.std.proofs.lemmas.Bool.{lt-ltb, ltb-true, ltb-false, le-ltb}
 use Rattle.gsl_base.specs.declared.input.Buffer.{Buffer}
@@ -14,7 +14,7 @@ use Rattle.gsl_cmd.specs.Buffers.{is_at, bytes_at, with_bytes, seen, put_words}
 use Rattle.gsl_cmd.specs.Fits.{fits}
 use Rattle.gsl_cmd.specs.Shader.{Got, Normal, SET, BINDING, block_bytes, run_statements, outcome_of}
 use Rattle.gsl_cmd.specs.Shader as shader
-use Rattle.gsl_slow.specs.Runs.{LeadsTo, IsRun}
+use Rattle.gsl_slow.specs.Runs.{IsRun}
 use Rattle.gsl_cmd.proofs.Carried.{block_is_given}
 
 abbrev some_zero : Option ℕ
@@ -77,6 +77,19 @@ module _ (s b : ℕ) where
             where
               not_below : ltb (1 + place buffers) (suc (length buffers)) ≡ false → ltb (place buffers) (length buffers) ≡ false
               not_below h = let past : suc (length buffers) ≤ 1 + place buffers = ltb-false _ _ h in le-ltb _ _ (omega arith)
+
+pub none_at : (s b : ℕ) (buffers : List Buffer) → None ≡ position (is_at s b) buffers → None ≡ bytes_at buffers s b
+none_at s b buffers e = by_option (bytes_at buffers s b) refl
+  where
+    by_option : (o : Option (List ℕ)) → bytes_at buffers s b ≡ o → None ≡ o
+    by_option None h = refl
+    by_option (Some bytes) h = absurd (no_place s b buffers bytes (sym e) h)
+
+pub some_at : (s b i : ℕ) (buffers : List Buffer) (before : Buffer) → Some i ≡ position (is_at s b) buffers → before ≡ get_or buffers i before → Some before.bytes ≡ bytes_at buffers s b
+some_at s b i buffers before e read =
+    let found = found_place s b buffers i (sym e) in
+    sym (bytes_at_place s b buffers before found.within
+    ∙ ap (λ k. Some (get_or buffers k before).bytes) (sym found.is) ∙ ap (λ (x : Buffer). Some x.bytes) (sym read))
 
 -- the slow program's answer is the shader's
 pub slow_shader_is : (p : Program) (input : Input) (i rest : ℕ) (before after : Buffer) (buffers : List Buffer) (outs : List Located) → position (is_at SET BINDING) input.buffers ≡ Some i →

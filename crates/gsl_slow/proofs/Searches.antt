@@ -1,7 +1,6 @@
 -- A loop that looks for an instruction.
-use Rattle.std.proofs.Common.{◌≡◌, ◌≢◌, ℕ, zero, suc, ◌+◌, List, [], ◌∷◌, length, get_or, drop, Option, Some, None, Bool, true, false, cond, ◌==◌, ◌&&◌, eq-eqb, ne_eqb, ap, sym, ◌∙◌, arith}
+use Rattle.std.proofs.Common.{◌≡◌, ◌≢◌, ℕ, zero, suc, ◌+◌, List, [], ◌∷◌, length, get_or, drop, Some, Bool, true, false, cond, ◌==◌, ◌&&◌, eq-eqb, ne_eqb, ap, sym, ◌∙◌, arith}
 use Rattle.std.specs.Prelude.{slice_get, IsSomeAnd}
-use Rattle.gsl_words.specs.declared.module.Instr.{Instr}
 use Rattle.gsl_cmd.specs.Lowering.{Code, instr}
 use Rattle.gsl_words.specs.declared.module.Module.{Module}
 use Rattle.gsl_words.specs.declared.op.TheConstants as op

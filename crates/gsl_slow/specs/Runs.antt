@@ -3,7 +3,7 @@ use Rattle.std.specs.Prelude.{◌≡◌, ℕ, List, length}
 use Rattle.gsl_base.specs.declared.input.Buffer.{Buffer}
 use Rattle.gsl_cmd.specs.declared.program.Program.{Program}
 use Rattle.gsl_cmd.specs.Buffers.{seen, put_words}
-use Rattle.gsl_cmd.specs.Shader.{Store, Got, Normal, run_statements}
+use Rattle.gsl_cmd.specs.Shader.{Got, Normal, run_statements}
 
 -- The statements lead from the words of the block in these bytes to these words.
 pub record LeadsTo (p : Program) (bytes words : List ℕ) : Type 0 where

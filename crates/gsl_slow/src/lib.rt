@@ -8,4 +8,4 @@ mod machine;
 mod shader;
 
 pub use machine::{SlowRun, run_module};
-pub use shader::run_shader;
+pub use shader::{fits_shader, run_shader};

@@ -531,23 +531,32 @@ fn act(
 }
 
 /// The first word of the instruction at an index, in the module's file with its header of five words.
-fn place(m: &Module, at: usize) -> u64
-    requires short { meaning.words_of m.now.instrs < 2 ^ 32 }
+/// Where that passes 64 bits, the slow program gives up as for want of memory.
+fn place(m: &Module, at: usize) -> Result<u64, Memory>
     requires count { length m.now.instrs < 2 ^ 32 }
     requires within { at ≤ length m.now.instrs }
-    ensures { result ≡ meaning.place_of m.now (drop at m.now.instrs) }
+    ensures { IfOk result (λ place. place ≡ meaning.place_of m.now (drop at m.now.instrs)) }
 {
-    let mut words = 0u64;
+    let mut words = 5u64;
     for i in 0..at {
         let args = m.instrs.args(i as u32);
-        words += 1 + args.len() as u64;
+        words = word_sum_64(words, 1 + args.len() as u64)?;
     }
-    5 + words
+    Ok(words)
+}
+
+/// A sum of counts of words.
+fn word_sum_64(a: u64, b: u64) -> Result<u64, Memory>
+    ensures { IfOk result (λ sum. sum ≡ a + b) }
+{
+    match a.checked_add(b) {
+        None => Err(Memory),
+        Some(sum) => Ok(sum),
+    }
 }
 
 /// Does the next instruction.
 fn step(alloc: Global, m: &Module, machine: &mut SlowMachine) -> Result<Stopped, Memory>
-    requires short { meaning.words_of m.now.instrs < 2 ^ 32 }
     requires count { length m.now.instrs < 2 ^ 32 }
     ensures { IfOk result (λ stopped. (choices : List ℕ) → meaning.step m.now (state_of m.now.instrs choices machine.old) ≡ stopped_outcome stopped (state_of m.now.instrs choices machine.new)) }
 {
@@ -561,14 +570,16 @@ fn step(alloc: Global, m: &Module, machine: &mut SlowMachine) -> Result<Stopped,
     match act(alloc, &m.instrs, machine, action_of(opcode, args))? {
         Stepped::Going => Ok(Stopped::Going),
         Stepped::Ended => Ok(Stopped::Ended),
-        Stepped::Strayed => Ok(Stopped::Strayed(place(m, at))),
+        Stepped::Strayed => {
+            let place = place(m, at)?;
+            Ok(Stopped::Strayed(place))
+        }
         Stepped::Stuck => Ok(Stopped::Stuck),
     }
 }
 
 /// Does so many instructions, as long as the run goes on.
 fn run(alloc: Global, m: &Module, machine: &mut SlowMachine, steps: u32) -> Result<Stopped, Memory>
-    requires short { meaning.words_of m.now.instrs < 2 ^ 32 }
     requires count { length m.now.instrs < 2 ^ 32 }
     ensures { IfOk result (λ stopped. (choices : List ℕ) → meaning.run m.now steps (state_of m.now.instrs choices machine.old) ≡ stopped_outcome stopped (state_of m.now.instrs choices machine.new)) }
 {
@@ -624,13 +635,15 @@ fn entry_at(instrs: &Instrs) -> usize
     }
 }
 
-/// Runs a module on an input for so many instructions. Its answer is the definition's.
+/// Runs a module on an input for so many instructions. Its answer is the definition's. A module of more
+/// instructions than 32 bits count is given up as for want of memory.
 pub fn run_module(alloc: Global, m: &Module, input: Input, steps: u32) -> Result<SlowRun, Memory>
-    requires short { meaning.words_of m.now.instrs < 2 ^ 32 }
-    requires count { length m.now.instrs < 2 ^ 32 }
     requires choices { length input.choices < 2 ^ 32 }
     ensures { IfOk result (λ ran. IsOutcome ran (meaning.after m.now steps input)) }
 {
+    if m.instrs.len() > u32::MAX as usize {
+        return Err(Memory);
+    }
     let Input {
         buffers,
         choices,

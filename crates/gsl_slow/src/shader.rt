@@ -4,14 +4,15 @@ ghost use Rattle.std.specs.Prelude.{◌≡◌, ◌+◌, ◌*◌, ◌^◌, ◌<�
 ghost use Rattle.std.specs.List.{AllByRecursion};
 ghost use Rattle.gsl_cmd.specs.Form.{IsTerm, IsStatement, IsProgram};
 ghost use Rattle.gsl_cmd.specs.Words as spec;
-ghost use Rattle.gsl_cmd.specs.Buffers.{is_at, seen, put_words};
+ghost use Rattle.gsl_cmd.specs.Buffers.{is_at, bytes_at, word_offset, seen, put_words};
+ghost use Rattle.gsl_cmd.specs.Needs as needs;
 ghost use Rattle.gsl_cmd.specs.Fits.{fits};
 ghost use Rattle.gsl_slow.specs.Runs.{IsRun};
 ghost use Rattle.gsl_cmd.specs.Shader.{Store, Got, Flow, Normal};
 ghost use Rattle.gsl_cmd.specs.Shader as shader;
 
+use gsl_base::{Buffer, Bytes, Comps, Input, InputRefusal, List, Memory, Output, Outs};
 use gsl_cmd::{Program, Statement, Term};
-use gsl_base::{Buffer, Bytes, Comps, Input, List, Memory, Output, Outs};
 use std::alloc::Global;
 use std::mem;
 
@@ -165,6 +166,50 @@ pub(crate) fn place_of(buffers: &[Buffer], set: u32, binding: u32) -> Option<usi
     buffers
         .iter()
         .position(|buffer| buffer.set == set && buffer.binding == binding)
+}
+
+/// The answer on the block's buffer: it is there, and long enough.
+fn block_given(program: &Program, buffers: &[Buffer]) -> Result<(), InputRefusal>
+    requires { IsProgram program.now }
+    ensures { result ≡ needs.given (record { set = 0; binding = 0; need = word_offset (length program.now.members) }) (bytes_at buffers.now 0 0) }
+{
+    match place_of(buffers, 0, 0) {
+        None => Err(InputRefusal::NoBuffer(0, 0)),
+        Some(place) => {
+            if buffers[place].bytes.len() < 4 * program.members.len() {
+                Err(InputRefusal::TooShort(0, 0))
+            } else {
+                Ok(())
+            }
+        }
+    }
+}
+
+/// Whether each part is below its bound.
+fn all_below(parts: &[u32], bounds: &[u32]) -> bool
+    ensures { result ≡ needs.all_below parts.now bounds.now }
+{
+    match parts {
+        [] => true,
+        [part, parts @ ..] => match bounds {
+            [] => false,
+            [bound, bounds @ ..] => *part < *bound && all_below(parts, bounds),
+        },
+    }
+}
+
+/// Whether an input fits the shader, or else the first refusal.
+pub fn fits_shader(program: &Program, input: &Input) -> Result<(), InputRefusal>
+    requires { IsProgram program.now }
+    ensures { result ≡ fits program.now input.now }
+{
+    block_given(program, input.buffers.as_slice())?;
+    let size = [1, 1, 1];
+    if all_below(&input.local, &size) && all_below(&input.group, &input.groups) {
+        Ok(())
+    } else {
+        Err(InputRefusal::BadIds)
+    }
 }
 
 /// Runs the shader on an input that fits. Its answer is the definition's, whatever the budget.

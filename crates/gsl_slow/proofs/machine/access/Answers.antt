@@ -1,9 +1,7 @@
-use Rattle.std.proofs.Common.{ap, sym, ◌∙◌, ℕ, List}
-use Rattle.gsl_base.specs.declared.input.Buffer.{Buffer}
-use Rattle.gsl_cmd.specs.Words.{word_sum}
-use Rattle.gsl_cmd.specs.Machine.{Pointer, State, Word, Points, Outcome, Going, give, on, on_word, walk, read, write}
-use Rattle.gsl_slow.specs.States.{pointer_of, pointer_in, word_in, ids_of, state_of, walked_outcome, written_outcome}
-use Rattle.gsl_slow.proofs.Actions.{pointer_given, word_given}
+use Rattle.std.proofs.Common.{ap, sym, ◌∙◌}
+use Rattle.gsl_cmd.specs.Machine.{Pointer, State, Points, Going, give, walk}
+use Rattle.gsl_slow.specs.States.{pointer_of, pointer_in, ids_of, state_of, walked_outcome}
+use Rattle.gsl_slow.proofs.Actions.{pointer_given}
 use Rattle.gsl_slow.proofs.machine.access.Goals as goal
 
 pub returns-in_ok-give-in-Reached : goal.returns-in_ok-give-in-Reached

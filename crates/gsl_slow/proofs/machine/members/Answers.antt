@@ -1,7 +1,7 @@
-use Rattle.std.proofs.Common.{Some, ap, sym, ◌∙◌, drop, get_or, eq-eqb, ne_eqb}
+use Rattle.std.proofs.Common.{Some, ap, sym, ◌∙◌, drop, eq-eqb, ne_eqb}
 use Rattle.std.specs.Option.{option_map}
 use Rattle.gsl_words.specs.declared.op.TheConstants as op
-use Rattle.gsl_cmd.specs.Sections.{begin_with, has_at}
+use Rattle.gsl_cmd.specs.Sections.{has_at}
 use Rattle.gsl_slow.proofs.Searches.{passed_op, passed_test, met}
 use Rattle.gsl_slow.proofs.machine.members.Goals as goal
 use Rattle.gsl_slow.proofs.machine.members.Goals.{else-op-eq-TYPE_STRUCT-via-then-op-eq-TYPE_STRUCT+else-operand_at-of, else-op-eq-TYPE_STRUCT-via-else-op-eq-TYPE_STRUCT}

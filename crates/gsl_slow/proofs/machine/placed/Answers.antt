@@ -1,7 +1,6 @@
-use Rattle.std.proofs.Common.{Some, ap, sym, ◌∙◌, drop, get_or, eq-eqb, ne_eqb}
+use Rattle.std.proofs.Common.{Some, ap, sym, ◌∙◌, get_or, eq-eqb, ne_eqb}
 use Rattle.std.specs.Option.{option_map}
-use Rattle.gsl_words.specs.declared.op.TheConstants as op
-use Rattle.gsl_cmd.specs.Sections.{begin_with, has_at}
+use Rattle.gsl_cmd.specs.Sections.{has_at}
 use Rattle.gsl_slow.proofs.Searches.{passed_op, passed_test, met}
 use Rattle.gsl_slow.proofs.machine.placed.Goals as goal
 use Rattle.gsl_slow.proofs.machine.placed.Goals.{else-op-opcode-via-then-op-opcode+else-operand_at-word, else-op-opcode-via-else-op-opcode}

@@ -1,5 +1,4 @@
 use Rattle.std.proofs.Common.{◌≡◌, drop}
-use Rattle.gsl_words.specs.declared.op.TheConstants as op
 use Rattle.gsl_cmd.specs.Sections.{has_at, operands}
 use Rattle.gsl_slow.proofs.machine.placed.Given as goal
 

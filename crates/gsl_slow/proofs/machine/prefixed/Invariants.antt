@@ -1,5 +1,4 @@
 use Rattle.std.proofs.Common.{◌≡◌, drop}
-use Rattle.gsl_words.specs.declared.op.TheConstants as op
 use Rattle.gsl_cmd.specs.Sections.{begin_with, operands}
 use Rattle.gsl_slow.proofs.machine.prefixed.Given as goal
 

@@ -21,7 +21,7 @@ returns-in-Ended c =
     ap (run m c.args.steps) (started m c.args.input (drop c.entry_at.result m.instrs) c.new.result.items c.into_vec.result.items c.entry_at.ensures c.new.ensures.items c.into_vec.ensures)
     ∙ c.in_ok-stopped.ensures c.args.input.choices
     ∙ ap (λ stopped. stopped_outcome stopped s) c.in-Ended.is
-    ∙ ended_same s.buffers c.from_vec.result c.new-in-Ended.result (length c.args.input.choices) c.len.result c.from_vec.ensures c.new-in-Ended.ensures c.len.ensures
+    ∙ ended_same s.buffers c.from_vec.result c.new-in-Ended.result (length c.args.input.choices) c.len-in-Ended.result c.from_vec.ensures c.new-in-Ended.ensures c.len-in-Ended.ensures
 
 pub returns-in-Strayed : goal.returns-in-Strayed
 returns-in-Strayed c =

@@ -27,8 +27,8 @@ returns-in-Ended c = λ choices.
     ∙ c.in_ok-act.ensures here choices
     ∙ ap (λ stepped. stepped_outcome here stepped (state_of m.instrs choices c.act.new.machine)) c.in-Ended.is
 
-pub returns-in-Strayed : goal.returns-in-Strayed
-returns-in-Strayed c = λ choices.
+pub returns-in_ok-place-in-Strayed : goal.returns-in_ok-place-in-Strayed
+returns-in_ok-place-in-Strayed c = λ choices.
     let m = c.args.m.now in
     let s = state_of m.instrs choices c.args.machine.now in
     let here = place_of m (drop c.args.machine.now.at m.instrs) in
@@ -36,7 +36,7 @@ returns-in-Strayed c = λ choices.
     step_here m s c.args.machine.now.at c.op-opcode.result c.args-args.result.now c.op-opcode.ensures c.args-args.ensures
     ∙ ap (act m.instrs here behind) (sym c.action_of.ensures)
     ∙ c.in_ok-act.ensures here choices
-    ∙ ap (λ stepped. stepped_outcome here stepped (state_of m.instrs choices c.act.new.machine)) c.in-Strayed.is ∙ ap machine.Strayed (sym c.place.ensures)
+    ∙ ap (λ stepped. stepped_outcome here stepped (state_of m.instrs choices c.act.new.machine)) c.in-Strayed.is ∙ ap machine.Strayed (sym c.in_ok-place-in-Strayed.ensures)
 
 pub returns-in-Stuck : goal.returns-in-Stuck
 returns-in-Stuck c = λ choices.
