@@ -27,7 +27,7 @@ fn repeated(alloc: Global, text: &str, separator: &str, times: u32) -> Result<St
 }
 
 /// So many members, of names that differ.
-fn members(alloc: Global, count: u32) -> Result<String, AllocError> {
+pub fn members(alloc: Global, count: u32) -> Result<String, AllocError> {
     let mut all = String::from_str(alloc, "int a;")?;
     for i in 1..count {
         let member = format!(in alloc; " int m{i};")?;
@@ -37,7 +37,7 @@ fn members(alloc: Global, count: u32) -> Result<String, AllocError> {
 }
 
 /// An assignment of so many terms.
-fn sum(alloc: Global, count: u32) -> Result<String, AllocError> {
+pub fn sum(alloc: Global, count: u32) -> Result<String, AllocError> {
     let terms = repeated(alloc, "a", " + ", count)?;
     format!(in alloc; "a = {terms};")
 }

@@ -1,5 +1,5 @@
-//! Worked examples of whole runs: command lines over hosts in memory, and what they give. It has no
-//! call of its own.
+//! Worked examples of whole runs: command lines over hosts in memory, and what they give; shaders and
+//! their modules on buffers, run side by side. It has no call of its own.
 #![tactic(auto)]
 
 #[cfg(test)]
@@ -8,5 +8,7 @@ mod compiling;
 mod faults;
 #[cfg(test)]
 mod form;
+#[cfg(test)]
+mod meaning;
 #[cfg(test)]
 mod runs;
