@@ -24,6 +24,7 @@ needs_of p = record {
   local_size = Some (1 ∷ 1 ∷ 1 ∷ []);
 }
 
+-- the shader's answer to an input
 abbrev pub fits : Program → Input → Met
 fits p input = meets (needs_of p) input
 
@@ -33,10 +34,12 @@ fits p input = meets (needs_of p) input
 abbrev pub comes_before : Block → Block → Bool
 comes_before a b = nat_lt a.set b.set || (a.set == b.set && nat_lt a.binding b.binding)
 
+-- a block in its place among others in order
 abbrev pub put_in_order : Block → List Block → List Block
 put_in_order block [] = block ∷ []
 put_in_order block (other ∷ others) = if comes_before other block then other ∷ put_in_order block others else block ∷ other ∷ others
 
+-- blocks by set and binding
 abbrev pub in_order : List Block → List Block
 in_order [] = []
 in_order (block ∷ blocks) = put_in_order block (in_order blocks)
@@ -68,6 +71,7 @@ module _ (code : Code) where
   abbrev pub block_of : Instr → Option Block
   block_of i = if i.op == op.VARIABLE then operands_block i.args else None
 
+  -- by the operands of the entry point
   abbrev pub size_of_entry : Option (List ℕ) → Option (List ℕ)
   size_of_entry None = None
   size_of_entry (Some entry) =
@@ -79,8 +83,10 @@ module _ (code : Code) where
   abbrev pub local_size_of : Option (List ℕ)
   local_size_of = size_of_entry (operands op.ENTRY_POINT (λ args. true) code)
 
+-- the blocks of the module's variables, and the size of its work groups
 abbrev pub module_needs : Code → Needs
 module_needs code = record { blocks = in_order (filter_map (block_of code) code); local_size = local_size_of code }
 
+-- the module's answer to an input
 abbrev pub fits_module : Module → Input → Met
 fits_module m input = meets (module_needs m.instrs) input

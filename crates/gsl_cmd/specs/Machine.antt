@@ -24,12 +24,15 @@ pub data Value : Type 0 where
   Word : (word : ℕ) → Value
   Points : (to : Pointer) → Value
 
+-- the values of ids, where they have one
 abbrev pub Ids : Type 0
 Ids = ℕ → Option Value
 
+-- the ids with this value for one of them
 abbrev pub give : Ids → ℕ → Value → Ids
 give ids id value other = if other == id then Some value else ids other
 
+-- a constant is its word, and a variable points to the start of what it holds
 abbrev pub global_of : Code → ℕ → Option ℕ → Option Value
 global_of code id (Some word) = Some (Word word)
 global_of code id None =
@@ -64,11 +67,13 @@ abbrev pub on : {A : Type 0} → Option A → (A → Outcome) → Outcome
 on None go = Stuck
 on (Some x) go = go x
 
+-- goes on with a word
 abbrev pub on_word : Option Value → (ℕ → Outcome) → Outcome
 on_word None go = Stuck
 on_word (Some (Word word)) go = go word
 on_word (Some (Points to)) go = Stuck
 
+-- goes on with a pointer
 abbrev pub on_pointer : Option Value → (Pointer → Outcome) → Outcome
 on_pointer None go = Stuck
 on_pointer (Some (Word word)) go = Stuck
@@ -84,22 +89,27 @@ pub data Action : Type 0 where
   Return : Action
   Unknown : Action
 
+-- type, result, base and indexes
 abbrev pub access_chain : List ℕ → Action
 access_chain (type ∷ result ∷ base ∷ indexes) = AccessChain result base indexes
 access_chain _ = Unknown
 
+-- type, result and pointer
 abbrev pub load : List ℕ → Action
 load (type ∷ result ∷ pointer ∷ []) = Load result pointer
 load _ = Unknown
 
+-- type, result and the two operands
 abbrev pub add : List ℕ → Action
 add (type ∷ result ∷ left ∷ right ∷ []) = Add result left right
 add _ = Unknown
 
+-- pointer and value
 abbrev pub store : List ℕ → Action
 store (pointer ∷ value ∷ []) = Store pointer value
 store _ = Unknown
 
+-- what an instruction asks for
 abbrev pub action_of : Instr → Action
 action_of i =
     if i.op == op.LABEL then Label
@@ -175,9 +185,11 @@ abbrev pub step_on : Module → State → Code → Outcome
 step_on m s [] = Stuck
 step_on m s (i ∷ rest) = act m.instrs (place_of m (i ∷ rest)) (record s { rest = rest }) (action_of i)
 
+-- one instruction
 abbrev pub step : Module → State → Outcome
 step m s = step_on m s s.rest
 
+-- goes on where the run goes on
 abbrev pub bind : Outcome → (State → Outcome) → Outcome
 bind (Going s) go = go s
 bind (Ended output) go = Ended output
@@ -199,6 +211,7 @@ abbrev pub from_label : Code → Code
 from_label [] = []
 from_label (i ∷ code) = if i.op == op.LABEL then i ∷ code else from_label code
 
+-- from the first label of a function on, if it is named
 abbrev pub entry_code : Code → Option ℕ → Code
 entry_code code None = []
 entry_code code (Some function) = from_label (in_function function code)
@@ -207,6 +220,7 @@ entry_code code (Some function) = from_label (in_function function code)
 abbrev pub entry : Code → Code
 entry code = entry_code code (operand 1 op.ENTRY_POINT (λ args. true) code)
 
+-- the state before the first instruction
 abbrev pub start : Module → Input → State
 start m input = record {
   rest = entry m.instrs;

@@ -31,6 +31,7 @@ abbrev pub given : Block → Option (List ℕ) → Met
 given block None = Err (NoBuffer block.set block.binding)
 given block (Some bytes) = if nat_lt (length bytes) block.need then Err (TooShort block.set block.binding) else Ok tt
 
+-- the blocks in their order
 abbrev pub blocks_met : List Block → List Buffer → Met
 blocks_met [] buffers = Ok tt
 blocks_met (block ∷ blocks) buffers = and_met (given block (bytes_at buffers block.set block.binding)) (blocks_met blocks buffers)

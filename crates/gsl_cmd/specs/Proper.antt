@@ -15,6 +15,7 @@ Ascends Before (x ∷ xs) = AllByRecursion (Before x) xs × Ascends Before xs
 abbrev pub StandsBefore : Buffer → Buffer → Type 0
 StandsBefore a b = (a.set < b.set) ⊎ ((a.set ≡ b.set) × (a.binding < b.binding))
 
+-- by location
 abbrev pub IsLower : Located → Located → Type 0
 IsLower a b = a.location < b.location
 
@@ -29,21 +30,25 @@ pub record IsProper (input : Input) : Type 0 where
   pub ins : Ascends IsLower input.ins
   pub comps : AllByRecursion IsComps input.ins
 
+-- Each is a byte.
 abbrev pub AreBytes : List ℕ → Type 0
 AreBytes bytes = AllByRecursion (λ byte. byte < 256) bytes
 
+-- Each is a word.
 abbrev pub AreWords : List ℕ → Type 0
 AreWords words = AllByRecursion (λ word. word < 2 ^ 32) words
 
--- the three parts of a number of a work group or of an invocation
+-- They are the three parts of a number of a work group or of an invocation
 abbrev pub AreThreeWords : List ℕ → Type 0
 AreThreeWords words = (length words ≡ 3) × AreWords words
 
+-- The numbers of a buffer are in their ranges.
 pub record FitsBuffer (buffer : Buffer) : Type 0 where
   pub set : buffer.set < 2 ^ 32
   pub binding : buffer.binding < 2 ^ 32
   pub bytes : AreBytes buffer.bytes
 
+-- The numbers of a value at a location are in their ranges.
 pub record FitsLocated (value : Located) : Type 0 where
   pub location : value.location < 2 ^ 32
   pub words : AreWords value.words

@@ -30,6 +30,7 @@ bind (Ends store) go = Ends store
 bind Strays go = Strays
 bind Goes go = Goes
 
+-- the word of a member, or the bit pattern of a literal
 abbrev pub eval_term : Term → Store → ℕ → Ran ℕ
 eval_term (Member i) store units = Got (slice_index store.words i) store units
 eval_term (Literal n) store units = Got n store units
@@ -40,6 +41,7 @@ eval_more value [] store units = Got value store units
 eval_more value (term ∷ terms) store units =
     bind (eval_term term store units) (λ right store units. eval_more (word_sum value right) terms store units)
 
+-- the terms are evaluated and added from left to right
 abbrev pub eval_sum : List Term → Store → ℕ → Ran ℕ
 eval_sum [] store units = Got 0 store units
 eval_sum (term ∷ terms) store units = bind (eval_term term store units) (λ value store units. eval_more value terms store units)
@@ -57,6 +59,7 @@ run_statement s store units =
 abbrev pub behind : Flow → (Store → ℕ → Ran Flow) → Store → ℕ → Ran Flow
 behind Normal go store units = go store units
 
+-- one statement after the other
 abbrev pub run_statements : List Statement → Store → ℕ → Ran Flow
 run_statements [] store units = Got Normal store units
 run_statements (s ∷ statements) store units =
@@ -92,6 +95,7 @@ output_of input killed store = record {
   rest = length store.choices;
 }
 
+-- what `main` came to, as an outcome
 abbrev pub outcome_of : Input → Ran Flow → Outcome
 outcome_of input (Got flow store units) = Ended (output_of input false store)
 outcome_of input (Ends store) = Ended (output_of input true store)

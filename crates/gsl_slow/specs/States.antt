@@ -23,6 +23,7 @@ use Rattle.gsl_cmd.specs.Sections.{decoration_of}
 use Rattle.gsl_cmd.specs.Machine.{Pointer, Value, Word, Points, Ids, give, globals, Action, State, Outcome}
 use Rattle.gsl_cmd.specs.Machine as machine
 
+-- a pointer of the slow program, and a value
 abbrev pub pointer_of : SlowPointer → Pointer
 pointer_of p = record { variable = p.variable; offset = p.offset; pointee = p.pointee }
 
@@ -58,10 +59,12 @@ buffer_place code buffers variable =
     option_and_then (λ set. option_and_then (λ binding. position (is_at set binding) buffers) (decoration_of code variable decoration.BINDING))
     (decoration_of code variable decoration.DESCRIPTOR_SET)
 
+-- the state of `main` for which the slow program stands
 abbrev pub state_of : Code → List ℕ → SlowMachine → State
 state_of code choices m =
     record { rest = drop m.at code; ids = ids_of code m.entries.items; buffers = m.buffers.items; choices = choices; waiting = [] }
 
+-- an instruction of the slow program
 abbrev pub action_in : SlowAction → Action
 action_in action.Label = machine.Label
 action_in (action.AccessChain result base indexes) = machine.AccessChain result base indexes.now

@@ -1,6 +1,6 @@
 //! A plain slow program for what a shader does: it runs the shader on the words of its block.
 
-ghost use Rattle.std.specs.Prelude.{◌≡◌, ◌+◌, ◌*◌, ◌^◌, ◌<◌, ◌≤◌, List, [], ◌++◌, ℕ, length, set, slice_index, IfOk, OnOk, Ok, Option, Some, position};
+ghost use Rattle.std.specs.Prelude.{◌≡◌, ◌+◌, ◌*◌, ◌^◌, ◌<◌, ◌≤◌, List, ℕ, length, set, slice_index, IfOk, OnOk, Ok, position};
 ghost use Rattle.std.specs.List.{AllByRecursion};
 ghost use Rattle.gsl_cmd.specs.Form.{IsTerm, IsStatement, IsProgram};
 ghost use Rattle.gsl_cmd.specs.Words as spec;
@@ -8,7 +8,7 @@ ghost use Rattle.gsl_cmd.specs.Buffers.{is_at, bytes_at, word_offset, seen, put_
 ghost use Rattle.gsl_cmd.specs.Needs as needs;
 ghost use Rattle.gsl_cmd.specs.Fits.{fits};
 ghost use Rattle.gsl_slow.specs.Runs.{IsRun};
-ghost use Rattle.gsl_cmd.specs.Shader.{Store, Got, Flow, Normal};
+ghost use Rattle.gsl_cmd.specs.Shader.{Got, Normal};
 ghost use Rattle.gsl_cmd.specs.Shader as shader;
 
 use gsl_base::{Buffer, Bytes, Comps, Input, InputRefusal, List, Memory, Output, Outs};
