@@ -181,7 +181,7 @@ pub fn glsl_main<H: Host>(alloc: Global, words: &Words, host: &mut H) -> u8
         (job : Job) × IsJob plan files job
         × Performs job files (H.files host.new) (H.faults host.old) (H.faults host.new) (H.printed host.old) (H.printed host.new) result }
 
-    // Status 0 means that the module of the sources has been written, and that it is valid, placed and small.
+    // Status 0 means that a module has been written that carries the program of the sources and is small for it.
     ensures written { result ≡ 0 → (plan : Plan) → plan_of words.now ≡ Some plan → (files : Files) → H.files host.old ≡ Some files →
         Written plan files (H.files host.new) }
 

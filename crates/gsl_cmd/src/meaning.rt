@@ -1,10 +1,16 @@
 //! Laws of the meanings: calls that do nothing, whose contracts are the laws.
 
+ghost use Rattle.std.specs.Prelude.{◌≡◌, ℕ, List, Ok};
+ghost use Rattle.gsl_base.specs.declared.stage.Stage.{Stage};
+ghost use Rattle.gsl_words.specs.Bytes.{bytes_of};
 ghost use Rattle.gsl_words.specs.declared.module.Module.{Module};
+ghost use Rattle.gsl_valid.specs.Valid.{Valid};
 ghost use Rattle.gsl_cmd.specs.declared.program.Program.{Program};
 ghost use Rattle.gsl_cmd.specs.Form.{IsProgram};
 ghost use Rattle.gsl_cmd.specs.Lowering.{module_of};
 ghost use Rattle.gsl_cmd.specs.Carries.{Runs, EndAlike};
+ghost use Rattle.gsl_cmd.specs.Places.{Places};
+ghost use Rattle.gsl_cmd.specs.Verdict.{Accepts, Compiles};
 
 /// The module of each program does what the program does.
 pub fn module_runs()
@@ -12,8 +18,11 @@ pub fn module_runs()
 {}
 
 /// From every fitting input on which the shader indexes in bounds, the module ends with given outputs
-/// exactly when the shader does: for every module that carries a program, and so for the program's own.
+/// exactly when the shader does: for every module that does what a program does, for the program's own,
+/// and for the one whose bytes compiling gives, which is valid and placed besides.
 pub fn headline()
     ensures carried { (m : Module) (p : Program) → Runs m p → EndAlike m p }
     ensures own { (p : Program) → IsProgram p → EndAlike (module_of p) p }
+    ensures compiled { (stage : Stage) (sources : List (List ℕ)) (bytes : List ℕ) → Compiles stage sources (Ok bytes) →
+        (p : Program) × (m : Module) × Accepts stage sources p × (bytes ≡ bytes_of m) × Valid m × Places m p × EndAlike m p }
 {}
