@@ -17,8 +17,24 @@ pub struct Place {
 pub enum Code {
     /// The source is not of the form that is built so far.
     E0001,
+    /// A byte that begins no token.
+    E0101,
+    /// A comment that is not closed.
+    E0102,
+    /// A literal that is malformed, or is 2^32 or more.
+    E0103,
+    /// A floating literal.
+    E0104,
+    /// A word of the language that the profile leaves out.
+    E0105,
+    /// A word of more than 1,024 bytes.
+    E0106,
+    /// The tokens are no sentence of the grammar.
+    E0301,
     /// The file is longer than 1,048,576 bytes.
     E0900,
+    /// Nested deeper than 256.
+    E0902,
 }
 
 impl Code {
@@ -28,7 +44,15 @@ impl Code {
     {
         match self {
             Code::E0001 => 1,
+            Code::E0101 => 101,
+            Code::E0102 => 102,
+            Code::E0103 => 103,
+            Code::E0104 => 104,
+            Code::E0105 => 105,
+            Code::E0106 => 106,
+            Code::E0301 => 301,
             Code::E0900 => 900,
+            Code::E0902 => 902,
         }
     }
 }

@@ -1,5 +1,5 @@
 //! What every layer of the compiler shares: owned lists, boxes and text as plain values, want of
-//! memory, places, fault codes, refusals and stages.
+//! memory, places, fault codes, refusals, stages and tokens.
 //!
 //! Contracts see a `List` as the list of its items, a `Boxed` as what it holds and a `Text` as its
 //! bytes. `specs/Checked.antt` has the word by which a call that may want memory says that its
@@ -13,6 +13,7 @@ mod list;
 mod memory;
 mod stage;
 mod text;
+mod token;
 
 pub use boxed::Boxed;
 pub use fault::{Code, Fault, Place, Refusal};
@@ -23,6 +24,7 @@ pub use list::List;
 pub use memory::Memory;
 pub use stage::Stage;
 pub use text::Text;
+pub use token::{Key, Kind, Punct, Raw, RawKind, Raws, Token, Tokens};
 
 /// Bytes of a file, a stream or a module.
 pub type Bytes = List<u8>;
