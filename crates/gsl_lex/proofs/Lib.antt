@@ -1,0 +1,14 @@
+pub mod Lines
+pub mod Prefixes
+pub mod Comments
+pub mod Fronts
+pub mod Loops
+pub mod Values
+pub mod Punctuators
+pub mod Classes
+pub mod Best
+pub mod Marks
+pub mod Sound
+pub mod Cuts
+pub mod Rising
+pub mod Answered

@@ -1,0 +1,10 @@
+pub mod Lines
+pub mod Bytes
+pub mod Tables
+pub mod Pieces
+pub mod Cut
+pub mod Reading
+pub mod Raws
+pub mod Ordered
+pub mod Literals
+pub mod Cooking
