@@ -9,7 +9,8 @@ use Rattle.gsl_cmd.specs.declared.program.Term.TheVariants.{Member, Literal}
 use Rattle.gsl_cmd.specs.declared.program.Statement.{Statement}
 use Rattle.gsl_cmd.specs.declared.program.Program.{Program}
 use Rattle.gsl_cmd.specs.Lowering.{module_of}
-use Rattle.gsl_cmd.specs.Words.{word_sum, word_at, put_word}
+use Rattle.gsl_cmd.specs.Words.{word_sum}
+use Rattle.gsl_words.specs.Words.{word_at, put_word}
 use Rattle.gsl_cmd.specs.Fits.{fits, fits_module}
 use Rattle.gsl_cmd.specs.Proper.{StandsBefore}
 use Rattle.gsl_cmd.specs.Carries.{IsFitting}

@@ -31,7 +31,7 @@ pub mod Placement
 pub mod Sizes
 pub mod Wrote
 pub mod Example
-pub mod Bytes
+pub mod Sums
 pub mod Blocks
 pub mod Stretches
 pub mod Follows

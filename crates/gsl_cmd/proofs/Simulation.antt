@@ -14,12 +14,13 @@ use Rattle.gsl_cmd.specs.declared.program.Term.TheVariants.{Member, Literal}
 use Rattle.gsl_cmd.specs.declared.program.Statement.{Statement}
 use Rattle.gsl_cmd.specs.declared.lowering.id.TheConstants as id
 use Rattle.gsl_cmd.specs.Lowering.{Code, instr, constant_id, pointer, term_code, term_ids, term_value, more_code, more_ids, more_value, sum_code, sum_ids, sum_value, statement_code, statement_ids, statements_code, first_id}
-use Rattle.gsl_cmd.specs.Words.{word_sum, word_at, put_word}
+use Rattle.gsl_cmd.specs.Words.{word_sum}
+use Rattle.gsl_words.specs.Words.{word_at, put_word}
 use Rattle.gsl_cmd.specs.Buffers.{bytes_at, with_bytes, word_offset}
 use Rattle.gsl_cmd.specs.Sections.{decoration_of, member_decoration_of, is_int, members_of}
 use Rattle.gsl_cmd.specs.Shader.{Store, Ran, Flow, Normal, SET, BINDING, eval_term, eval_more, eval_sum, run_statement, run_statements, behind}
 use Rattle.gsl_cmd.specs.Machine.{Ids, give, globals, Value, Word, Points, Pointer, State, Outcome, Going, Strayed, Stuck, on, on_word, on_pointer, into_struct, walk, on_buffer, read, write, place_of}
-use Rattle.gsl_cmd.proofs.Bytes.{sum_small}
+use Rattle.gsl_cmd.proofs.Sums.{sum_small}
 use Rattle.gsl_cmd.proofs.Blocks.{Holds, holds_put, bytes_at-with_bytes, with_bytes-with_bytes}
 use Rattle.gsl_cmd.proofs.Stretches.{Stretch, stretch_on, no_step, one_step}
 use Rattle.gsl_cmd.proofs.Follows.{state, Follows, follows_on, follows_bind, follows_less}

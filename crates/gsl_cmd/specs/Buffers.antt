@@ -2,7 +2,7 @@
 use Rattle.std.specs.Prelude.{ℕ, ◌+◌, ◌*◌, Bool, ◌==◌, ◌&&◌, if◌then◌else◌, List, [], ◌∷◌, map, Option, Some, None}
 use Rattle.std.specs.List.{range_with_len}
 use Rattle.gsl_base.specs.declared.input.Buffer.{Buffer}
-use Rattle.gsl_cmd.specs.Words.{word_at, put_word}
+use Rattle.gsl_words.specs.Words.{word_at, put_word}
 
 -- whether a buffer is the one at this set and binding
 abbrev pub is_at : ℕ → ℕ → Buffer → Bool

@@ -9,7 +9,8 @@ use Rattle.gsl_words.specs.declared.op.TheConstants as op
 use Rattle.gsl_words.specs.declared.enumerant.decoration.TheConstants as decoration
 use Rattle.gsl_words.specs.Instructions.{word_count}
 use Rattle.gsl_cmd.specs.Lowering.{Code}
-use Rattle.gsl_cmd.specs.Words.{word_sum, word_at, put_word}
+use Rattle.gsl_cmd.specs.Words.{word_sum}
+use Rattle.gsl_words.specs.Words.{word_at, put_word}
 use Rattle.gsl_cmd.specs.Buffers.{bytes_at, with_bytes}
 use Rattle.gsl_cmd.specs.Sections.{operand, decoration_of, member_decoration_of, is_int, members_of, pointee_of, constant_of, variable_type_of}
 

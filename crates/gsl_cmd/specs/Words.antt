@@ -1,16 +1,6 @@
--- Words of 32 bits, and words in bytes, the least byte first.
-use Rattle.std.specs.Prelude.{ℕ, ◌+◌, ◌/◌, ◌%◌, List, set, slice_index}
-use Rattle.gsl_words.specs.Strings.{word_of}
+-- Words of 32 bits.
+use Rattle.std.specs.Prelude.{ℕ, ◌+◌, ◌%◌}
 
 -- a sum keeps the low 32 bits (GLSL 4.50, 4.1.3; SPIR-V 1.0, OpIAdd)
 unfoldable pub word_sum : ℕ → ℕ → ℕ
 word_sum a b = (a + b) % 4294967296
-
--- the word of the four bytes from an offset on
-unfoldable pub word_at : List ℕ → ℕ → ℕ
-word_at bytes at = word_of (slice_index bytes at) (slice_index bytes (at + 1)) (slice_index bytes (at + 2)) (slice_index bytes (at + 3))
-
--- the bytes with these four changed to those of a word
-unfoldable pub put_word : List ℕ → ℕ → ℕ → List ℕ
-put_word bytes at word =
-    set (set (set (set bytes at (word % 256)) (at + 1) (word / 256 % 256)) (at + 2) (word / 65536 % 256)) (at + 3) (word / 16777216 % 256)

@@ -22,6 +22,9 @@ mod validity;
 
 pub use command::glsl_main;
 pub use compiling::{MAX_SOURCE_BYTES, compile};
+pub use gsl_manifest::{
+    BufferLine, BufferLines, Manifest, ManifestRefusal, PushLine, listing, read_manifest,
+};
 pub use laws::{one_job, one_program, one_verdict};
 pub use lowering::lower;
 pub use meaning::{headline, module_runs};

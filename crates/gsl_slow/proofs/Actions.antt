@@ -9,7 +9,7 @@ use Rattle.gsl_words.specs.declared.module.Module.{Module}
 use Rattle.gsl_slow.specs.declared.machine.Entry.{Entry}
 use Rattle.gsl_words.specs.declared.enumerant.decoration.TheConstants as decoration
 use Rattle.gsl_cmd.specs.Lowering.{Code}
-use Rattle.gsl_cmd.specs.Words.{word_at, put_word}
+use Rattle.gsl_words.specs.Words.{word_at, put_word}
 use Rattle.gsl_cmd.specs.Buffers.{is_at, bytes_at, with_bytes}
 use Rattle.gsl_cmd.specs.Sections.{members_of, decoration_of, is_int}
 use Rattle.gsl_cmd.specs.Machine.{Pointer, Value, Word, Points, Ids, Outcome, on, on_word, on_pointer, Stuck, into_struct, walk, on_buffer, read, write, State, Ended, entry, start}

@@ -3,7 +3,7 @@
 ghost use Rattle.std.specs.Prelude.{◌≡◌, ◌+◌, ◌*◌, ◌^◌, ◌<◌, ◌≤◌, List, ℕ, length, drop, slice_index, OnOk, IfOk, option_map, option_copied};
 ghost use Rattle.gsl_cmd.specs.Sections.{begin_with, has_at, operand, members_of, is_int};
 ghost use Rattle.gsl_slow.specs.States.{pointer_of, value_of, ids_of, walked_outcome, word_in, pointer_in, buffer_place, state_of, action_in, stepped_outcome, written_outcome, stopped_outcome, IsOutcome};
-ghost use Rattle.gsl_cmd.specs.Words as words;
+ghost use Rattle.gsl_words.specs.Words as words;
 ghost use Rattle.gsl_base.specs.declared.input.Buffer.{Buffer};
 ghost use Rattle.gsl_words.specs.declared.module.Instr.{Instr};
 ghost use Rattle.gsl_cmd.specs.Machine.{Pointer, globals, Outcome, on, into_struct};

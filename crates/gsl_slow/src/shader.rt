@@ -3,7 +3,8 @@
 ghost use Rattle.std.specs.Prelude.{◌≡◌, ◌+◌, ◌*◌, ◌^◌, ◌<◌, ◌≤◌, List, ℕ, length, set, slice_index, IfOk, OnOk, Ok, position};
 ghost use Rattle.std.specs.List.{AllByRecursion};
 ghost use Rattle.gsl_cmd.specs.Form.{IsTerm, IsStatement, IsProgram};
-ghost use Rattle.gsl_cmd.specs.Words as spec;
+ghost use Rattle.gsl_cmd.specs.Words as sums;
+ghost use Rattle.gsl_words.specs.Words as spec;
 ghost use Rattle.gsl_cmd.specs.Buffers.{is_at, bytes_at, word_offset, seen, put_words};
 ghost use Rattle.gsl_cmd.specs.Needs as needs;
 ghost use Rattle.gsl_cmd.specs.Fits.{fits};
@@ -19,7 +20,7 @@ use std::mem;
 /// A sum keeps the low 32 bits.
 #[tactic(auto, unfolding(gsl_cmd::specs::Words::word_sum))]
 pub(crate) fn word_sum(a: u32, b: u32) -> u32
-    ensures { result ≡ spec.word_sum a b }
+    ensures { result ≡ sums.word_sum a b }
 {
     a.wrapping_add(b)
 }
@@ -32,7 +33,7 @@ fn byte_at(bytes: &[u8], at: usize) -> u8
 }
 
 /// The word of the four bytes from an offset on.
-#[tactic(auto, unfolding(gsl_cmd::specs::Words::word_at))]
+#[tactic(auto, unfolding(gsl_words::specs::Words::word_at))]
 pub(crate) fn word_at(bytes: &[u8], at: usize) -> u32
     requires { at + 4 < 2 ^ 64 }
     ensures { result ≡ spec.word_at bytes.now at }
@@ -54,7 +55,7 @@ fn put_byte(bytes: &mut [u8], at: usize, byte: u8)
 }
 
 /// Changes the four bytes from an offset on to those of a word.
-#[tactic(auto, unfolding(gsl_cmd::specs::Words::put_word))]
+#[tactic(auto, unfolding(gsl_words::specs::Words::put_word))]
 pub(crate) fn put_word(bytes: &mut [u8], at: usize, word: u32)
     requires { at + 4 < 2 ^ 64 }
     ensures { bytes.new ≡ spec.put_word bytes.old at word }

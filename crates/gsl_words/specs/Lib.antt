@@ -1,3 +1,4 @@
 pub mod Strings
 pub mod Instructions
 pub mod Bytes
+pub mod Words

@@ -1,6 +1,6 @@
 use Rattle.std.proofs.Common.{ap, sym, ◌∙◌}
 use Rattle.gsl_base.specs.declared.input.Buffer.{Buffer}
-use Rattle.gsl_cmd.specs.Words.{word_at}
+use Rattle.gsl_words.specs.Words.{word_at}
 use Rattle.gsl_slow.specs.States.{pointer_of}
 use Rattle.gsl_slow.proofs.Actions.{read_none, read_some}
 use Rattle.gsl_slow.proofs.machine.read.Goals as goal

@@ -1,6 +1,6 @@
 use Rattle.std.proofs.Common.{[], ◌+◌, length, ap, ◌∙◌}
 use Rattle.std.proofs.lemmas.List.{length_push}
-use Rattle.gsl_cmd.specs.Words.{word_at}
+use Rattle.gsl_words.specs.Words.{word_at}
 use Rattle.gsl_cmd.specs.Buffers.{word_offset}
 use Rattle.gsl_cmd.proofs.Constants.{run_more}
 use Rattle.gsl_slow.proofs.shader.seen_words.Goals as goal

@@ -1,6 +1,6 @@
 use Rattle.std.proofs.Common.{◌≡◌, length, map}
 use Rattle.std.specs.List.{range_with_len}
-use Rattle.gsl_cmd.specs.Words.{word_at}
+use Rattle.gsl_words.specs.Words.{word_at}
 use Rattle.gsl_cmd.specs.Buffers.{word_offset}
 use Rattle.gsl_slow.proofs.shader.seen_words.Given as goal
 

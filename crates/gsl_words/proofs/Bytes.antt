@@ -1,15 +1,11 @@
 -- Words that are put into bytes.
-use Rattle.std.proofs.Common.{◌≡◌, ◌≢◌, ℕ, zero, suc, ◌+◌, ◌/◌, ◌%◌, ◌^◌, ◌<◌, ◌≤◌, List, [], ◌∷◌, length, get_or, set, ap, sym, ◌∙◌, arith}
+use Rattle.std.proofs.Common.{◌≡◌, ◌≢◌, ℕ, zero, suc, ◌+◌, ◌/◌, ◌%◌, ◌^◌, ◌<◌, ◌≤◌, ◌⊎◌, inl, inr, List, [], ◌∷◌, length, get_or, set, ap, sym, ◌∙◌, arith}
 use Rattle.std.proofs.lemmas.List.{length-set, get_or-set_same, get_or-set_other, set-set, set_comm, set-get_or}
 use Rattle.gsl_words.specs.Strings.{word_of}
-use Rattle.gsl_cmd.specs.Words.{word_sum, word_at, put_word}
-use Rattle.gsl_cmd.specs.Proper.{AreBytes}
+use Rattle.std.specs.List.{AllByRecursion}
+use Rattle.gsl_words.specs.Words.{word_at, put_word}
 
-pub sum_small : (a b : ℕ) → word_sum a b < 2 ^ 32
-unfolding word_sum
-sum_small a b = omega arith
-
-pub byte_small : (bytes : List ℕ) → AreBytes bytes → (i : ℕ) → get_or bytes i 0 < 256
+pub byte_small : (bytes : List ℕ) → AllByRecursion (λ byte. byte < 256) bytes → (i : ℕ) → get_or bytes i 0 < 256
 byte_small [] all i = omega arith
 byte_small (b ∷ bytes) all zero = all.0
 byte_small (b ∷ bytes) all (suc i) = byte_small bytes all.1 i
@@ -134,7 +130,7 @@ set_own : (bytes : List ℕ) (k byte : ℕ) → byte ≡ get_or bytes k 0 → se
 set_own bytes k byte e = ap (λ b. set bytes k b) e ∙ set-get_or bytes k 0
 
 -- a word that is put where it was read
-pub put-word_at : (bytes : List ℕ) (at : ℕ) → AreBytes bytes → put_word bytes at (word_at bytes at) ≡ bytes
+pub put-word_at : (bytes : List ℕ) (at : ℕ) → AllByRecursion (λ byte. byte < 256) bytes → put_word bytes at (word_at bytes at) ≡ bytes
 unfolding put_word word_at
 put-word_at bytes at all =
     let a = get_or bytes at 0 in
@@ -165,3 +161,8 @@ put-word_at bytes at all =
 
     digit_3 : (a b c d : ℕ) → a < 256 → b < 256 → c < 256 → d < 256 → word_of a b c d / 16777216 % 256 ≡ d
     digit_3 a b c d ha hb hc hd = omega arith
+
+-- other bytes are kept
+pub others_kept : (bytes : List ℕ) (at word k : ℕ) → (k < at) ⊎ (at + 4 ≤ k) → get_or (put_word bytes at word) k 0 ≡ get_or bytes k 0
+others_kept bytes at word k (inl less) = byte_kept bytes at word k (below at k less)
+others_kept bytes at word k (inr more) = byte_kept bytes at word k (above at k more)

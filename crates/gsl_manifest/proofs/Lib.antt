@@ -1,0 +1,14 @@
+mod Naturals
+mod Readers
+mod Splitting
+mod Placing
+mod Standing
+mod Manifested
+mod Told
+mod Printed
+mod Written
+mod Ordered
+mod Prefixes
+mod Inverted
+mod Permuted
+mod Whole

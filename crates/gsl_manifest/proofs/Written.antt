@@ -1,0 +1,128 @@
+-- The lines of what a writer prints.
+use Rattle.std.proofs.Common.{◌≡◌, ℕ, ◌<◌, ◌≤◌, ◌^◌, false, List, [], ◌∷◌, ◌++◌, length, map, Some, refl, ap, sym, subst, ◌∙◌, arith, eqb, append_assoc, append-nil, codes}
+use Rattle.std.proofs.lemmas.Bool.{or_parts, or_from, cond-false}
+use Rattle.std.proofs.lemmas.List.Folds.{list_any-append}
+use Rattle.std.specs.List.{flat_map, list_any, AllByRecursion}
+use Rattle.std.specs.Fmt.{decimal}
+use Rattle.std.specs.Str.Parse.{AllDigits}
+use Rattle.gsl_manifest.specs.declared.meaning.Meaning.{Meaning}
+use Rattle.gsl_manifest.specs.declared.meaning.Meaning.TheVariants.{Nothing, Buffer, Push, In, Group, Local, Groups, Vertex, Instance, Choice, Steps}
+use Rattle.gsl_manifest.specs.Lines.{onto, pieces, without_cr, ended, lines_of}
+use Rattle.gsl_manifest.specs.Listing.{AreWords}
+use Rattle.gsl_manifest.specs.Meanings.{meaning_of}
+use Rattle.gsl_manifest.specs.Manifests.{StandOnce, AreManifest, manifest_of}
+use Rattle.gsl_manifest.specs.Printing.{field_text, line_text, printed, IsPath, IsWritable}
+use Rattle.gsl_manifest.proofs.Splitting.{some_pieces, ended_more}
+use Rattle.gsl_manifest.proofs.Printed.{decimal_digits, digit_above, one_fits, line_read}
+
+-- no LF is among the bytes
+abbrev NoLf : List ℕ → Type 0
+NoLf bytes = list_any (λ b. eqb b 10) bytes ≡ false
+
+-- no CR is at their end
+abbrev NoCr : List ℕ → Type 0
+NoCr bytes = without_cr bytes ≡ bytes
+
+pieces_line : (line rest : List ℕ) → NoLf line → pieces (line ++ 10 ∷ rest) ≡ line ∷ pieces rest
+pieces_line [] rest none = refl
+pieces_line (b ∷ line) rest none =
+    let parts = or_parts (eqb b 10) _ none in
+    cond-false _ _ _ parts.0 ∙ ap (onto b) (pieces_line line rest parts.1)
+
+lines_line : (line rest : List ℕ) → NoLf line → NoCr line → lines_of (line ++ 10 ∷ rest) ≡ line ∷ lines_of rest
+unfolding lines_of
+lines_line line rest none end =
+    let next = some_pieces rest in
+    ap ended (pieces_line line rest none) ∙ ended_more line (pieces rest) next.one next.others next.are ∙ ap (λ l. l ∷ ended (pieces rest)) end
+
+no_lf_append : (a b : List ℕ) → NoLf a → NoLf b → NoLf (a ++ b)
+no_lf_append a b e f = list_any-append (λ c. eqb c 10) a b ∙ or_from _ _ e f
+
+no_cr_append : (a b : List ℕ) → 0 < length b → NoCr b → NoCr (a ++ b)
+no_cr_append [] b some end = end
+no_cr_append (x ∷ []) [] some end = absurd (omega arith)
+no_cr_append (x ∷ []) (y ∷ b) some end = ap (λ r. x ∷ r) end
+no_cr_append (x ∷ z ∷ a) b some end = ap (λ r. x ∷ r) (no_cr_append (z ∷ a) b some end)
+
+digits_no_lf : (ds : List ℕ) → AllDigits 10 ds → NoLf ds
+digits_no_lf [] all = refl
+digits_no_lf (d ∷ ds) all = or_from _ _ (digit_above d 10 all.0 (omega arith)) (digits_no_lf ds all.1)
+
+digits_no_cr : (ds : List ℕ) → AllDigits 10 ds → NoCr ds
+digits_no_cr [] all = refl
+digits_no_cr (d ∷ []) all = cond-false _ _ _ (digit_above d 13 all.0 (omega arith))
+digits_no_cr (d ∷ e ∷ ds) all = ap (λ r. d ∷ r) (digits_no_cr (e ∷ ds) all.1)
+
+field_no_lf : (n : ℕ) → n < 2 ^ 32 → NoLf (field_text n)
+field_no_lf n small = digits_no_lf (decimal n) (decimal_digits n small).all
+
+field_no_cr : (n : ℕ) → n < 2 ^ 32 → NoCr (field_text n)
+field_no_cr n small = let d = decimal_digits n small in no_cr_append (32 ∷ []) (decimal n) d.some (digits_no_cr (decimal n) d.all)
+
+fields_no_lf : (ns : List ℕ) → AreWords ns → NoLf (flat_map field_text ns)
+fields_no_lf [] fit = refl
+fields_no_lf (n ∷ ns) fit = no_lf_append (field_text n) (flat_map field_text ns) (field_no_lf n fit.0) (fields_no_lf ns fit.1)
+
+fields_no_cr : (ns : List ℕ) → AreWords ns → NoCr (flat_map field_text ns)
+fields_no_cr [] fit = refl
+fields_no_cr (n ∷ []) fit = subst NoCr (sym (append-nil (field_text n))) (field_no_cr n fit.0)
+fields_no_cr (n ∷ m ∷ ns) fit = no_cr_append (field_text n) (flat_map field_text (m ∷ ns)) (omega arith) (fields_no_cr (m ∷ ns) fit.1)
+
+some_fields : (ns : List ℕ) → 1 ≤ length ns → 0 < length (flat_map field_text ns)
+some_fields [] some = absurd (omega arith)
+some_fields (n ∷ ns) some = omega arith
+
+line_no_lf : (m : Meaning) → IsWritable m → NoLf (line_text m)
+line_no_lf Nothing can = refl
+line_no_lf (Buffer set binding path) can =
+    no_lf_append (field_text set) (field_text binding ++ 32 ∷ path) (field_no_lf set can.0) (no_lf_append (field_text binding) (32 ∷ path) (field_no_lf binding can.1) can.2.one_line)
+line_no_lf (Push path) can = can.one_line
+line_no_lf (In location words) can = no_lf_append (field_text location) (flat_map field_text words) (field_no_lf location can.0) (fields_no_lf words can.1.fit)
+line_no_lf (Group ids) can = fields_no_lf ids can.fit
+line_no_lf (Local ids) can = fields_no_lf ids can.fit
+line_no_lf (Groups ids) can = fields_no_lf ids can.fit
+line_no_lf (Vertex n) can = fields_no_lf (n ∷ []) (one_fits n can)
+line_no_lf (Instance n) can = fields_no_lf (n ∷ []) (one_fits n can)
+line_no_lf (Choice words) can = fields_no_lf words can.1
+line_no_lf (Steps n) can = fields_no_lf (n ∷ []) (one_fits n (omega arith))
+
+word_no_cr : (word : List ℕ) (ns : List ℕ) → 1 ≤ length ns → AreWords ns → NoCr (word ++ flat_map field_text ns)
+word_no_cr word ns some fit = no_cr_append word (flat_map field_text ns) (some_fields ns some) (fields_no_cr ns fit)
+
+path_no_cr : (path : List ℕ) → IsPath path → NoCr (32 ∷ path)
+path_no_cr path is = no_cr_append (32 ∷ []) path is.some is.ends
+
+line_no_cr : (m : Meaning) → IsWritable m → NoCr (line_text m)
+line_no_cr Nothing can = refl
+line_no_cr (Buffer set binding path) can =
+    no_cr_append (codes "buffer") _ (omega arith) (no_cr_append (field_text set) (field_text binding ++ 32 ∷ path) (omega arith) (no_cr_append (field_text binding) (32 ∷ path) (omega arith) (path_no_cr path can.2)))
+line_no_cr (Push path) can = no_cr_append (codes "push") _ (omega arith) (path_no_cr path can)
+line_no_cr (In location words) can = no_cr_append (codes "in") _ (omega arith) (word_no_cr (field_text location) words can.1.some can.1.fit)
+line_no_cr (Group ids) can = word_no_cr (codes "group") ids (omega (arith, can.some)) can.fit
+line_no_cr (Local ids) can = word_no_cr (codes "local") ids (omega (arith, can.some)) can.fit
+line_no_cr (Groups ids) can = word_no_cr (codes "groups") ids (omega (arith, can.some)) can.fit
+line_no_cr (Vertex n) can = word_no_cr (codes "vertex") (n ∷ []) (omega arith) (one_fits n can)
+line_no_cr (Instance n) can = word_no_cr (codes "instance") (n ∷ []) (omega arith) (one_fits n can)
+line_no_cr (Choice words) can = word_no_cr (codes "choice") words can.0 can.1
+line_no_cr (Steps n) can = word_no_cr (codes "steps") (n ∷ []) (omega arith) (one_fits n (omega arith))
+
+-- the lines of what was printed
+printed_lines : (says : List Meaning) → AllByRecursion IsWritable says → lines_of (printed says) ≡ map line_text says
+unfolding lines_of
+printed_lines [] can = refl
+printed_lines (m ∷ says) can =
+    ap lines_of (append_assoc (line_text m) (codes "\n") (printed says)) ∙ lines_line (line_text m) (printed says) (line_no_lf m can.0) (line_no_cr m can.0)
+    ∙ ap (λ r. line_text m ∷ r) (printed_lines says can.1)
+
+lines_mean : (says : List Meaning) → AllByRecursion IsWritable says → map meaning_of (map line_text says) ≡ map Some says
+lines_mean [] can = refl
+lines_mean (m ∷ says) can = ap (λ f. f ∷ map meaning_of (map line_text says)) (line_read m can.0) ∙ ap (λ r. Some m ∷ r) (lines_mean says can.1)
+
+-- what was printed is the manifest that was meant
+pub written : (says : List Meaning) → AllByRecursion IsWritable says → StandOnce says → AreManifest (lines_of (printed says)) (manifest_of says)
+written says can once = record {
+  says = says;
+  means = ap (map meaning_of) (printed_lines says can) ∙ lines_mean says can;
+  once = once;
+  value = refl;
+}
