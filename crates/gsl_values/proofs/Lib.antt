@@ -1,0 +1,10 @@
+mod Words
+mod Bits
+mod Draws
+mod Components
+mod Places
+mod BitFields
+mod Quotients
+mod Clamps
+mod InOrder
+mod PutBack
