@@ -1,0 +1,10 @@
+pub mod Bounds
+pub mod Multiples
+pub mod Pushes
+pub mod Arrays
+pub mod Groups
+pub mod Refusals
+pub mod Order
+pub mod Sound
+pub mod Sixteens
+pub mod PlainStructs

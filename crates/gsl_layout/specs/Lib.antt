@@ -1,0 +1,11 @@
+pub mod Layout
+pub mod Codes
+pub mod Parts
+pub mod Nodes
+pub mod Falls
+pub mod Rules
+pub mod Raising
+pub mod Measures
+pub mod Extents
+pub mod Gathers
+pub mod Sixteens
