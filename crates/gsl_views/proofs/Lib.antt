@@ -1,0 +1,9 @@
+pub mod Parts
+pub mod Words
+pub mod Kept
+pub mod Changes
+pub mod Cuts
+pub mod Splits
+pub mod Follows
+pub mod Apart
+pub mod Rows

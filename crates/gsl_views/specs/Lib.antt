@@ -1,0 +1,5 @@
+pub mod Seen
+pub mod Viewed
+pub mod Mutable
+pub mod Paths
+pub mod Lending
