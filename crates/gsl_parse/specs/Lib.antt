@@ -1,1 +1,6 @@
+pub mod Expressions
+pub mod Judged
+pub mod Nests
+pub mod Reading
+pub mod Rules
 pub mod Walking
