@@ -1,0 +1,5 @@
+pub mod Expressions
+pub mod Names
+pub mod Nests
+pub mod Reading
+pub mod Rules

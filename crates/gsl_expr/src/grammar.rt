@@ -1,0 +1,419 @@
+//! The rules of expressions and types. They take the reader of nested expressions as a parameter, so
+//! that each is proved by itself.
+
+ghost use Rattle.std.specs.Prelude.{◌≡◌, [], length};
+ghost use Rattle.gsl_expr.specs.Expressions as spec;
+ghost use Rattle.gsl_expr.specs.Reading.{Reads};
+ghost use Rattle.gsl_expr.specs.Nests.{Nests};
+ghost use Rattle.gsl_expr.specs.declared.rule.Follow.TheVariants as follow;
+ghost use Rattle.gsl_expr.specs.declared.rule.Start.TheVariants as start;
+ghost use Rattle.gsl_expr.specs.declared.rule.Tail.TheVariants as tail;
+
+use crate::nodes::{
+    assign, binary, conditional, head_type, index, index_all, is_tight, keyword, level_in,
+    may_be_index, may_be_open, mode_after, named, paren, postfix, sequence, unary, void_alone,
+};
+use crate::reading::Cursor;
+use crate::rule::{
+    Base, Follow, Head, Mode, Start, Tail, binds, level, next_follow, next_start, next_tail,
+};
+use crate::stop::Stop;
+use gsl_base::{Boxed, List, Place, Punct};
+use gsl_syntax::{
+    AssignOp, Basic, BinaryOp, Dim, Dims, Expr, Exprs, Name, PostfixOp, TypeSpec, UnaryOp,
+};
+use std::alloc::Global;
+
+/// The rules, over a reader of expressions that nest no deeper than `depth`.
+#[derive(Clone, Copy)]
+pub struct Grammar<F> {
+    pub alloc: Global,
+    pub depth: usize,
+    pub expr: F,
+}
+
+impl<F: Fn(Global, &mut Cursor<'_>, usize, u8) -> Result<Expr, Stop>> Grammar<F> {
+    /// An expression of a level.
+    pub fn expr(&self, tokens: &mut Cursor<'_>, least: u8) -> Result<Expr, Stop>
+        requires { Nests self.now.depth (F.pre self.now.expr) (F.post self.now.expr) }
+        ensures { Reads (spec.expr self.now.depth least tokens.old) result tokens.new }
+    {
+        (self.expr)(self.alloc, tokens, self.depth, least)
+    }
+
+    /// What stands in brackets, behind `[`.
+    #[tactic(auto, unfolding(crate::specs::Expressions::bracket))]
+    fn bracket(
+        &self,
+        mode: Mode,
+        place: Place,
+        tokens: &mut Cursor<'_>,
+    ) -> Result<(Dim, Mode), Stop>
+        requires { Nests self.now.depth (F.pre self.now.expr) (F.post self.now.expr) }
+        ensures { Reads (spec.bracket (spec.expr self.now.depth) mode place tokens.old) result tokens.new }
+    {
+        if tokens.sees(Punct::RightBracket) && may_be_open(mode) {
+            tokens.take_one()?;
+            return Ok((Dim::Open(place), Mode::Type));
+        }
+        let size = self.expr(tokens, level_in(mode))?;
+        tokens.expect(Punct::RightBracket)?;
+        let after = mode_after(mode, &size);
+        Ok((Dim::Sized(place, Boxed::new(self.alloc, size)?), after))
+    }
+
+    /// The brackets of a type, or of a declared name.
+    #[tactic(auto, unfolding(crate::specs::Expressions::dims))]
+    pub fn dims(&self, tokens: &mut Cursor<'_>) -> Result<Dims, Stop>
+        requires { Nests self.now.depth (F.pre self.now.expr) (F.post self.now.expr) }
+        ensures { Reads (spec.dims (spec.expr self.now.depth) tokens.old) result tokens.new }
+    {
+        let (dims, _) = self.brackets(Mode::Type, tokens)?;
+        Ok(dims)
+    }
+
+    /// A name with its brackets, be they those of a type or indexes.
+    #[tactic(auto, unfolding(crate::specs::Expressions::named_head))]
+    pub fn named_head(&self, tokens: &mut Cursor<'_>) -> Result<Head, Stop>
+        requires { Nests self.now.depth (F.pre self.now.expr) (F.post self.now.expr) }
+        ensures { Reads (spec.named_head (spec.expr self.now.depth) tokens.old) result tokens.new }
+    {
+        let name = tokens.name(self.alloc)?;
+        let (dims, mode) = self.brackets(Mode::Either, tokens)?;
+        Ok(named(name, dims, mode))
+    }
+
+    /// A type keyword with its brackets.
+    #[tactic(auto, unfolding(crate::specs::Expressions::basic_head))]
+    pub fn basic_head(&self, basic: Basic, tokens: &mut Cursor<'_>) -> Result<Head, Stop>
+        requires { Nests self.now.depth (F.pre self.now.expr) (F.post self.now.expr) }
+        ensures { Reads (spec.basic_head (spec.expr self.now.depth) basic tokens.old) result tokens.new }
+    {
+        let place = tokens.take_one()?;
+        let dims = self.dims(tokens)?;
+        Ok(keyword(place, basic, dims))
+    }
+
+    fn by_name(&self, tokens: &mut Cursor<'_>) -> Result<Expr, Stop>
+        requires { Nests self.now.depth (F.pre self.now.expr) (F.post self.now.expr) }
+        ensures { Reads (spec.operand_as (spec.expr self.now.depth) start.Name tokens.old) result tokens.new }
+    {
+        let head = self.named_head(tokens)?;
+        self.applied(head, tokens)
+    }
+
+    fn by_type(&self, basic: Basic, tokens: &mut Cursor<'_>) -> Result<Expr, Stop>
+        requires { Nests self.now.depth (F.pre self.now.expr) (F.post self.now.expr) }
+        ensures { Reads (spec.operand_as (spec.expr self.now.depth) (start.Basic basic) tokens.old) result tokens.new }
+    {
+        let head = self.basic_head(basic, tokens)?;
+        self.applied(head, tokens)
+    }
+
+    fn paren(&self, tokens: &mut Cursor<'_>) -> Result<Expr, Stop>
+        requires { Nests self.now.depth (F.pre self.now.expr) (F.post self.now.expr) }
+        ensures { Reads (spec.operand_as (spec.expr self.now.depth) start.Paren tokens.old) result tokens.new }
+    {
+        let place = tokens.take_one()?;
+        let inner = self.expr(tokens, 0)?;
+        tokens.expect(Punct::RightParen)?;
+        Ok(paren(self.alloc, place, inner)?)
+    }
+
+    fn unary(&self, op: UnaryOp, tokens: &mut Cursor<'_>) -> Result<Expr, Stop>
+        requires { Nests self.now.depth (F.pre self.now.expr) (F.post self.now.expr) }
+        ensures { Reads (spec.operand_as (spec.expr self.now.depth) (start.Unary op) tokens.old) result tokens.new }
+    {
+        let place = tokens.take_one()?;
+        let inner = self.expr(tokens, 14)?;
+        Ok(unary(self.alloc, place, op, inner)?)
+    }
+
+    #[tactic(auto, unfolding(crate::specs::Expressions::operand))]
+    fn operand(&self, tokens: &mut Cursor<'_>) -> Result<Expr, Stop>
+        requires { Nests self.now.depth (F.pre self.now.expr) (F.post self.now.expr) }
+        ensures { Reads (spec.operand (spec.expr self.now.depth) tokens.old) result tokens.new }
+    {
+        match next_start(tokens.rest()) {
+            Start::Name => self.by_name(tokens),
+            Start::Basic(basic) => self.by_type(basic, tokens),
+            Start::Signed(word) => Ok(Expr::Signed(tokens.take_one()?, word)),
+            Start::Unsigned(word) => Ok(Expr::Unsigned(tokens.take_one()?, word)),
+            Start::Bool(value) => Ok(Expr::Bool(tokens.take_one()?, value)),
+            Start::Paren => self.paren(tokens),
+            Start::Unary(op) => self.unary(op, tokens),
+            Start::Bad => Err(Stop::At(tokens.left())),
+        }
+    }
+
+    /// Any number of brackets.
+    pub fn brackets(&self, first: Mode, tokens: &mut Cursor<'_>) -> Result<(Dims, Mode), Stop>
+        requires { Nests self.now.depth (F.pre self.now.expr) (F.post self.now.expr) }
+        ensures { Reads (spec.brackets (spec.expr self.now.depth) (length tokens.old) first [] tokens.old) result tokens.new }
+    {
+        let mut found = List::new(self.alloc);
+        let mut mode = first;
+        for _turn in 0..tokens.left() {
+            if !tokens.sees(Punct::LeftBracket) {
+                return Ok((found, mode));
+            }
+            let place = tokens.take_one()?;
+            let (dim, next) = self.bracket(mode, place, tokens)?;
+            found.push(dim)?;
+            mode = next;
+        }
+        Ok((found, mode))
+    }
+
+    /// One or more arguments, with the parenthesis that closes them.
+    fn items(&self, tokens: &mut Cursor<'_>) -> Result<Exprs, Stop>
+        requires { Nests self.now.depth (F.pre self.now.expr) (F.post self.now.expr) }
+        ensures { Reads (spec.items (spec.expr self.now.depth) (length tokens.old) [] tokens.old) result tokens.new }
+    {
+        let mut found = List::new(self.alloc);
+        for _turn in 0..tokens.left() {
+            let item = self.expr(tokens, 1)?;
+            found.push(item)?;
+            if !tokens.sees(Punct::Comma) {
+                tokens.expect(Punct::RightParen)?;
+                return Ok(found);
+            }
+            tokens.take_one()?;
+        }
+        Err(Stop::At(tokens.left()))
+    }
+
+    /// A call, behind its parenthesis.
+    #[tactic(auto, unfolding(crate::specs::Expressions::arguments))]
+    fn arguments(&self, callee: TypeSpec, tokens: &mut Cursor<'_>) -> Result<Expr, Stop>
+        requires { Nests self.now.depth (F.pre self.now.expr) (F.post self.now.expr) }
+        ensures { Reads (spec.arguments (spec.expr self.now.depth) callee tokens.old) result tokens.new }
+    {
+        let callee = Boxed::new(self.alloc, callee)?;
+        if tokens.sees(Punct::RightParen) {
+            tokens.take_one()?;
+            return Ok(Expr::Call(callee, List::new(self.alloc)));
+        }
+        if void_alone(tokens.rest()) {
+            tokens.take_one()?;
+            tokens.take_one()?;
+            return Ok(Expr::CallVoid(callee));
+        }
+        let found = self.items(tokens)?;
+        Ok(Expr::Call(callee, found))
+    }
+
+    /// The operand that begins with a name or a type: a call, or an index of a name.
+    #[tactic(auto, unfolding(crate::specs::Expressions::applied))]
+    pub fn applied(&self, head: Head, tokens: &mut Cursor<'_>) -> Result<Expr, Stop>
+        requires { Nests self.now.depth (F.pre self.now.expr) (F.post self.now.expr) }
+        ensures { Reads (spec.applied (spec.expr self.now.depth) head tokens.old) result tokens.new }
+    {
+        if tokens.sees(Punct::LeftParen) && may_be_open(head.mode) {
+            tokens.take_one()?;
+            return self.arguments(head_type(head), tokens);
+        }
+        if !may_be_index(head.mode) {
+            return Err(Stop::At(tokens.left()));
+        }
+        let Head {
+            place,
+            base,
+            dims,
+            ..
+        } = head;
+        match base {
+            Base::Named(text) => Ok(index_all(self.alloc, Expr::Name(place, text), dims)?),
+            Base::Basic(_) => Err(Stop::At(tokens.left())),
+        }
+    }
+
+    /// What stands behind `.` and a name.
+    #[tactic(auto, unfolding(crate::specs::Expressions::selected))]
+    fn selected(
+        &self,
+        place: Place,
+        member: Name,
+        left: Expr,
+        tokens: &mut Cursor<'_>,
+    ) -> Result<Expr, Stop>
+        ensures { Reads (spec.selected place member left tokens.old) result tokens.new }
+    {
+        let left = Boxed::new(self.alloc, left)?;
+        let Name { text, .. } = member;
+        if tokens.sees(Punct::LeftParen) {
+            tokens.take_one()?;
+            tokens.expect(Punct::RightParen)?;
+            return Ok(Expr::Method(place, left, text));
+        }
+        Ok(Expr::Member(place, left, text))
+    }
+
+    fn indexed(&self, left: Expr, tokens: &mut Cursor<'_>) -> Result<Expr, Stop>
+        requires { Nests self.now.depth (F.pre self.now.expr) (F.post self.now.expr) }
+        ensures { Reads (spec.operate_as (spec.expr self.now.depth) left follow.Index tokens.old) result tokens.new }
+    {
+        let place = tokens.take_one()?;
+        let at = self.expr(tokens, 0)?;
+        tokens.expect(Punct::RightBracket)?;
+        Ok(index(self.alloc, place, left, at)?)
+    }
+
+    fn member(&self, left: Expr, tokens: &mut Cursor<'_>) -> Result<Expr, Stop>
+        requires { Nests self.now.depth (F.pre self.now.expr) (F.post self.now.expr) }
+        ensures { Reads (spec.operate_as (spec.expr self.now.depth) left follow.Member tokens.old) result tokens.new }
+    {
+        let place = tokens.take_one()?;
+        let name = tokens.name(self.alloc)?;
+        self.selected(place, name, left, tokens)
+    }
+
+    fn stepped(&self, op: PostfixOp, left: Expr, tokens: &mut Cursor<'_>) -> Result<Expr, Stop>
+        requires { Nests self.now.depth (F.pre self.now.expr) (F.post self.now.expr) }
+        ensures { Reads (spec.operate_as (spec.expr self.now.depth) left (follow.Postfix op) tokens.old) result tokens.new }
+    {
+        let place = tokens.take_one()?;
+        Ok(postfix(self.alloc, place, op, left)?)
+    }
+
+    fn joined(&self, op: BinaryOp, left: Expr, tokens: &mut Cursor<'_>) -> Result<Expr, Stop>
+        requires { Nests self.now.depth (F.pre self.now.expr) (F.post self.now.expr) }
+        ensures { Reads (spec.operate_as (spec.expr self.now.depth) left (follow.Binary op) tokens.old) result tokens.new }
+    {
+        let place = tokens.take_one()?;
+        let right = self.expr(tokens, level(op) + 1)?;
+        Ok(binary(self.alloc, place, op, left, right)?)
+    }
+
+    #[tactic(auto, unfolding(crate::specs::Expressions::operate))]
+    fn operate(&self, left: Expr, tokens: &mut Cursor<'_>) -> Result<Expr, Stop>
+        requires { Nests self.now.depth (F.pre self.now.expr) (F.post self.now.expr) }
+        ensures { Reads (spec.operate (spec.expr self.now.depth) left tokens.old) result tokens.new }
+    {
+        match next_follow(tokens.rest()) {
+            Follow::Index => self.indexed(left, tokens),
+            Follow::Member => self.member(left, tokens),
+            Follow::Postfix(op) => self.stepped(op, left, tokens),
+            Follow::Binary(op) => self.joined(op, left, tokens),
+            Follow::End => Err(Stop::At(tokens.left())),
+        }
+    }
+
+    /// Operators that bind at least so tightly, with their operands.
+    fn climb(&self, least: u8, first: Expr, tokens: &mut Cursor<'_>) -> Result<Expr, Stop>
+        requires { Nests self.now.depth (F.pre self.now.expr) (F.post self.now.expr) }
+        ensures { Reads (spec.climb (spec.expr self.now.depth) least (length tokens.old) first tokens.old) result tokens.new }
+    {
+        let mut left = first;
+        for _turn in 0..tokens.left() {
+            if binds(next_follow(tokens.rest())) < least {
+                return Ok(left);
+            }
+            left = self.operate(left, tokens)?;
+        }
+        Ok(left)
+    }
+
+    /// The rest of a condition, from its `?` on.
+    fn chosen(&self, least: u8, left: Expr, tokens: &mut Cursor<'_>) -> Result<Expr, Stop>
+        requires { Nests self.now.depth (F.pre self.now.expr) (F.post self.now.expr) }
+        ensures { Reads (spec.tailed_as (spec.expr self.now.depth) least left tail.Question tokens.old) result tokens.new }
+    {
+        if least > 2 {
+            return Ok(left);
+        }
+        let place = tokens.take_one()?;
+        let chosen = self.expr(tokens, 0)?;
+        tokens.expect(Punct::Colon)?;
+        let other = self.expr(tokens, 1)?;
+        Ok(conditional(self.alloc, place, left, chosen, other)?)
+    }
+
+    /// The rest of an assignment, from its operator on.
+    fn assigned(
+        &self,
+        least: u8,
+        op: AssignOp,
+        left: Expr,
+        tokens: &mut Cursor<'_>,
+    ) -> Result<Expr, Stop>
+        requires { Nests self.now.depth (F.pre self.now.expr) (F.post self.now.expr) }
+        ensures { Reads (spec.tailed_as (spec.expr self.now.depth) least left (tail.Assign op) tokens.old) result tokens.new }
+    {
+        if least > 1 || !is_tight(&left) {
+            return Ok(left);
+        }
+        let place = tokens.take_one()?;
+        let value = self.expr(tokens, 1)?;
+        Ok(assign(self.alloc, place, op, left, value)?)
+    }
+
+    /// A condition or an assignment, where such may stand.
+    #[tactic(auto, unfolding(crate::specs::Expressions::tailed))]
+    fn tailed(&self, least: u8, left: Expr, tokens: &mut Cursor<'_>) -> Result<Expr, Stop>
+        requires { Nests self.now.depth (F.pre self.now.expr) (F.post self.now.expr) }
+        ensures { Reads (spec.tailed (spec.expr self.now.depth) least left tokens.old) result tokens.new }
+    {
+        match next_tail(tokens.rest()) {
+            Tail::Question => self.chosen(least, left, tokens),
+            Tail::Assign(op) => self.assigned(least, op, left, tokens),
+            Tail::End => Ok(left),
+        }
+    }
+
+    /// What stands behind commas.
+    fn further(&self, tokens: &mut Cursor<'_>) -> Result<List<(Place, Expr)>, Stop>
+        requires { Nests self.now.depth (F.pre self.now.expr) (F.post self.now.expr) }
+        ensures { Reads (spec.further (spec.expr self.now.depth) (length tokens.old) [] tokens.old) result tokens.new }
+    {
+        let mut found = List::new(self.alloc);
+        for _turn in 0..tokens.left() {
+            if !tokens.sees(Punct::Comma) {
+                return Ok(found);
+            }
+            let place = tokens.take_one()?;
+            let item = self.expr(tokens, 1)?;
+            found.push((place, item))?;
+        }
+        Ok(found)
+    }
+
+    /// The expression that begins with this operand.
+    #[tactic(auto, unfolding(crate::specs::Expressions::completed, crate::specs::Expressions::sequenced))]
+    pub fn completed(&self, least: u8, first: Expr, tokens: &mut Cursor<'_>) -> Result<Expr, Stop>
+        requires { Nests self.now.depth (F.pre self.now.expr) (F.post self.now.expr) }
+        ensures { Reads (spec.completed (spec.expr self.now.depth) least first tokens.old) result tokens.new }
+    {
+        let tree = self.climb(least.max(3), first, tokens)?;
+        let tree = self.tailed(least, tree, tokens)?;
+        if least > 0 {
+            return Ok(tree);
+        }
+        let more = self.further(tokens)?;
+        Ok(sequence(self.alloc, tree, more)?)
+    }
+
+    /// An expression, its first operand first.
+    fn whole(&self, least: u8, tokens: &mut Cursor<'_>) -> Result<Expr, Stop>
+        requires { Nests self.now.depth (F.pre self.now.expr) (F.post self.now.expr) }
+        ensures { Reads (spec.whole (spec.expr self.now.depth) least tokens.old) result tokens.new }
+    {
+        let first = self.operand(tokens)?;
+        self.completed(least, first, tokens)
+    }
+}
+
+/// An expression of a level that nests no deeper than `depth`.
+pub fn expr(alloc: Global, tokens: &mut Cursor<'_>, depth: usize, least: u8) -> Result<Expr, Stop>
+    ensures { Reads (spec.expr depth least tokens.old) result tokens.new }
+{
+    if depth == 0 {
+        return Err(Stop::At(tokens.left()));
+    }
+    Grammar {
+        alloc,
+        depth: depth - 1,
+        expr,
+    }
+    .whole(least, tokens)
+}

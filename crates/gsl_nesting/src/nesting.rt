@@ -1,0 +1,261 @@
+//! The limit on nesting.
+
+ghost use Rattle.std.specs.Prelude.{◌≡◌, ◌≤◌, ◌<◌, IfOk, OnOk};
+ghost use Rattle.std.specs.Option.{option_map};
+ghost use Rattle.gsl_base.specs.declared.token.Token.{Token};
+ghost use Rattle.gsl_syntax.specs.Nesting as spec;
+ghost use Rattle.gsl_nesting.specs.Walking.{counters, Holds};
+
+use crate::stack::Stack;
+use gsl_base::{Key, Kind, Memory, Place, Punct, Token};
+use gsl_syntax::Counter;
+use std::alloc::Global;
+
+const LIMIT: u32 = 256;
+
+fn fresh(list: bool) -> Counter
+    ensures { result ≡ spec.fresh list }
+{
+    Counter {
+        value: 0,
+        choices: 0,
+        words: 0,
+        list,
+    }
+}
+
+/// The counters on the way through the tokens, and their weight.
+#[derive(Drop)]
+pub(crate) struct Walk {
+    pub top: Counter,
+    pub below: Stack,
+    pub weight: u32,
+}
+
+impl Walk {
+    fn new(alloc: Global) -> Walk
+        ensures counted { counters result ≡ spec.at_first }
+        ensures holds { Holds result }
+    {
+        Walk {
+            top: fresh(false),
+            below: Stack::new(alloc),
+            weight: 0,
+        }
+    }
+
+    fn add(&mut self)
+        requires holds { Holds self.old }
+        requires within { self.old.weight ≤ 256 }
+        ensures counted { counters self.new ≡ spec.add (counters self.old) }
+        ensures holds { Holds self.new }
+    {
+        self.top.value += 1;
+        self.weight += 1;
+    }
+
+    fn add_word(&mut self)
+        requires holds { Holds self.old }
+        requires within { self.old.weight ≤ 256 }
+        ensures counted { counters self.new ≡ spec.add_word (counters self.old) }
+        ensures holds { Holds self.new }
+    {
+        self.add();
+        self.top.words += 1;
+    }
+
+    fn open_choice(&mut self)
+        requires holds { Holds self.old }
+        requires within { self.old.weight ≤ 256 }
+        ensures counted { counters self.new ≡ spec.open_choice (counters self.old) }
+        ensures holds { Holds self.new }
+    {
+        self.add();
+        self.top.choices += 1;
+    }
+
+    fn close_choice(&mut self)
+        requires holds { Holds self.old }
+        ensures counted { counters self.new ≡ spec.close_choice (counters self.old) }
+        ensures holds { Holds self.new }
+        ensures weight { self.new.weight ≡ self.old.weight }
+    {
+        self.top.choices = self.top.choices.saturating_sub(1);
+    }
+
+    fn clear(&mut self)
+        requires holds { Holds self.old }
+        ensures counted { counters self.new ≡ spec.clear (counters self.old) }
+        ensures holds { Holds self.new }
+        ensures weight { self.new.weight ≤ self.old.weight }
+    {
+        self.weight -= self.top.value;
+        self.top = fresh(self.top.list);
+    }
+
+    fn separate(&mut self)
+        requires holds { Holds self.old }
+        ensures counted { counters self.new ≡ spec.separate (counters self.old) }
+        ensures holds { Holds self.new }
+    {
+        if self.top.choices == 0 {
+            self.weight -= self.top.value - self.top.words;
+            self.top.value = self.top.words;
+        }
+    }
+
+    fn push(&mut self, list: bool) -> Result<(), Memory>
+        requires holds { Holds self.old }
+        requires within { self.old.weight ≤ 256 }
+        ensures counted { OnOk result (counters self.new ≡ spec.push list (counters self.old)) }
+        ensures holds { OnOk result (Holds self.new) }
+    {
+        self.below.push(self.top)?;
+        self.top = fresh(list);
+        self.weight += 1;
+        Ok(())
+    }
+
+    fn pop(&mut self)
+        requires holds { Holds self.old }
+        ensures counted { counters self.new ≡ spec.pop (counters self.old) }
+        ensures holds { Holds self.new }
+        ensures weight { self.new.weight ≤ self.old.weight }
+    {
+        if let Some(top) = self.below.pop() {
+            self.weight -= self.top.value;
+            self.weight -= 1;
+            self.top = top;
+        }
+    }
+
+    fn end_statement(&mut self, on: bool)
+        requires holds { Holds self.old }
+        ensures counted { counters self.new ≡ spec.end_statement on (counters self.old) }
+        ensures holds { Holds self.new }
+    {
+        if !on {
+            self.clear();
+        }
+    }
+
+    fn close_brace(&mut self, on: bool)
+        requires holds { Holds self.old }
+        ensures counted { counters self.new ≡ spec.close_brace on (counters self.old) }
+        ensures holds { Holds self.new }
+    {
+        let list = self.top.list && !self.below.is_empty();
+        self.pop();
+        if !list {
+            self.end_statement(on);
+        }
+    }
+
+    fn punct(&mut self, list: bool, on: bool, punct: Punct) -> Result<(), Memory>
+        requires holds { Holds self.old }
+        requires within { self.old.weight ≤ 256 }
+        ensures counted { OnOk result (counters self.new ≡ spec.counted_punct list on punct (counters self.old)) }
+        ensures holds { OnOk result (Holds self.new) }
+    {
+        match punct {
+            Punct::LeftParen | Punct::LeftBracket => self.push(false)?,
+            Punct::LeftBrace => self.push(list)?,
+            Punct::RightParen | Punct::RightBracket => {
+                self.pop();
+                self.add();
+            }
+            Punct::RightBrace => self.close_brace(on),
+            Punct::Semicolon => self.end_statement(on),
+            Punct::Question => self.open_choice(),
+            Punct::Colon => self.close_choice(),
+            Punct::Comma => self.separate(),
+            _ => self.add(),
+        }
+        Ok(())
+    }
+
+    fn key(&mut self, label: bool, key: Key)
+        requires holds { Holds self.old }
+        requires within { self.old.weight ≤ 256 }
+        ensures counted { counters self.new ≡ spec.counted_key label key (counters self.old) }
+        ensures holds { Holds self.new }
+    {
+        match key {
+            Key::Case | Key::Default => {
+                if label {
+                    self.clear();
+                }
+            }
+            Key::If | Key::Else | Key::Do | Key::For | Key::While | Key::Switch => self.add_word(),
+            _ => {}
+        }
+    }
+
+    /// Counts a token between the one before it and the one behind it.
+    fn count(&mut self, list: bool, label: bool, on: bool, kind: &Kind) -> Result<(), Memory>
+        requires holds { Holds self.old }
+        requires within { self.old.weight ≤ 256 }
+        ensures counted { OnOk result (counters self.new ≡ spec.counted list label on kind.now (counters self.old)) }
+        ensures holds { OnOk result (Holds self.new) }
+    {
+        match kind {
+            Kind::Punct(punct) => self.punct(list, on, *punct),
+            Kind::Key(key) => {
+                self.key(label, *key);
+                Ok(())
+            }
+            _ => Ok(()),
+        }
+    }
+}
+
+fn begins_list(kind: &Kind) -> bool
+    ensures { result ≡ spec.begins_list kind.now }
+{
+    matches!(
+        kind,
+        Kind::Name(_) | Kind::Punct(Punct::Equal | Punct::Comma)
+    )
+}
+
+fn before_label(kind: &Kind) -> bool
+    ensures { result ≡ spec.before_label kind.now }
+{
+    match kind {
+        Kind::Punct(punct) => matches!(
+            punct,
+            Punct::LeftBrace | Punct::RightBrace | Punct::Semicolon | Punct::Colon
+        ),
+        _ => false,
+    }
+}
+
+fn goes_on(tokens: &[Token]) -> bool
+    ensures { result ≡ spec.goes_on tokens.now }
+{
+    match tokens {
+        [] => false,
+        [token, ..] => matches!(token.kind, Kind::Key(Key::Else | Key::While)),
+    }
+}
+
+/// The place of the first token that is nested too deeply, if there is one.
+#[tactic(auto, unfolding(gsl_syntax::specs::Nesting::deep_from, gsl_syntax::specs::Nesting::first_deep))]
+pub fn first_deep(alloc: Global, tokens: &[Token]) -> Result<Option<Place>, Memory>
+    ensures { IfOk result (λ place. place ≡ option_map (λ (t : Token). t.place) (spec.first_deep tokens.now)) }
+{
+    let mut walk = Walk::new(alloc);
+    let mut list = false;
+    let mut label = false;
+    let mut rest = tokens;
+    while let [token, more @ ..] = rest {
+        walk.count(list, label, goes_on(more), &token.kind)?;
+        if walk.weight > LIMIT {
+            return Ok(Some(token.place));
+        }
+        list = begins_list(&token.kind);
+        label = before_label(&token.kind);
+        rest = more;
+    }
+    Ok(None)
+}
