@@ -1,5 +1,5 @@
--- One expression from all of its tokens.
-use Rattle.std.specs.Prelude.{◌≡◌, ⊤, ℕ, [], ◌∷◌, length, Option, Some, None, Result, Ok, Err, nat_eq, if◌then◌else◌}
+-- What is answered of all of the tokens.
+use Rattle.std.specs.Prelude.{◌≡◌, ⊤, ◌⊎◌, ℕ, List, [], ◌∷◌, length, Option, Some, None, Result, Ok, Err, nat_eq, if◌then◌else◌}
 use Rattle.std.specs.Option.{option_map}
 use Rattle.gsl_base.specs.declared.fault.Place.{Place}
 use Rattle.gsl_base.specs.declared.fault.Fault.{Fault}
@@ -7,10 +7,10 @@ use Rattle.gsl_base.specs.declared.fault.Code.TheVariants as code
 use Rattle.gsl_base.specs.declared.fault.Refusal.{Refusal}
 use Rattle.gsl_base.specs.declared.fault.Refusal.TheVariants as refusal
 use Rattle.gsl_base.specs.declared.token.Token.{Token}
-use Rattle.gsl_syntax.specs.declared.expr.Expr.{Expr}
+use Rattle.gsl_syntax.specs.declared.statement.Global.{Global}
 use Rattle.gsl_syntax.specs.Nesting.{first_deep}
-use Rattle.gsl_parse.specs.Reading.{Tokens, Outcome}
-use Rattle.gsl_parse.specs.Expressions.{expr}
+use Rattle.gsl_expr.specs.Reading.{Tokens, Outcome}
+use Rattle.gsl_parse.specs.Units.{globals}
 
 -- the place of the token with so many left from it on, or of the last token where there is none
 unfoldable pub place_from : Place → Tokens → ℕ → Place
@@ -23,18 +23,58 @@ first_line = record { unit = 0; line = 1 }
 abbrev pub bad : Tokens → ℕ → Fault
 bad ts left = record { place = place_from first_line ts left; code = code.E0301 }
 
-abbrev pub judged : Tokens → Option Place → Outcome Expr → Result Expr Fault
+abbrev pub judged : {A : Type 0} → Tokens → Option Place → Outcome A → Result A Fault
 judged ts (Some place) outcome = Err (record { place = place; code = code.E0902 })
 judged ts None (Ok (tree, [])) = Ok tree
 judged ts None (Ok (tree, t ∷ more)) = Err (bad ts (length (t ∷ more)))
 judged ts None (Err left) = Err (bad ts left)
 
--- the expression that the tokens read as, or the first fault
-abbrev pub expression_of : Tokens → Result Expr Fault
-expression_of ts = judged ts (option_map (λ (t : Token). t.place) (first_deep ts)) (expr (length ts) 0 ts)
+abbrev pub place_of : Token → Place
+place_of t = t.place
+
+-- the unit that the tokens read as, or the first fault
+abbrev pub unit_of : Tokens → Result (List Global) Fault
+unit_of ts = judged ts (option_map place_of (first_deep ts)) (globals (length ts) ts)
 
 -- Unless memory was wanting, the answer is this.
-abbrev pub Judges : Result Expr Refusal → Result Expr Fault → Type 0
+abbrev pub Judges : {A : Type 0} → Result A Refusal → Result A Fault → Type 0
 Judges (Ok tree) answer = answer ≡ Ok tree
 Judges (Err (refusal.Source fault)) answer = answer ≡ Err fault
 Judges (Err refusal.Memory) answer = ⊤
+
+-- ---- what an answer says of the tokens, by the grammar alone
+
+-- the place of one of the tokens
+abbrev pub IsAmong : Place → Tokens → Type 0
+IsAmong p [] = ⊥
+IsAmong p (t ∷ ts) = (p ≡ t.place) ⊎ IsAmong p ts
+
+-- the place of one of the tokens, or line 1 where there is none
+abbrev pub IsWithin : Place → Tokens → Type 0
+IsWithin p [] = p ≡ first_line
+IsWithin p (t ∷ ts) = IsAmong p (t ∷ ts)
+
+-- The tokens nest too deeply, and the fault tells where they first do.
+pub record TooDeep (ts : Tokens) (fault : Fault) : Type 0 where
+  pub token : Token
+  pub deep : first_deep ts ≡ Some token
+  pub is : fault ≡ record { place = token.place; code = code.E0902 }
+
+-- They do not nest too deeply, and stand for nothing.
+pub record NoSentence {A : Type 0} (Stands : A → Tokens → Type 0) (ts : Tokens) (fault : Fault) : Type 0 where
+  pub shallow : first_deep ts ≡ None
+  pub nothing : (tree : A) → Stands tree ts → ⊥
+  pub code_is : fault.code ≡ code.E0301
+  pub within : IsWithin fault.place ts
+
+-- A tree is one that the tokens stand for, and a fault is due.
+abbrev pub Parsed : {A : Type 0} → (A → Tokens → Type 0) → Tokens → Result A Refusal → Type 0
+Parsed Stands ts (Ok tree) = Stands tree ts × (first_deep ts ≡ None)
+Parsed Stands ts (Err (refusal.Source fault)) = TooDeep ts fault ⊎ NoSentence Stands ts fault
+Parsed Stands ts (Err refusal.Memory) = ⊤
+
+-- This tree is the answer, unless memory was wanting or the tokens nest too deeply.
+abbrev pub Only : {A : Type 0} → A → Tokens → Result A Refusal → Type 0
+Only tree ts (Ok found) = found ≡ tree
+Only tree ts (Err (refusal.Source fault)) = TooDeep ts fault
+Only tree ts (Err refusal.Memory) = ⊤

@@ -1,6 +1,8 @@
-pub mod Expressions
 pub mod Judged
-pub mod Nests
-pub mod Reading
-pub mod Rules
-pub mod Walking
+pub mod Lists
+pub mod Openings
+pub mod Qualifiers
+pub mod Statements
+pub mod Units
+pub mod Variables
+pub mod Within

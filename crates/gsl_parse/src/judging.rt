@@ -1,17 +1,61 @@
-//! One expression from all of its tokens.
+//! The unit that all of the tokens are.
 
-ghost use Rattle.std.specs.Prelude.{◌≡◌};
+ghost use Rattle.std.specs.Prelude.{◌≡◌, List};
+ghost use Rattle.gsl_syntax.specs.declared.statement.Global.{Global as Top};
+ghost use Rattle.gsl_syntax.specs.Sentences.{IsUnit};
 ghost use Rattle.gsl_parse.specs.Judged as spec;
-ghost use Rattle.gsl_parse.specs.Judged.{Judges};
+ghost use Rattle.gsl_parse.specs.Judged.{Judges, Parsed, Only};
 ghost use Rattle.gsl_base.specs.declared.fault.Refusal.TheVariants as refusal;
 
-use crate::grammar::expr;
-use crate::nesting::first_deep;
-use crate::reading::Cursor;
-use crate::stop::Stop;
-use gsl_base::{Code, Fault, Place, Refusal, Token};
-use gsl_syntax::Expr;
+use crate::unit::globals;
+use gsl_base::{Code, Fault, Place, Refusal, Token, Tokens};
+use gsl_expr::{Cursor, Stop};
+use gsl_nesting::first_deep;
+use gsl_syntax::Unit;
 use std::alloc::Global;
+
+/// The tree of a unit's tokens (GLSL 4.50, chapter 9), each node with the place of its head token.
+/// `E0902` comes exactly where the tokens nest too deeply, at the first token that does, and else `E0301`
+/// exactly where they are no unit, at the token where reading stops, the last one where they end too soon.
+pub fn parse(alloc: Global, tokens: &Tokens) -> Result<Unit, Refusal>
+    // The answer is what the reader on lists gives.
+    ensures answer { Judges result (spec.unit_of tokens.now) }
+    // A tree is one that the grammar derives from exactly these tokens, and a fault is due.
+    ensures derived { Parsed IsUnit tokens.now result }
+    // A tree that the grammar derives is that one.
+    ensures only { (tree : List Top) → IsUnit tree tokens.now → Only tree tokens.now result }
+{
+    unit(alloc, tokens.as_slice())
+}
+
+fn unit(alloc: Global, tokens: &[Token]) -> Result<Unit, Refusal>
+    ensures { Judges result (spec.unit_of tokens.now) }
+{
+    if let Some(place) = first_deep(alloc, tokens)? {
+        return Err(Refusal::Source(Fault {
+            place,
+            code: Code::E0902,
+        }));
+    }
+    let mut cursor = Cursor::new(tokens);
+    match globals(alloc, &mut cursor, tokens.len()) {
+        Ok(tree) => match cursor.rest() {
+            [] => Ok(tree),
+            [_, ..] => Err(bad(tokens, cursor.left())),
+        },
+        Err(Stop::At(left)) => Err(bad(tokens, left)),
+        Err(Stop::Memory) => Err(Refusal::Memory),
+    }
+}
+
+fn bad(tokens: &[Token], left: usize) -> Refusal
+    ensures { result ≡ refusal.Source (spec.bad tokens.now left) }
+{
+    Refusal::Source(Fault {
+        place: place_at(tokens, left),
+        code: Code::E0301,
+    })
+}
 
 /// The place of the token with so many left from it on, or of the last token where there is none.
 #[tactic(auto, unfolding(crate::specs::Judged::place_from))]
@@ -28,36 +72,4 @@ fn place_at(tokens: &[Token], left: usize) -> Place
         rest = more;
     }
     place
-}
-
-fn bad(tokens: &[Token], left: usize) -> Refusal
-    ensures { result ≡ refusal.Source (spec.bad tokens.now left) }
-{
-    Refusal::Source(Fault {
-        place: place_at(tokens, left),
-        code: Code::E0301,
-    })
-}
-
-/// The expression that all of these tokens read as (GLSL 4.50, 5.1 and chapter 9). `E0902` comes where
-/// they nest too deeply, and else `E0301` where they are no expression, at the first token that none has
-/// there, or at the last one where they end too soon.
-pub fn expression(alloc: Global, tokens: &[Token]) -> Result<Expr, Refusal>
-    ensures { Judges result (spec.expression_of tokens.now) }
-{
-    if let Some(place) = first_deep(alloc, tokens)? {
-        return Err(Refusal::Source(Fault {
-            place,
-            code: Code::E0902,
-        }));
-    }
-    let mut cursor = Cursor::new(tokens);
-    match expr(alloc, &mut cursor, tokens.len(), 0) {
-        Ok(tree) => match cursor.rest() {
-            [] => Ok(tree),
-            [_, ..] => Err(bad(tokens, cursor.left())),
-        },
-        Err(Stop::At(left)) => Err(bad(tokens, left)),
-        Err(Stop::Memory) => Err(Refusal::Memory),
-    }
 }

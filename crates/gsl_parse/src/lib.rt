@@ -1,24 +1,24 @@
-//! From tokens to their tree (GLSL 4.50, chapter 9). So far: where the tokens nest too deeply, and
-//! the rules of expressions.
+//! From the tokens of a unit to its tree (GLSL 4.50, chapter 9).
 //!
-//! `specs/Nesting.antt` of `gsl_syntax` says at which token a list of tokens nests too deeply, and
-//! `first_deep` answers it. `specs/Expressions.antt` reads expressions from a list of tokens, and
-//! `src/grammar.rt` does the same.
+//! `specs/Sentences.antt` of `gsl_syntax` says which tokens stand for which unit, and its
+//! `specs/Nesting.antt` at which token they nest too deeply. `specs/Units.antt` reads units from a list
+//! of tokens, with the files that it uses, `src/unit.rt` does the same, and `specs/Judged.antt` says
+//! what `parse` answers.
 #![tactic(auto)]
 
-mod expr;
-mod grammar;
 mod judging;
-mod nesting;
-mod reading;
-mod rule;
-mod stack;
-mod stop;
+mod laws;
+mod list;
+mod opening;
+mod qualifier;
+mod statement;
+mod unit;
+mod variable;
 
-pub use judging::expression;
-pub use nesting::first_deep;
+pub use judging::parse;
+pub use laws::one_tree;
 
 #[cfg(test)]
-mod judging_tests;
+mod cases;
 #[cfg(test)]
-mod tests;
+mod shown;
