@@ -1,5 +1,5 @@
 //! Worked examples of whole runs: command lines over hosts in memory, and what they give; shaders and
-//! their modules on buffers, run side by side. It has no call of its own.
+//! their modules on buffers, run side by side; texts and their trees. It has no call of its own.
 #![tactic(auto)]
 
 #[cfg(test)]
@@ -12,3 +12,5 @@ mod form;
 mod meaning;
 #[cfg(test)]
 mod runs;
+#[cfg(test)]
+mod sources;
