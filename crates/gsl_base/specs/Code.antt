@@ -1,7 +1,7 @@
 -- The numbers of the fault codes.
 use Rattle.std.specs.Prelude.{ℕ}
 use Rattle.gsl_base.specs.declared.fault.Code.{Code}
-use Rattle.gsl_base.specs.declared.fault.Code.TheVariants.{E0001, E0101, E0102, E0103, E0104, E0105, E0106, E0301, E0900, E0902}
+use Rattle.gsl_base.specs.declared.fault.Code.TheVariants.{E0001, E0101, E0102, E0103, E0104, E0105, E0106, E0201, E0202, E0203, E0204, E0205, E0206, E0207, E0208, E0209, E0210, E0211, E0212, E0213, E0214, E0215, E0301, E0401, E0402, E0403, E0404, E0405, E0501, E0502, E0503, E0504, E0505, E0506, E0507, E0508, E0509, E0510, E0511, E0512, E0513, E0514, E0601, E0602, E0603, E0604, E0605, E0606, E0701, E0702, E0703, E0704, E0705, E0706, E0707, E0708, E0709, E0801, E0802, E0803, E0804, E0805, E0806, E0807, E0900, E0901, E0902, E0903, E0904, E0905, E0906, E0907, E0908}
 
 -- the number that is printed after `E`
 abbrev pub number_of : Code → ℕ
@@ -12,6 +12,69 @@ number_of E0103 = 103
 number_of E0104 = 104
 number_of E0105 = 105
 number_of E0106 = 106
+number_of E0201 = 201
+number_of E0202 = 202
+number_of E0203 = 203
+number_of E0204 = 204
+number_of E0205 = 205
+number_of E0206 = 206
+number_of E0207 = 207
+number_of E0208 = 208
+number_of E0209 = 209
+number_of E0210 = 210
+number_of E0211 = 211
+number_of E0212 = 212
+number_of E0213 = 213
+number_of E0214 = 214
+number_of E0215 = 215
 number_of E0301 = 301
+number_of E0401 = 401
+number_of E0402 = 402
+number_of E0403 = 403
+number_of E0404 = 404
+number_of E0405 = 405
+number_of E0501 = 501
+number_of E0502 = 502
+number_of E0503 = 503
+number_of E0504 = 504
+number_of E0505 = 505
+number_of E0506 = 506
+number_of E0507 = 507
+number_of E0508 = 508
+number_of E0509 = 509
+number_of E0510 = 510
+number_of E0511 = 511
+number_of E0512 = 512
+number_of E0513 = 513
+number_of E0514 = 514
+number_of E0601 = 601
+number_of E0602 = 602
+number_of E0603 = 603
+number_of E0604 = 604
+number_of E0605 = 605
+number_of E0606 = 606
+number_of E0701 = 701
+number_of E0702 = 702
+number_of E0703 = 703
+number_of E0704 = 704
+number_of E0705 = 705
+number_of E0706 = 706
+number_of E0707 = 707
+number_of E0708 = 708
+number_of E0709 = 709
+number_of E0801 = 801
+number_of E0802 = 802
+number_of E0803 = 803
+number_of E0804 = 804
+number_of E0805 = 805
+number_of E0806 = 806
+number_of E0807 = 807
 number_of E0900 = 900
+number_of E0901 = 901
 number_of E0902 = 902
+number_of E0903 = 903
+number_of E0904 = 904
+number_of E0905 = 905
+number_of E0906 = 906
+number_of E0907 = 907
+number_of E0908 = 908

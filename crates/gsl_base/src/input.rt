@@ -33,7 +33,8 @@ pub type Ins = List<Located>;
 /// Outputs in ascending order of location.
 pub type Outs = List<Located>;
 
-/// What a run is given. `specs/Proper.antt` of `gsl_cmd` says which inputs are proper.
+/// What a run is given. `specs/Proper.antt` says which inputs are proper, and `specs/Ranges.antt` which
+/// have numbers that fit their types.
 #[derive(Debug, Drop)]
 pub struct Input {
     pub buffers: Buffers,

@@ -6,7 +6,7 @@ use Rattle.std.proofs.lemmas.List.{length-set, length-map, get_or-set_same, get_
 use Rattle.gsl_base.specs.declared.input.Buffer.{Buffer}
 use Rattle.gsl_words.specs.Words.{word_at, put_word}
 use Rattle.gsl_cmd.specs.Buffers.{is_at, bytes_at, with_bytes, word_offset, seen, put_words}
-use Rattle.gsl_cmd.specs.Proper.{AreBytes, FitsBuffer}
+use Rattle.gsl_base.specs.Ranges.{AreBytes, FitsBuffer}
 use Rattle.gsl_words.proofs.Bytes.{put-length, word_at-put, word_before, word_behind, put-put_before, put-put_same, put-word_at, byte_small}
 
 -- Words and bytes ----------------------------------------------------------------------------------------

@@ -8,7 +8,8 @@ use Rattle.std.specs.Prelude.{codes}
 use Rattle.gsl_cmd.specs.declared.program.Statement.{Statement}
 use Rattle.gsl_cmd.specs.declared.program.Program.{Program}
 use Rattle.gsl_cmd.specs.Form.{Name, is_name, differ, statement_text, member_text, opening, middle, closing, text_of, IsStatement, IsProgram, Spells}
-use Rattle.gsl_cmd.specs.Reading.{◌>>=◌, after, name_at, member_at, declared_end_at, declared_at, next_declared_at, more_at, more_by, statement_at, next_statement_at, statements_at, members_at, closed, body_at, behind_members, program_at}
+use Rattle.gsl_base.specs.Prefix.{after}
+use Rattle.gsl_cmd.specs.Reading.{◌>>=◌, name_at, member_at, declared_end_at, declared_at, next_declared_at, more_at, more_by, statement_at, next_statement_at, statements_at, members_at, closed, body_at, behind_members, program_at}
 use Rattle.gsl_cmd.proofs.Steps.{bind_some, bind_on, some_is, guard_some, after_gives, after_is, three_parts, three_read, four_parts, five_read}
 use Rattle.gsl_cmd.proofs.Pieces.{name_gives, name_is}
 use Rattle.gsl_cmd.proofs.Lists.{Takes, more_is, more_gives}

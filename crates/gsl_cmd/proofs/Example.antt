@@ -12,7 +12,7 @@ use Rattle.gsl_cmd.specs.Lowering.{module_of}
 use Rattle.gsl_cmd.specs.Words.{word_sum}
 use Rattle.gsl_words.specs.Words.{word_at, put_word}
 use Rattle.gsl_cmd.specs.Fits.{fits, fits_module}
-use Rattle.gsl_cmd.specs.Proper.{StandsBefore}
+use Rattle.gsl_base.specs.Proper.{StandsBefore}
 use Rattle.gsl_cmd.specs.Carries.{IsFitting}
 use Rattle.gsl_cmd.specs.Shader as shader
 use Rattle.gsl_cmd.specs.Machine as machine

@@ -11,7 +11,8 @@ use Rattle.gsl_cmd.specs.declared.program.Term.{Term}
 use Rattle.gsl_cmd.specs.declared.program.Term.TheVariants.{Member, Literal}
 use Rattle.gsl_cmd.specs.declared.program.Statement.{Statement}
 use Rattle.gsl_cmd.specs.Form.{Name, name_of, is_name, differ, term_text, statement_text, IsTerm, IsStatement}
-use Rattle.gsl_cmd.specs.Reading.{◌>>=◌, after, number_of, name_at, literal_at, begins_with_digit, member_at, term_at, more_at, some_at, next_term_at, sum_at, end_at, assigned_at, statement_at}
+use Rattle.gsl_base.specs.Prefix.{after}
+use Rattle.gsl_cmd.specs.Reading.{◌>>=◌, number_of, name_at, literal_at, begins_with_digit, member_at, term_at, more_at, some_at, next_term_at, sum_at, end_at, assigned_at, statement_at}
 use Rattle.gsl_cmd.proofs.Steps.{bind_some, bind_gives, bind_on, some_is, after_gives, after_is, four_parts, four_read}
 use Rattle.gsl_cmd.proofs.Pieces.{name_gives, name_is, number_of_gives, number_of_is, literal_gives, literal_is, numeral}
 use Rattle.gsl_cmd.proofs.Lists.{Takes, more_is, more_gives}

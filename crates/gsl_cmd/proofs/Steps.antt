@@ -1,7 +1,8 @@
 -- What a reading that found something has met on the way.
 use Rattle.std.proofs.Common.{◌≡◌, ℕ, Bool, true, false, cond, List, [], ◌∷◌, ◌++◌, Option, Some, None, refl, ap, sym, ◌∙◌, append_assoc}
 use Rattle.std.proofs.lemmas.Bool.{eqb-true, eq-eqb, cond-true}
-use Rattle.gsl_cmd.specs.Reading.{◌>>=◌, after}
+use Rattle.gsl_cmd.specs.Reading.{◌>>=◌}
+use Rattle.gsl_base.specs.Prefix.{after}
 
 pub bind_some : {A B : Type 0} (found : Option A) (next : A → Option B) (y : B) → (found >>= next) ≡ Some y → (x : A) × (found ≡ Some x) × (next x ≡ Some y)
 bind_some (Some x) next y e = (x, refl, e)

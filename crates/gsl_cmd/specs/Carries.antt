@@ -6,7 +6,8 @@ use Rattle.gsl_words.specs.declared.module.Module.{Module}
 use Rattle.gsl_valid.specs.Valid.{Valid}
 use Rattle.gsl_cmd.specs.declared.program.Program.{Program}
 use Rattle.gsl_cmd.specs.Places.{Places}
-use Rattle.gsl_cmd.specs.Proper.{IsProper, FitsTypes}
+use Rattle.gsl_base.specs.Proper.{IsProper}
+use Rattle.gsl_base.specs.Ranges.{FitsTypes}
 use Rattle.gsl_cmd.specs.Shader as shader
 use Rattle.gsl_cmd.specs.Machine as machine
 use Rattle.gsl_cmd.specs.Fits.{fits, fits_module}

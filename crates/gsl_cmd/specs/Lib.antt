@@ -13,7 +13,6 @@ pub mod Weight
 pub mod Written
 pub mod Words
 pub mod Buffers
-pub mod Proper
 pub mod Needs
 pub mod Shader
 pub mod Sections

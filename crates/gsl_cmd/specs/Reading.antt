@@ -5,6 +5,7 @@ use Rattle.std.specs.Option.{option_map}
 use Rattle.std.specs.Str.{bytes_eq}
 use Rattle.std.specs.Char.{is_ascii_digit, is_ascii_lowercase}
 use Rattle.std.specs.Borrow.{Bor}
+use Rattle.gsl_base.specs.Prefix.{after}
 use Rattle.gsl_base.specs.declared.memory.Memory.{Memory}
 use Rattle.gsl_cmd.specs.declared.program.Term.{Term}
 use Rattle.gsl_cmd.specs.declared.program.Term.TheVariants.{Member, Literal}
@@ -28,12 +29,6 @@ seen None = None
 -- Unless memory was wanting, what was read is the answer.
 abbrev pub Reads : {A : Type 0} → Result (Option (A × Bor (List ℕ))) Memory → Reading A → Type 0
 Reads read answer = IfOk read (λ found. seen found ≡ answer)
-
--- the bytes after the word, if they begin with it
-abbrev pub after : List ℕ → List ℕ → Option (List ℕ)
-after [] bytes = Some bytes
-after (w ∷ word) [] = None
-after (w ∷ word) (b ∷ bytes) = if b == w then after word bytes else None
 
 -- how many digits the bytes begin with
 abbrev pub digits_len : List ℕ → ℕ

@@ -7,6 +7,7 @@ ghost use Rattle.std.specs.List.{list_any};
 ghost use Rattle.std.specs.Str.{all_ascii_digits, bytes_eq, IsAscii};
 ghost use Rattle.gsl_cmd.specs.declared.program.Program.{Program};
 ghost use Rattle.gsl_cmd.specs.Form.{differ as names_differ, Spells};
+ghost use Rattle.gsl_base.specs.Prefix as prefix;
 ghost use Rattle.gsl_cmd.specs.Reading as spec;
 ghost use Rattle.gsl_cmd.specs.Reading.{Reads, seen};
 
@@ -18,7 +19,7 @@ use std::alloc::Global;
 
 /// The bytes after `word`, if they begin with it.
 fn after<'a>(word: &[u8], bytes: &'a [u8]) -> Option<&'a [u8]>
-    ensures { option_map (λ rest. rest.now) result ≡ spec.after word.now bytes.now }
+    ensures { option_map (λ rest. rest.now) result ≡ prefix.after word.now bytes.now }
 {
     bytes.strip_prefix(word)
 }

@@ -1,5 +1,4 @@
 pub mod Lines
-pub mod Prefixes
 pub mod Comments
 pub mod Fronts
 pub mod Loops

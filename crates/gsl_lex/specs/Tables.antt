@@ -1,6 +1,7 @@
 -- The tables of words and punctuators as the rules use them.
 use Rattle.std.specs.Prelude.{ℕ, Bool, true, false, ◌==◌, ◌||◌, List, [], ◌∷◌, map, Option, Some, None, if◌then◌else◌}
 use Rattle.std.specs.Str.{bytes_eq}
+use Rattle.gsl_base.specs.Prefix.{after}
 use Rattle.gsl_base.specs.declared.token.Key.{Key}
 use Rattle.gsl_base.specs.declared.token.Punct.{Punct}
 use Rattle.gsl_lex.specs.declared.rows.TheConstants.{PUNCTS, KEYWORDS, OTHER_TYPES, MATRICES, MATRIX_SIZES, OPAQUES, OPAQUE_KINDS, SHADOW_SAMPLERS, SHADOW_KINDS, OTHER_KEYWORDS, RESERVED, FUNCTIONS, VARIABLES}
@@ -29,12 +30,6 @@ key_of spelling = lookup keywords spelling
 abbrev pub among : List (List ℕ) → List ℕ → Bool
 among [] word = false
 among (row ∷ rows) word = if bytes_eq row word then true else among rows word
-
--- the word without what it begins with, if it begins so
-abbrev pub after : List ℕ → List ℕ → Option (List ℕ)
-after [] word = Some word
-after (a ∷ head) [] = None
-after (a ∷ head) (b ∷ word) = if b == a then after head word else None
 
 abbrev pub among_after : List (List ℕ) → Option (List ℕ) → Bool
 among_after tails None = false

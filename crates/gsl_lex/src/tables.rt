@@ -2,6 +2,7 @@
 
 ghost use Rattle.std.specs.Prelude.{◌≡◌, map};
 ghost use Rattle.std.specs.Option.{option_map};
+ghost use Rattle.gsl_base.specs.Prefix as prefix;
 ghost use Rattle.gsl_lex.specs.Tables as spec;
 
 use crate::rows::{
@@ -146,7 +147,7 @@ fn is_joint(head: &[u8], tails: &[&[u8]], word: &[u8]) -> bool
 
 /// The rest of the word after what it begins with, if it begins so.
 fn after<'a>(head: &[u8], word: &'a [u8]) -> Option<&'a [u8]>
-    ensures { option_map (λ rest. rest.now) result ≡ spec.after head.now word.now }
+    ensures { option_map (λ rest. rest.now) result ≡ prefix.after head.now word.now }
 {
     word.strip_prefix(head)
 }

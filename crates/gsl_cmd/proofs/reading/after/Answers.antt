@@ -1,4 +1,4 @@
-use Rattle.gsl_cmd.proofs.Digits.{stripped}
+use Rattle.gsl_base.proofs.Prefixes.{stripped}
 use Rattle.gsl_cmd.proofs.reading.after.Goals as goal
 
 pub returns : goal.returns

@@ -1,4 +1,4 @@
-use Rattle.gsl_lex.proofs.Prefixes.{stripped}
+use Rattle.gsl_base.proofs.Prefixes.{stripped}
 use Rattle.gsl_lex.proofs.tables.after.Goals as goal
 
 pub returns : goal.returns

@@ -1,10 +1,10 @@
--- A word without what it begins with.
+-- What `strip_prefix` says of bytes is what is left behind the word.
 use Rattle.std.proofs.Common.{◌≡◌, ℕ, ◌+◌, Bool, true, false, cond, ◌&&◌, List, [], ◌∷◌, length, take, drop, Option, Some, None, refl, ap, sym, ◌∙◌, eqb}
 use Rattle.std.specs.Option.{option_map, MatchOption}
 use Rattle.std.specs.Cmp.Lexicographic.{pointwise}
 use Rattle.std.specs.Borrow.{Bor}
 use Rattle.std.proofs.lemmas.Bool.{cond-true, cond-false}
-use Rattle.gsl_lex.specs.Tables.{after}
+use Rattle.gsl_base.specs.Prefix.{after}
 
 both : {A : Type 0} (x y : Bool) (v w : A) → cond (x && y) v w ≡ cond x (cond y v w) w
 both true y v w = refl
