@@ -19,6 +19,4 @@ pub use judging::parse;
 pub use laws::one_tree;
 
 #[cfg(test)]
-mod cases;
-#[cfg(test)]
-mod shown;
+mod tests;

@@ -1,0 +1,100 @@
+//! A shader and its module, run side by side by the slow programs.
+
+ghost use Rattle.std.specs.Prelude.{◌≡◌, [], IfOk};
+ghost use Rattle.gsl_cmd.specs.Form.{IsProgram};
+
+use crate::outline::{Done, Outline};
+use crate::running::dump;
+use gsl_base::{Buffer, Buffers, Bytes, Choices32, Input, InputRefusal, Ins, Memory, Output};
+use gsl_cmd::{Program, lower, read_program};
+use gsl_slow::{SlowRun, fits_shader, run_module, run_shader};
+use std::alloc::Global;
+
+/// More instructions than any of these shaders' modules takes.
+const STEPS: u32 = 1000;
+
+/// An input with one buffer at set 0.
+fn input(alloc: Global, buffer: &Option<(u32, Bytes)>) -> Result<Input, Memory>
+    ensures { IfOk result (λ input. input.choices ≡ []) }
+{
+    let mut buffers = Buffers::new(alloc);
+    if let Some((binding, bytes)) = buffer {
+        buffers.push(Buffer {
+            set: 0,
+            binding: *binding,
+            bytes: Bytes::from_slice(alloc, bytes.as_slice())?,
+        })?;
+    }
+    Ok(Input {
+        buffers,
+        push: None,
+        ins: Ins::new(alloc),
+        group: [0, 0, 0],
+        local: [0, 0, 0],
+        groups: [1, 1, 1],
+        vertex: 0,
+        instance: 0,
+        choices: Choices32::new(alloc),
+    })
+}
+
+/// Prints what a shader does on a buffer, and what its module does.
+pub fn sides(
+    alloc: Global,
+    out: &mut Outline,
+    source: &[u8],
+    buffer: &Option<(u32, Bytes)>,
+) -> Done {
+    match read_program(alloc, source)? {
+        None => out.put("no program\n"),
+        Some(program) => {
+            let input = input(alloc, buffer)?;
+            match fits_shader(&program, &input) {
+                Err(refusal) => refused(out, refusal),
+                Ok(()) => {
+                    out.put("shader ")?;
+                    ended(out, &run_shader(alloc, &program, input)?)?;
+                    module_side(alloc, out, &program, buffer)
+                }
+            }
+        }
+    }
+}
+
+fn module_side(
+    alloc: Global,
+    out: &mut Outline,
+    program: &Program,
+    buffer: &Option<(u32, Bytes)>,
+) -> Done
+    requires { IsProgram program.now }
+{
+    let input = input(alloc, buffer)?;
+    let module = lower(alloc, program)?;
+    out.put("module ")?;
+    match run_module(alloc, &module, input, STEPS)? {
+        SlowRun::Ended(output) => ended(out, &output),
+        SlowRun::Going => out.put("going\n"),
+        SlowRun::Strayed(_) => out.put("strayed\n"),
+        SlowRun::Stuck => out.put("stuck\n"),
+    }
+}
+
+fn ended(out: &mut Outline, output: &Output) -> Done {
+    out.put("ended\n")?;
+    for buffer in output.buffers.as_slice() {
+        dump(out, buffer.bytes.as_slice())?;
+    }
+    Ok(())
+}
+
+fn refused(out: &mut Outline, refusal: InputRefusal) -> Done {
+    match refusal {
+        InputRefusal::NoBuffer(_, _) => out.put("refused: no buffer\n"),
+        InputRefusal::TooShort(_, _) => out.put("refused: buffer too short\n"),
+        InputRefusal::NoPush => out.put("refused: no push constants\n"),
+        InputRefusal::PushShort => out.put("refused: push constants too short\n"),
+        InputRefusal::NoValue(_) => out.put("refused: no value at a location\n"),
+        InputRefusal::BadIds => out.put("refused: ids\n"),
+    }
+}

@@ -1,0 +1,95 @@
+//! From the pieces of a file to its bytes.
+
+use crate::case::{File, Piece};
+use gsl_base::{Bytes, Memory};
+use std::alloc::Global;
+
+/// The text with `by` wherever `mark` stands.
+pub fn filled(alloc: Global, text: &str, mark: &str, by: &str) -> Result<String, Memory> {
+    let mut out = String::new(alloc);
+    let mut first = true;
+    for part in text.split(mark) {
+        if !first {
+            out.push_str(by)?;
+        }
+        first = false;
+        out.push_str(part)?;
+    }
+    Ok(out)
+}
+
+/// The bytes of words of hexadecimal digits: of eight digits a word, least byte first, else one byte.
+pub fn hex(alloc: Global, text: &str) -> Result<Bytes, Memory> {
+    let mut out = Bytes::new(alloc);
+    for digits in text.split_whitespace() {
+        let word = u32::from_str_radix(digits, 16).unwrap_or(0);
+        let [a, b, c, d] = word.to_le_bytes();
+        if digits.len() == 8 {
+            out.extend_from_slice(&[a, b, c, d])?;
+        } else {
+            out.extend_from_slice(&[a])?;
+        }
+    }
+    Ok(out)
+}
+
+/// Puts what a piece stands for.
+fn put(alloc: Global, out: &mut Bytes, piece: Piece, text: &str) -> Result<(), Memory> {
+    match piece {
+        Piece::Line => {
+            out.extend_from_slice(text.as_bytes())?;
+            out.extend_from_slice(b"\n")
+        }
+        Piece::Text => out.extend_from_slice(text.as_bytes()),
+        Piece::Bytes => {
+            let bytes = hex(alloc, text)?;
+            out.extend_from_slice(bytes.as_slice())
+        }
+        Piece::Words => put_words(out, text),
+        Piece::Times => put_times(out, text),
+        Piece::Count => put_count(alloc, out, text),
+    }
+}
+
+fn put_words(out: &mut Bytes, text: &str) -> Result<(), Memory> {
+    for word in text.split_whitespace() {
+        out.extend_from_slice(word.as_bytes())?;
+        out.extend_from_slice(b"\n")?;
+    }
+    Ok(())
+}
+
+/// The number that the text begins with, or 0, and what stands behind the blank behind it.
+fn number(text: &str) -> (u32, &str) {
+    let (digits, rest) = text.split_once(' ').unwrap_or((text, ""));
+    (digits.parse::<u32>().unwrap_or(0), rest)
+}
+
+fn put_times(out: &mut Bytes, text: &str) -> Result<(), Memory> {
+    let (times, text) = number(text);
+    for _ in 0..times {
+        out.extend_from_slice(text.as_bytes())?;
+    }
+    Ok(())
+}
+
+fn put_count(alloc: Global, out: &mut Bytes, text: &str) -> Result<(), Memory> {
+    let (first, rest) = number(text);
+    let (last, text) = number(rest);
+    for n in first..=last {
+        let digits = format!(in alloc; "{n}")?;
+        let one = filled(alloc, text, "<n>", digits.as_str())?;
+        out.extend_from_slice(one.as_bytes())?;
+    }
+    Ok(())
+}
+
+/// The bytes of a file, with this alternative.
+pub fn bytes_of(alloc: Global, file: &File, each: &str) -> Result<Bytes, Memory> {
+    let mut out = Bytes::new(alloc);
+    for (piece, text) in &file.pieces {
+        let text = filled(alloc, text.as_str(), "<each>", each)?;
+        put(alloc, &mut out, *piece, text.as_str())?;
+    }
+    Ok(out)
+}
