@@ -2,7 +2,7 @@
 use Rattle.std.proofs.Common.{◌≡◌, ◌≢◌, ℕ, zero, suc, ◌+◌, ◌<◌, ◌≤◌, ◌^◌, Bool, true, false, cond, ◌&&◌, List, [], ◌∷◌, ◌++◌, length, get_or, take, drop, Some, None, refl, ap, ◌∙◌, arith, eqb, ltb, leb, length-append, codes, one-add}
 use Rattle.std.proofs.lemmas.Bool.{and_parts, and_from, lt-ltb, le-leb, ltb-true, ne_eqb, cond-true, cond-false, not_from_false}
 use Rattle.std.proofs.lemmas.List.{take_at, drop_at}
-use Rattle.std.proofs.lemmas.Fmt.{decimal_is_IsNumeral, IsAscii-decimal}
+use Rattle.std.proofs.lemmas.Fmt.{decimal_is_IsNumeral, decimal_digit, first_decimal, IsAscii-decimal}
 use Rattle.std.proofs.lemmas.Str.{IsUtf8-append, IsUtf8-from_ascii, is_utf8-from_IsUtf8, IsUtf8-from_is_utf8}
 use Rattle.std.proofs.lemmas.Str.Parse.{digit_from_value}
 use Rattle.std.specs.List.{flat_map, list_all}
@@ -14,8 +14,8 @@ use Rattle.gsl_manifest.specs.declared.meaning.Keyword.{Keyword}
 use Rattle.gsl_manifest.specs.declared.meaning.Keyword.TheVariants as word
 use Rattle.gsl_manifest.specs.declared.meaning.Meaning.{Meaning}
 use Rattle.gsl_manifest.specs.declared.meaning.Meaning.TheVariants.{Nothing, Buffer, Push, In, Group, Local, Groups, Vertex, Instance, Choice, Steps}
-use Rattle.gsl_manifest.specs.Listing.{AreWords}
-use Rattle.gsl_manifest.specs.Numbers.{◌>>=◌, are_digits, natural, unsigned, number}
+use Rattle.gsl_base.specs.Ranges.{AreWords}
+use Rattle.gsl_manifest.specs.Numbers.{◌>>=◌, are_digits, leads_with_zero, natural, decimal_of, unsigned, number}
 use Rattle.gsl_manifest.specs.Fields.{gap_len, field_len, field_at, behind_gap, next_field, number_at, unsigned_at, last, three_at, numbers_at, some_numbers_at, path_at}
 use Rattle.gsl_manifest.specs.Meanings.{keyword_of, fields_say, buffer_at, in_at, choice_at, steps_at, sentence, meaning_of, most_steps}
 use Rattle.gsl_manifest.specs.Printing.{field_text, line_text, IsPath, AreSome, IsWritable}
@@ -25,11 +25,22 @@ pub record IsDigits (n : ℕ) (ds : List ℕ) : Type 0 where
   pub some : 0 < length ds
   pub all : AllDigits 10 ds
   pub value : digits_value 10 ds ≡ n
+  pub plain : leads_with_zero ds ≡ false
+
+plain_above : (ds : List ℕ) → 48 < get_or ds 0 0 → leads_with_zero ds ≡ false
+plain_above [] above = refl
+plain_above (d ∷ []) above = refl
+plain_above (d ∷ e ∷ ds) above = ne_eqb d 48 (λ same. omega arith)
+
+-- what is printed has no zero in front
+plain_decimal : (n : ℕ) → n < 2 ^ 32 → leads_with_zero (decimal n) ≡ false
+plain_decimal zero small = ap leads_with_zero (decimal_digit 0 (omega arith))
+plain_decimal (suc n) small = plain_above (decimal (suc n)) (first_decimal (suc n) (omega arith) (omega arith))
 
 pub decimal_digits : (n : ℕ) → n < 2 ^ 32 → IsDigits n (decimal n)
-decimal_digits n small = let d = decimal_is_IsNumeral n (omega arith) in record { some = d.0.0; all = d.0.1; value = d.1 }
+decimal_digits n small = let d = decimal_is_IsNumeral n (omega arith) in record { some = d.0.0; all = d.0.1; value = d.1; plain = plain_decimal n small }
 
-are_digits_from : (ds : List ℕ) → AllDigits 10 ds → are_digits 10 ds ≡ true
+pub are_digits_from : (ds : List ℕ) → AllDigits 10 ds → are_digits 10 ds ≡ true
 are_digits_from [] all = refl
 are_digits_from (d ∷ ds) all = and_from _ _ (lt-ltb _ _ all.0) (are_digits_from ds all.1)
 
@@ -62,10 +73,14 @@ no_minus : (ds : List ℕ) → AllDigits 10 ds → bytes_eq (take 1 ds) (codes "
 no_minus [] all = refl
 no_minus (a ∷ ds) all = ap (λ z. z && true) (digit_above a 45 all.0 (omega arith))
 
-unsigned_digits : (n : ℕ) (ds : List ℕ) → n < 2 ^ 32 → IsDigits n ds → unsigned ds ≡ Some n
-unsigned_digits n ds small d = cond-false _ _ _ (no_0x ds d.all) ∙ natural_digits n ds small d
+pub decimal_digits_of : (n : ℕ) (ds : List ℕ) → n < 2 ^ 32 → IsDigits n ds → decimal_of ds ≡ Some n
+unfolding decimal_of
+decimal_digits_of n ds small d = cond-false _ _ _ d.plain ∙ natural_digits n ds small d
 
-number_digits : (n : ℕ) (ds : List ℕ) → n < 2 ^ 32 → IsDigits n ds → number ds ≡ Some n
+pub unsigned_digits : (n : ℕ) (ds : List ℕ) → n < 2 ^ 32 → IsDigits n ds → unsigned ds ≡ Some n
+unsigned_digits n ds small d = cond-false _ _ _ (no_0x ds d.all) ∙ decimal_digits_of n ds small d
+
+pub number_digits : (n : ℕ) (ds : List ℕ) → n < 2 ^ 32 → IsDigits n ds → number ds ≡ Some n
 number_digits n ds small d = cond-false _ _ _ (no_minus ds d.all) ∙ unsigned_digits n ds small d
 
 -- where a field ends
@@ -182,7 +197,7 @@ steps_read n few =
     ap (λ found. found >>= λ k. cond (leb k most_steps) (Some (Steps k)) None) (last_unsigned n (omega arith)) ∙ cond-true _ _ _ (le-leb _ _ few)
 
 -- the whole line
-word_read : (line fields : List ℕ) (word : List ℕ) (keyword : Keyword) (m : Meaning) → field_at line ≡ (word, fields) → keyword_of word ≡ Some keyword → fields_say keyword fields ≡ Some m → sentence line ≡ Some m
+pub word_read : (line fields : List ℕ) (word : List ℕ) (keyword : Keyword) (m : Meaning) → field_at line ≡ (word, fields) → keyword_of word ≡ Some keyword → fields_say keyword fields ≡ Some m → sentence line ≡ Some m
 unfolding sentence
 word_read line fields word keyword m cut is says =
     ap (λ p. keyword_of p.0 >>= λ k. fields_say k p.1) cut ∙ ap (λ found. found >>= λ k. fields_say k fields) is ∙ says
@@ -207,7 +222,7 @@ sentence_read (Choice (w ∷ words)) can some = word_read _ (flat_map field_text
 sentence_read (Steps n) can some = word_read _ (flat_map field_text (n ∷ [])) (codes "steps") word.Steps _ refl refl (steps_read n can)
 
 -- printed lines are text
-ascii_text : (bytes : List ℕ) → list_all (λ b. ltb b 128) bytes ≡ true → IsUtf8 bytes
+pub ascii_text : (bytes : List ℕ) → list_all (λ b. ltb b 128) bytes ≡ true → IsUtf8 bytes
 ascii_text bytes all = IsUtf8-from_ascii bytes (below bytes all)
   where
     below : (bytes : List ℕ) → list_all (λ b. ltb b 128) bytes ≡ true → IsAscii bytes

@@ -56,7 +56,7 @@ some_pieces (b ∷ bytes) =
 pub ended_more : (piece : List ℕ) (found : List (List ℕ)) (one : List ℕ) (others : List (List ℕ)) → found ≡ one ∷ others → ended (piece ∷ found) ≡ without_cr piece ∷ ended found
 ended_more piece found one others e = ap (λ f. ended (piece ∷ f)) e ∙ ap (λ f. without_cr piece ∷ ended f) (sym e)
 
-ended_last : (last : List ℕ) → 0 < length last → ended (last ∷ []) ≡ last ∷ []
+pub ended_last : (last : List ℕ) → 0 < length last → ended (last ∷ []) ≡ last ∷ []
 ended_last [] some = absurd (omega arith)
 ended_last (b ∷ last) some = cond-false _ _ _ (ne_eqb (suc (length last)) 0 (λ e. omega arith))
 
