@@ -7,11 +7,11 @@ use Rattle.std.specs.List.{list_all, AllByRecursion}
 use Rattle.std.specs.Char.{digit_value}
 use Rattle.std.specs.Fmt.{decimal}
 use Rattle.std.specs.Str.{is_utf8}
-use Rattle.std.specs.Str.Parse.{AllDigits, digits_value}
-use Rattle.gsl_manifest.specs.Numbers.{◌>>=◌, are_digits, natural, below_zero, unsigned, number}
+use Rattle.std.specs.Str.Parse.{AllDigits}
+use Rattle.gsl_manifest.specs.Numbers.{◌>>=◌, below_zero, unsigned, number}
 use Rattle.gsl_manifest.specs.Fields.{gap_len, field_len, field_at, behind_gap, next_field, number_at, unsigned_at, last, three_at, numbers_at, some_numbers_at, path_at}
 use Rattle.gsl_manifest.specs.Spelling.{IsGap, IsPathText, WritesUnsigned, WritesWord, WritesWords}
-use Rattle.gsl_manifest.proofs.Printed.{decimal_digits, decimal_digits_of, unsigned_digits, number_digits}
+use Rattle.gsl_manifest.proofs.Printed.{natural_is, decimal_digits, decimal_digits_of, unsigned_digits, number_digits}
 
 -- ---- gaps and fields
 
@@ -96,14 +96,6 @@ digits_ascii (d ∷ ds) all = and_from _ _ (digit_ascii d all.0) (digits_ascii d
 widen : (ds : List ℕ) → AllDigits 10 ds → AllDigits 16 ds
 widen [] all = tt
 widen (d ∷ ds) all = (omega (arith, all.0), widen ds all.1)
-
-are_digits_of : (radix : ℕ) (ds : List ℕ) → AllDigits radix ds → are_digits radix ds ≡ true
-are_digits_of radix [] all = refl
-are_digits_of radix (d ∷ ds) all = and_from _ _ (lt-ltb _ _ all.0) (are_digits_of radix ds all.1)
-
-natural_is : (radix : ℕ) (ds : List ℕ) → 0 < length ds → AllDigits radix ds → digits_value radix ds < 2 ^ 32 → natural radix ds ≡ Some (digits_value radix ds)
-unfolding natural
-natural_is radix ds some all small = cond-true _ _ _ (and_from _ _ (and_from _ _ (lt-ltb _ _ some) (are_digits_of radix ds all)) (lt-ltb _ _ small))
 
 pub unsigned_field : {field : List ℕ} {n : ℕ} → WritesUnsigned field n → IsField field
 unsigned_field (WritesUnsigned.decimal_digits n small) =

@@ -14,9 +14,8 @@ use Rattle.gsl_manifest.specs.Meanings.{keyword_of, buffer_at, in_at, choice_at,
 use Rattle.gsl_manifest.specs.Manifests.{StandOnce, AreManifest, manifest_of}
 use Rattle.gsl_manifest.specs.Spelling.{IsGap, IsPathText, WritesWords, Spells, SpellAll, IsText}
 use Rattle.gsl_manifest.proofs.Printed.{ascii_text, word_read}
-use Rattle.gsl_manifest.proofs.Splitting.{some_pieces, ended_more, ended_last}
+use Rattle.gsl_manifest.proofs.Splitting.{some_pieces, ended_more, ended_last, NoLf, pieces_line, lines_line, no_lf_append}
 use Rattle.gsl_manifest.proofs.Spelled.{IsField, unsigned_field, word_field, gap_stops, field_at_is, unsigned_next, words_stop, some_are, words_within, last_is, three_are, path_is}
-use Rattle.gsl_manifest.proofs.Written.{NoLf, pieces_line, lines_line, no_lf_append}
 
 -- ---- what is spelled is UTF-8
 

@@ -3,9 +3,8 @@ use Rattle.std.proofs.Common.{◌≡◌, ℕ, zero, suc, ◌+◌, ◌≤◌, tru
 use Rattle.std.proofs.lemmas.Bool.{eqb-true, or_from, or_parts}
 use Rattle.gsl_manifest.specs.Lines.{without_cr, lines_of}
 use Rattle.gsl_manifest.specs.Spelling.{IsText}
-use Rattle.gsl_manifest.proofs.Splitting.{before_lf, last_line, line_ended}
+use Rattle.gsl_manifest.proofs.Splitting.{before_lf, last_line, line_ended, NoLf}
 use Rattle.gsl_manifest.proofs.SpelledLines.{no_lines_of}
-use Rattle.gsl_manifest.proofs.Written.{NoLf}
 
 no_lf_before : (bytes : List ℕ) → NoLf (take (before_lf bytes) bytes)
 no_lf_before [] = refl
