@@ -1,19 +1,26 @@
 -- What the reader of expressions reads stands for the tokens that it took.
-use Rattle.std.proofs.Common.{◌≡◌, ℕ, ◌≤◌, true, ◌++◌, subst, append_assoc, arith}
+use Rattle.std.proofs.Common.{◌≡◌, ℕ, ◌≤◌, true, ◌++◌, Ok, subst, append_assoc, arith}
 use Rattle.gsl_syntax.specs.declared.expr.Basic.{Basic}
+use Rattle.gsl_syntax.specs.declared.expr.Expr.{Expr}
 use Rattle.gsl_syntax.specs.Phrases.{IsExpr, IsDims}
 use Rattle.gsl_expr.specs.declared.rule.Start.TheVariants as start
 use Rattle.gsl_expr.specs.declared.rule.Head.{Head}
 use Rattle.gsl_expr.specs.Rules.{start_at}
-use Rattle.gsl_expr.specs.Reading.{Tokens, and_then}
+use Rattle.gsl_expr.specs.Reading.{Tokens, Outcome, and_then}
 use Rattle.gsl_expr.specs.Expressions.{dims, may_be_open, basic_head, named_head, applied, completed, expr}
-use Rattle.gsl_expr.proofs.Taken.{Good, good_weaken, good_then}
+use Rattle.gsl_expr.proofs.Taken.{Good, Taken, good_weaken, good_then}
 use Rattle.gsl_expr.proofs.SoundHeads.{Stands, dims_good, named_head_good, basic_open_good, basic_head_good}
 use Rattle.gsl_expr.proofs.SoundOperands.{whole_ready, applied_good}
 use Rattle.gsl_expr.proofs.SoundClimb.{completed_good, nested}
 
 pub expr_sound : (d k : ℕ) (ts : Tokens) → k ≤ 2 → Good (IsExpr k) ts (expr d k ts)
 expr_sound d k ts low = (nested d).low k ts low
+
+-- what was read, and the tokens that it was read from
+pub derived : (d k : ℕ) (ts rest : Tokens) (a : Expr) → k ≤ 2 → expr d k ts ≡ Ok (a, rest) → (xs : Tokens) × (ts ≡ xs ++ rest) × IsExpr k a xs
+derived d k ts rest a low is =
+    let taken : Taken (IsExpr k a) ts rest = subst (λ (r : Outcome Expr). Good (IsExpr k) ts r) is (expr_sound d k ts low) in
+    (taken.xs, taken.splits, taken.stands)
 
 pub dims_sound : (d : ℕ) (ts : Tokens) → Good IsDims ts (dims (expr d) ts)
 dims_sound d ts = dims_good (expr d) (nested d).low ts

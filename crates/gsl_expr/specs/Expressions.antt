@@ -1,3 +1,4 @@
+-- How the code reads, and not the rule, which stands in `Phrases.antt` of `gsl_syntax`.
 -- Reading expressions and types from left to right.
 use Rattle.std.specs.Prelude.{ℕ, zero, suc, ◌+◌, Bool, true, false, ◌&&◌, List, [], ◌∷◌, ◌++◌, length, Ok, max, nat_lt, nat_le, nat_eq, if◌then◌else◌}
 use Rattle.gsl_base.specs.declared.fault.Place.{Place}

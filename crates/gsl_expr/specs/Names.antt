@@ -1,3 +1,4 @@
+-- How the code reads, and not the rule, which stands in `Phrases.antt` of `gsl_syntax`.
 -- Whether a name stands next.
 use Rattle.std.specs.Prelude.{Bool, true, false, List, [], ◌∷◌}
 use Rattle.gsl_base.specs.declared.token.Kind.{Kind}

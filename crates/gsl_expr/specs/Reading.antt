@@ -1,3 +1,4 @@
+-- How the code reads, and not the rule, which stands in `Phrases.antt` of `gsl_syntax`.
 -- Reading tokens from left to right. A fault is how many tokens are left from the bad one on.
 use Rattle.std.specs.Prelude.{◌≡◌, ℕ, Bool, false, List, [], ◌∷◌, length, Result, Ok, Err, if◌then◌else◌}
 use denote.Enum.Bare.{sameb}

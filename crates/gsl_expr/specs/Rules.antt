@@ -1,3 +1,4 @@
+-- How the code reads, and not the rule, which stands in `Phrases.antt` and `Operators.antt` of `gsl_syntax`.
 -- What the next token tells.
 use Rattle.std.specs.Prelude.{ℕ, true, false, List, [], ◌∷◌, Option, Some, None}
 use Rattle.gsl_base.specs.declared.token.Punct.{Punct}

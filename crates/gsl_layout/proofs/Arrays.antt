@@ -18,5 +18,5 @@ module _ (align : ℕ) (is : IsAlignment align) (element : Measured) (measured :
   pub counted_array : (n : ℕ) → 1 ≤ n → stride * n < 2 ^ 31 → IsLayout (array stride (Some n) element.laid)
   counted_array n least small = (measured.layout, shut, multiple_whole align element.size is, wide.0, wide.1, least, small)
 
-  pub open_array : stride < 2 ^ 31 → IsLayout (array stride None element.laid)
-  open_array small = (measured.layout, shut, multiple_whole align element.size is, wide.0, wide.1, small)
+  pub open_array : IsLayout (array stride None element.laid)
+  open_array = (measured.layout, shut, multiple_whole align element.size is, wide.0, wide.1)

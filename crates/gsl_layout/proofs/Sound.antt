@@ -107,7 +107,7 @@ module _ (raise : ℕ → ℕ) (raises : (align : ℕ) → IsAlignment align →
         let align = (raises m.align (aligned raise raises structs e.0)).alignment in
         let whole = ap extent is in
         fits_rolled x (arrayed raise m None) is (record {
-          measured = record { layout = open_array (raise m.align) align m inner.measured shut.shut shut.some (omega (arith, whole, small)); size = refl; extent = omega (arith, whole, small) };
+          measured = record { layout = open_array (raise m.align) align m inner.measured shut.shut shut.some; size = refl; extent = omega (arith, whole, small) };
           ends = refl;
           shut = λ is_plain. let never : ⊥ = true≢false (sym is_plain ∙ fold-roll-Ty Bool plain_kind x) in elim never [ ];
         })

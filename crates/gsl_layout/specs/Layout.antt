@@ -62,7 +62,7 @@ abbrev mutual
   IsLayout (Array stride count element) =
       IsLayout element × IsTrue (closed element) × IsWhole stride × (4 ≤ stride) × (need element ≤ stride) × (1 ≤ count) × (stride * count < 2 ^ 31)
   IsLayout (Runtime stride element) =
-      IsLayout element × IsTrue (closed element) × IsWhole stride × (4 ≤ stride) × (need element ≤ stride) × (stride < 2 ^ 31)
+      IsLayout element × IsTrue (closed element) × IsWhole stride × (4 ≤ stride) × (need element ≤ stride)
   IsLayout (Group members all) = AreParts 0 members all × (all < 2 ^ 31)
 
   -- members from a place on, up to an end

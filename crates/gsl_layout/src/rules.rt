@@ -6,13 +6,11 @@ ghost use Rattle.gsl_layout.specs.Raising.{std140_raises, std430_raises};
 pub trait Rules {
     ghost raised: { Self → ℕ → ℕ };
 
-    /// The alignment of an array or a struct whose element or largest member has this one, which is 4,
-    /// 8 or 16.
+    /// The alignment of an array or a struct whose element or largest member has this one.
     fn raise(&self, align: u32) -> u32
-        requires { IsAlignment align }
         ensures { result ≡ raised self.now align };
 
-    /// It is 4, 8 or 16 and a multiple of the argument, and raising it again gives it.
+    /// At 4, 8 and 16 it is one of these and a multiple of the argument, and raising it again gives it.
     ghost raises: { (rules : Self) (align : ℕ) → IsAlignment align → Raises (raised rules) align };
 }
 

@@ -194,12 +194,12 @@ fn a_block_has_at_most_16777216_bytes(rt: HostRuntime) -> Result<(), std::test::
         array(rt.alloc(), Ty::One(Scalar::Int), 4_194_304)?,
     )?;
     assert_eq!(rt; alone(rt.alloc(), &Std430, &most)?.size(), 16_777_216);
-    assert!(rt; alone(rt.alloc(), &Std140, &most).is_err());
+    assert_eq!(rt; alone(rt.alloc(), &Std140, &most).err(), Some(LayRefusal::TooLarge));
     let more = one(
         rt.alloc(),
         array(rt.alloc(), Ty::One(Scalar::Int), 4_194_305)?,
     )?;
-    assert!(rt; alone(rt.alloc(), &Std430, &more).is_err());
+    assert_eq!(rt; alone(rt.alloc(), &Std430, &more).err(), Some(LayRefusal::TooLarge));
     let most = one(
         rt.alloc(),
         array(rt.alloc(), Ty::One(Scalar::Int), 1_048_576)?,
@@ -215,7 +215,7 @@ fn a_stride_has_at_most_16777216_bytes(rt: HostRuntime) -> Result<(), std::test:
     assert_eq!(rt; alone(rt.alloc(), &Std430, &members)?.size(), 0);
     let more = array(rt.alloc(), Ty::One(Scalar::Int), 4_194_305)?;
     let members = one(rt.alloc(), runtime(rt.alloc(), more)?)?;
-    assert!(rt; alone(rt.alloc(), &Std430, &members).is_err());
+    assert_eq!(rt; alone(rt.alloc(), &Std430, &members).err(), Some(LayRefusal::TooLarge));
     Ok(())
 }
 
@@ -293,9 +293,20 @@ fn structs_in_arrays_in_structs(rt: HostRuntime) -> Result<(), std::test::Fail> 
 }
 
 #[test]
+fn a_runtime_array_has_any_stride_of_whole_words(rt: HostRuntime) -> Result<(), std::test::Fail> {
+    let laid = Laid::array(rt.alloc(), 2_147_483_648, None, Laid::leaf(1))?;
+    assert_eq!(rt; laid.stride(), 2_147_483_648);
+    assert_eq!(rt; laid.size(), 0);
+    assert_eq!(rt; laid.need(), 0);
+    Ok(())
+}
+
+#[test]
 fn rules_raise_alignments(rt: HostRuntime) {
     assert_eq!(rt; Std140.raise(4), 16);
     assert_eq!(rt; Std140.raise(16), 16);
     assert_eq!(rt; Std430.raise(4), 4);
     assert_eq!(rt; Std430.raise(8), 8);
+    assert_eq!(rt; Std140.raise(3), 16);
+    assert_eq!(rt; Std430.raise(3), 3);
 }

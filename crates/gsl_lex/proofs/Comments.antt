@@ -62,6 +62,12 @@ closes_from before (a ∷ inside) none =
     let parts = or_parts (eqb before 42 && eqb a 47) _ none in
     cond-false _ _ _ parts.0 ∙ closes_from a inside parts.1
 
+-- the `*` behind what is inside closes nothing
+close_star : (inside : List ℕ) → has_close (inside ++ 42 ∷ []) ≡ has_close inside
+close_star [] = refl
+close_star (a ∷ []) = refl
+close_star (a ∷ b ∷ inside) = ap (λ more. (eqb a 42 && eqb b 47) || more) (close_star (b ∷ inside))
+
 inside_on : (bytes inside : List ℕ) → 0 ∷ bytes ≡ inside ++ 42 ∷ 47 ∷ [] → has_close (inside ++ 42 ∷ []) ≡ false → (inside : List ℕ) × (bytes ≡ inside ++ 42 ∷ 47 ∷ []) × (has_close (inside ++ 42 ∷ []) ≡ false)
 inside_on bytes [] same none = absurd (cc)
 inside_on bytes (a ∷ inside) same none =
@@ -81,7 +87,7 @@ block_is (a ∷ b ∷ bytes) e =
     let two : b ≡ 42 = eqb-true b 42 opened.1 in
     let met = inside_of bytes (closes_is 0 bytes parts.1) in
     let rest : bytes ≡ met.0 ++ 42 ∷ 47 ∷ [] = met.1 in
-    record { inside = met.0; spelled = ap (λ x. x ∷ b ∷ bytes) one ∙ ap (λ x. 47 ∷ x ∷ bytes) two ∙ ap (λ t. 47 ∷ 42 ∷ t) rest; first = met.2 }
+    record { inside = met.0; spelled = ap (λ x. x ∷ b ∷ bytes) one ∙ ap (λ x. 47 ∷ x ∷ bytes) two ∙ ap (λ t. 47 ∷ 42 ∷ t) rest; first = sym (close_star met.0) ∙ met.2 }
 
 pub block_from : (bytes : List ℕ) → IsBlockComment bytes → is_block_comment bytes ≡ true
-block_from bytes met = ap is_block_comment met.spelled ∙ closes_from 0 met.inside met.first
+block_from bytes met = ap is_block_comment met.spelled ∙ closes_from 0 met.inside (close_star met.inside ∙ met.first)

@@ -1,4 +1,7 @@
 pub mod Lines
+pub mod Letters
+pub mod Joints
+pub mod Distinct
 pub mod Comments
 pub mod Fronts
 pub mod Loops

@@ -9,7 +9,8 @@ use Rattle.gsl_base.specs.declared.token.Punct.{Punct}
 use Rattle.gsl_lex.specs.declared.piece.Class.{Class}
 use Rattle.gsl_lex.specs.declared.piece.Class.TheVariants as class
 use Rattle.gsl_lex.specs.Bytes.{is_space, is_letter}
-use Rattle.gsl_lex.specs.Tables.{lookup, puncts, punct_of}
+use Rattle.gsl_lex.specs.Spellings.{puncts}
+use Rattle.gsl_lex.specs.Tables.{lookup, punct_of}
 use Rattle.gsl_lex.specs.Reading.{class_of}
 
 abbrev pub is_other : Class → Bool

@@ -2,6 +2,7 @@
 use Rattle.std.specs.Prelude.{◌≡◌, ℕ, ◌≤◌, Bool, false, ◌==◌, ◌&&◌, IsTrue, List, [], ◌∷◌, ◌++◌, length, map, Result, Ok, Err}
 use Rattle.gsl_lex.specs.declared.text.Char.{Char}
 use Rattle.gsl_lex.specs.declared.piece.Lexeme.{Lexeme}
+use Rattle.gsl_lex.specs.Ascii.{star, slash}
 use Rattle.gsl_lex.specs.Pieces.{IsPiece, IsBlockComment}
 
 -- a stretch of a text, and what it is
@@ -21,7 +22,7 @@ pub record Longest (piece : Piece) (rest : List Char) : Type 0 where
 abbrev pub opens : List Char → Bool
 opens [] = false
 opens (c ∷ []) = false
-opens (c ∷ d ∷ text) = c.byte == 47 && d.byte == 42
+opens (c ∷ d ∷ text) = c.byte == slash && d.byte == star
 
 -- The text opens a comment and does not close it.
 pub record Unclosed (text : List Char) : Type 0 where

@@ -1,6 +1,10 @@
+pub mod Ascii
+pub mod Spellings
+pub mod Refused
 pub mod Lines
 pub mod Bytes
 pub mod Tables
+pub mod Searching
 pub mod Pieces
 pub mod Cut
 pub mod Reading

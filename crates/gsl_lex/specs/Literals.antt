@@ -5,17 +5,18 @@ use Rattle.std.specs.List.{list_any, list_all}
 use Rattle.std.specs.Option.{option_map}
 use Rattle.gsl_base.specs.declared.token.Kind.{Kind}
 use Rattle.gsl_base.specs.declared.token.Kind.TheVariants.{Signed, Unsigned}
+use Rattle.gsl_lex.specs.Ascii.{point, digit_0, upper_e, upper_f, upper_u, upper_x, lower_e, lower_f, lower_u, lower_x}
 
 -- whether the number begins with `0x` or `0X`
 abbrev pub is_hex : List ℕ → Bool
-is_hex text = slice_index text 0 == 48 && (slice_index text 1 == 120 || slice_index text 1 == 88)
+is_hex text = slice_index text 0 == digit_0 && (slice_index text 1 == lower_x || slice_index text 1 == upper_x)
 
 abbrev pub is_point : ℕ → Bool
-is_point a = a == 46
+is_point a = a == point
 
 -- `e`, `E`, `f`, `F`
 abbrev pub is_mark : ℕ → Bool
-is_mark a = a == 101 || a == 69 || a == 102 || a == 70
+is_mark a = a == lower_e || a == upper_e || a == lower_f || a == upper_f
 
 -- whether the number is a floating literal: it has a point, or a mark of one where the base is not 16
 abbrev pub is_floating : List ℕ → Bool
@@ -23,14 +24,14 @@ is_floating text = list_any is_point text || (not (is_hex text) && list_any is_m
 
 -- whether the last byte is `u` or `U`
 abbrev pub has_suffix : List ℕ → Bool
-has_suffix text = slice_index text (length text - 1) == 117 || slice_index text (length text - 1) == 85
+has_suffix text = slice_index text (length text - 1) == lower_u || slice_index text (length text - 1) == upper_u
 
 abbrev pub without_suffix : List ℕ → List ℕ
 without_suffix text = if has_suffix text then take (length text - 1) text else text
 
 -- 16 after `0x`, 8 after another 0, else 10
 abbrev pub base_of : List ℕ → ℕ
-base_of text = if is_hex text then 16 else (if slice_index text 0 == 48 then 8 else 10)
+base_of text = if is_hex text then 16 else (if slice_index text 0 == digit_0 then 8 else 10)
 
 abbrev pub digits_of : List ℕ → List ℕ
 digits_of text = if is_hex text then drop 2 text else text

@@ -5,6 +5,7 @@ use Rattle.gsl_base.specs.declared.token.RawKind.TheVariants.{Word, Number, Punc
 use Rattle.gsl_lex.specs.declared.piece.Run.TheVariants as run
 use Rattle.gsl_lex.specs.declared.piece.Lexeme.{Lexeme}
 use Rattle.gsl_lex.specs.declared.piece.Lexeme.TheVariants.{LineEnd, Blank, Token}
+use Rattle.gsl_lex.specs.Ascii.{line_feed, star, slash}
 use Rattle.gsl_lex.specs.Bytes.{is_space, is_letter, all_go_on, first_of, begins_number, number_run}
 use Rattle.gsl_lex.specs.Tables.{punct_of}
 
@@ -17,18 +18,18 @@ is_white (a ∷ bytes) = is_space a && all_go_on run.Space a bytes
 abbrev pub is_line_comment : List ℕ → Bool
 is_line_comment [] = false
 is_line_comment (a ∷ []) = false
-is_line_comment (a ∷ b ∷ bytes) = a == 47 && b == 47 && all_go_on run.Line b bytes
+is_line_comment (a ∷ b ∷ bytes) = a == slash && b == slash && all_go_on run.Line b bytes
 
 -- whether `*/` stands in the bytes
 abbrev pub has_close : List ℕ → Bool
 has_close [] = false
-has_close (a ∷ bytes) = (a == 42 && first_of bytes == 47) || has_close bytes
+has_close (a ∷ bytes) = (a == star && first_of bytes == slash) || has_close bytes
 
--- `/*`, and what goes up to the next `*/`, whose `*` is none of the `/*`
+-- `/*`, what goes up to the next `*/`, and that `*/`
 pub record IsBlockComment (bytes : List ℕ) : Type 0 where
   pub inside : List ℕ
   pub spelled : bytes ≡ codes "/*" ++ (inside ++ codes "*/")
-  pub first : has_close (inside ++ codes "*") ≡ false
+  pub first : has_close inside ≡ false
 
 -- whether the bytes are a letter or `_`, and letters, digits and `_`
 abbrev pub is_word : List ℕ → Bool
@@ -42,7 +43,7 @@ is_number (a ∷ bytes) = begins_number a (first_of bytes) && all_go_on (number_
 
 -- The bytes are a piece of the kind, and no stray byte.
 abbrev pub IsFormed : Lexeme → List ℕ → Type 0
-IsFormed LineEnd bytes = bytes ≡ 10 ∷ []
+IsFormed LineEnd bytes = bytes ≡ line_feed ∷ []
 IsFormed Blank bytes = IsTrue (is_white bytes) ⊎ (IsTrue (is_line_comment bytes) ⊎ IsBlockComment bytes)
 IsFormed (Token (Word text)) bytes = (text ≡ bytes) × IsTrue (is_word bytes)
 IsFormed (Token (Number text)) bytes = (text ≡ bytes) × IsTrue (is_number bytes)

@@ -1,4 +1,5 @@
--- Reading a text from left to right: the piece at its front and the text after it.
+-- Reading a text from left to right, as the code does: the piece at its front and the text after it. This is not the rule, which
+-- stands in `Cut.antt` and `Raws.antt`.
 use Rattle.std.specs.Prelude.{ℕ, zero, suc, ◌-◌, ◌==◌, ◌&&◌, List, [], ◌∷◌, length, take, drop, Option, Some, None, Ok, Err, if◌then◌else◌}
 use Rattle.std.specs.Option.{option_map}
 use Rattle.gsl_base.specs.declared.token.Punct.{Punct}
@@ -10,6 +11,7 @@ use Rattle.gsl_lex.specs.declared.piece.Class.{Class}
 use Rattle.gsl_lex.specs.declared.piece.Class.TheVariants.{LineEnd, Space, LineComment, BlockComment, Word, Number, Other}
 use Rattle.gsl_lex.specs.declared.piece.Lexeme.{Lexeme}
 use Rattle.gsl_lex.specs.declared.piece.Lexeme.TheVariants as piece
+use Rattle.gsl_lex.specs.Ascii.{line_feed, star, slash}
 use Rattle.gsl_lex.specs.Bytes.{is_space, is_letter, goes_on, begins_number, number_run}
 use Rattle.gsl_lex.specs.Tables.{punct_of}
 use Rattle.gsl_lex.specs.Cut.{Piece, Cutting}
@@ -22,12 +24,12 @@ next_of (c ∷ text) = c.byte
 -- what a piece is that begins with the two bytes
 abbrev pub class_of : ℕ → ℕ → Class
 class_of a next =
-    if a == 10 then LineEnd
+    if a == line_feed then LineEnd
     else (if is_space a then Space
     else (if is_letter a then Word
     else (if begins_number a next then Number
-    else (if a == 47 && next == 47 then LineComment
-    else (if a == 47 && next == 42 then BlockComment
+    else (if a == slash && next == slash then LineComment
+    else (if a == slash && next == star then BlockComment
     else Other)))))
 
 -- the bytes in front that go on from the one before them
@@ -43,7 +45,7 @@ after_run run before (c ∷ text) = if goes_on run before c.byte then after_run 
 -- the text after the next `*/`, if there is one
 abbrev pub after_close : ℕ → List Char → Option (List Char)
 after_close before [] = None
-after_close before (c ∷ text) = if before == 42 && c.byte == 47 then Some text else after_close c.byte text
+after_close before (c ∷ text) = if before == star && c.byte == slash then Some text else after_close c.byte text
 
 -- punctuators of three bytes, of two and of one
 abbrev pub three_at : ℕ → List Char → Option (Punct × List Char)

@@ -3,7 +3,8 @@
 //!
 //! `lex` carries the raw tokens, against the one cut of the text into longest pieces (`specs/Lines.antt`,
 //! `Pieces.antt`, `Cut.antt`, `Raws.antt`, `Ordered.antt`), and `cook` a live token (`specs/Literals.antt`,
-//! `Cooking.antt`). `specs/Reading.antt` reads a text from left to right as the code does; proofs tie it to the cut.
+//! `Cooking.antt`). The words and the punctuators are tables of `specs/Spellings.antt` and `Refused.antt`.
+//! `specs/Reading.antt` and `Searching.antt` are how the code reads and searches; proofs tie them to the rules.
 #![tactic(auto)]
 
 mod cooking;

@@ -9,6 +9,11 @@ use crate::text::Cursor;
 use gsl_base::{Memory, Punct, RawKind, Text};
 use std::alloc::Global;
 
+/// The two white spaces that have no escape in a literal.
+const VERTICAL_TAB: u8 = 0x0B;
+
+const FORM_FEED: u8 = 0x0C;
+
 /// What a piece of a text is.
 #[derive(Debug, Drop)]
 pub enum Lexeme {
@@ -100,7 +105,7 @@ fn class_of(first: u8, next: u8) -> Class
 fn is_space(byte: u8) -> bool
     ensures { result ≡ bytes.is_space byte }
 {
-    byte == b' ' || byte == b'\t' || byte == 0x0B || byte == 0x0C
+    byte == b' ' || byte == b'\t' || byte == VERTICAL_TAB || byte == FORM_FEED
 }
 
 fn is_letter(byte: u8) -> bool

@@ -1,18 +1,23 @@
 //! Looking up words and punctuators.
 
-ghost use Rattle.std.specs.Prelude.{◌≡◌, map};
+ghost use Rattle.std.specs.Prelude.{◌≡◌, ◌+◌, ◌<◌, ◌||◌, MatchOption, false, length, map};
 ghost use Rattle.std.specs.Option.{option_map};
 ghost use Rattle.gsl_base.specs.Prefix as prefix;
+ghost use Rattle.gsl_lex.specs.Ascii.{lower_a};
+ghost use Rattle.gsl_lex.specs.Bytes.{first_of};
+ghost use Rattle.gsl_lex.specs.Refused as refused;
+ghost use Rattle.gsl_lex.specs.Searching as searching;
+ghost use Rattle.gsl_lex.specs.Spellings.{keywords};
 ghost use Rattle.gsl_lex.specs.Tables as spec;
 
 use crate::rows::{
-    FUNCTIONS, KEYWORDS, MATRICES, MATRIX_SIZES, OPAQUE_KINDS, OPAQUES, OTHER_KEYWORDS,
-    OTHER_TYPES, PUNCTS, RESERVED, SHADOW_KINDS, SHADOW_SAMPLERS, VARIABLES,
+    KEYWORDS, MATRICES, MATRIX_SIZES, OPAQUE_KINDS, OPAQUES, PUNCTS, REFUSED, SHADOW_KINDS,
+    SHADOW_SAMPLERS,
 };
 use gsl_base::{Key, Punct};
 
 /// The punctuator that is spelled so.
-#[tactic(auto, unfolding(crate::specs::Tables::punct_of, crate::specs::Tables::puncts))]
+#[tactic(auto, unfolding(crate::specs::Tables::punct_of, crate::specs::Spellings::puncts))]
 pub fn punct_of(spelling: &[u8]) -> Option<Punct>
     ensures { result ≡ spec.punct_of spelling.now }
 {
@@ -20,25 +25,20 @@ pub fn punct_of(spelling: &[u8]) -> Option<Punct>
 }
 
 /// The keyword that is spelled so.
-#[tactic(auto, unfolding(crate::specs::Tables::key_of, crate::specs::Tables::keywords))]
+#[tactic(auto, using(crate::proofs::Letters::key_at, crate::proofs::Letters::key_none))]
 pub fn key_of(spelling: &[u8]) -> Option<Key>
     ensures { result ≡ spec.key_of spelling.now }
 {
-    lookup(&KEYWORDS, spelling)
+    let letter = letter_of(spelling)?;
+    lookup(keywords_under(letter), spelling)
 }
 
 /// Whether the word is one that the profile refuses.
+#[tactic(auto, using(crate::proofs::Joints::refused_is))]
 pub fn is_refused(word: &[u8]) -> bool
     ensures { result ≡ spec.is_refused word.now }
 {
-    is_other_type(word)
-        || is_matrix(word)
-        || is_opaque(word)
-        || is_shadow(word)
-        || is_other_keyword(word)
-        || is_reserved(word)
-        || is_function(word)
-        || is_variable(word)
+    stands_alone(word) || is_joined(word)
 }
 
 /// What the first row says that has the spelling.
@@ -54,60 +54,76 @@ fn lookup<T: Copy>(mut rows: &[(&[u8], T)], spelling: &[u8]) -> Option<T>
     None
 }
 
-#[tactic(auto, unfolding(crate::specs::Tables::is_other_type))]
-fn is_other_type(word: &[u8]) -> bool
-    ensures { result ≡ spec.is_other_type word.now }
+/// The number of the letter that a word begins with, `a` being 0, if it begins with one of `a` to `z`.
+fn letter_of(word: &[u8]) -> Option<usize>
+    ensures { MatchOption result (searching.is_lower (first_of word.now) ≡ false) (λ letter. (letter < 26) × (first_of word.now ≡ lower_a + letter)) }
 {
-    is_among(&OTHER_TYPES, word)
+    match word {
+        [first @ b'a'..=b'z', ..] => Some(usize::from(*first - b'a')),
+        _ => None,
+    }
 }
 
-#[tactic(auto, unfolding(crate::specs::Tables::is_matrix))]
+/// The rows under a letter.
+fn rows_at<'a, T>(tables: &[&'a [T]], letter: usize) -> &'a [T]
+    requires { letter < length tables.now }
+    ensures { searching.IsAt tables.now letter result }
+{
+    tables[letter]
+}
+
+/// The keywords that begin with a letter.
+fn keywords_under(letter: usize) -> &'static [(&'static [u8], Key)]
+    requires { letter < 26 }
+    ensures { map (λ row. (row.0.now, row.1)) result.now ≡ searching.under (λ row. row.0) keywords letter }
+{
+    rows_at(&KEYWORDS, letter)
+}
+
+/// The refused words that stand alone and begin with a letter.
+fn refused_under(letter: usize) -> &'static [&'static [u8]]
+    requires { letter < 26 }
+    ensures { map (λ row. row.now) result.now ≡ searching.under (λ row. row) refused.alone letter }
+{
+    rows_at(&REFUSED, letter)
+}
+
+#[tactic(auto, using(crate::proofs::Letters::alone_at, crate::proofs::Letters::alone_none))]
+fn stands_alone(word: &[u8]) -> bool
+    ensures { result ≡ spec.among refused.alone word.now }
+{
+    match letter_of(word) {
+        Some(letter) => is_among(refused_under(letter), word),
+        None => false,
+    }
+}
+
+/// Whether the word is one of the matrices, samplers, textures and images.
+fn is_joined(word: &[u8]) -> bool
+    ensures { result ≡ (searching.of_family refused.matrices refused.matrix_sizes word.now || (searching.of_family refused.opaques refused.opaque_kinds word.now || searching.of_family refused.shadow_samplers refused.shadow_kinds word.now)) }
+{
+    is_matrix(word) || is_opaque(word) || is_shadow(word)
+}
+
+#[tactic(auto, unfolding(crate::specs::Refused::matrices, crate::specs::Refused::matrix_sizes))]
 fn is_matrix(word: &[u8]) -> bool
-    ensures { result ≡ spec.is_matrix word.now }
+    ensures { result ≡ searching.of_family refused.matrices refused.matrix_sizes word.now }
 {
     is_of_family(&MATRICES, &MATRIX_SIZES, word)
 }
 
-#[tactic(auto, unfolding(crate::specs::Tables::is_opaque))]
+#[tactic(auto, unfolding(crate::specs::Refused::opaques, crate::specs::Refused::opaque_kinds))]
 fn is_opaque(word: &[u8]) -> bool
-    ensures { result ≡ spec.is_opaque word.now }
+    ensures { result ≡ searching.of_family refused.opaques refused.opaque_kinds word.now }
 {
     is_of_family(&OPAQUES, &OPAQUE_KINDS, word)
 }
 
-#[tactic(auto, unfolding(crate::specs::Tables::is_shadow))]
+#[tactic(auto, unfolding(crate::specs::Refused::shadow_samplers, crate::specs::Refused::shadow_kinds))]
 fn is_shadow(word: &[u8]) -> bool
-    ensures { result ≡ spec.is_shadow word.now }
+    ensures { result ≡ searching.of_family refused.shadow_samplers refused.shadow_kinds word.now }
 {
     is_of_family(&SHADOW_SAMPLERS, &SHADOW_KINDS, word)
-}
-
-#[tactic(auto, unfolding(crate::specs::Tables::is_other_keyword))]
-fn is_other_keyword(word: &[u8]) -> bool
-    ensures { result ≡ spec.is_other_keyword word.now }
-{
-    is_among(&OTHER_KEYWORDS, word)
-}
-
-#[tactic(auto, unfolding(crate::specs::Tables::is_reserved))]
-fn is_reserved(word: &[u8]) -> bool
-    ensures { result ≡ spec.is_reserved word.now }
-{
-    is_among(&RESERVED, word)
-}
-
-#[tactic(auto, unfolding(crate::specs::Tables::is_function))]
-fn is_function(word: &[u8]) -> bool
-    ensures { result ≡ spec.is_function word.now }
-{
-    is_among(&FUNCTIONS, word)
-}
-
-#[tactic(auto, unfolding(crate::specs::Tables::is_variable))]
-fn is_variable(word: &[u8]) -> bool
-    ensures { result ≡ spec.is_variable word.now }
-{
-    is_among(&VARIABLES, word)
 }
 
 fn is_among(mut rows: &[&[u8]], word: &[u8]) -> bool
@@ -124,7 +140,7 @@ fn is_among(mut rows: &[&[u8]], word: &[u8]) -> bool
 
 /// Whether the word is one of the first texts and one of the second.
 fn is_of_family(mut heads: &[&[u8]], tails: &[&[u8]], word: &[u8]) -> bool
-    ensures { result ≡ spec.of_family (map (λ row. row.now) heads.entry.now) (map (λ row. row.now) tails.now) word.now }
+    ensures { result ≡ searching.of_family (map (λ row. row.now) heads.entry.now) (map (λ row. row.now) tails.now) word.now }
 {
     while let [head, more @ ..] = heads {
         if is_joint(head, tails, word) {
@@ -137,7 +153,7 @@ fn is_of_family(mut heads: &[&[u8]], tails: &[&[u8]], word: &[u8]) -> bool
 
 /// Whether the word is this text and one of the others.
 fn is_joint(head: &[u8], tails: &[&[u8]], word: &[u8]) -> bool
-    ensures { result ≡ spec.is_joint head.now (map (λ row. row.now) tails.now) word.now }
+    ensures { result ≡ searching.is_joint head.now (map (λ row. row.now) tails.now) word.now }
 {
     match after(head, word) {
         Some(tail) => is_among(tails, tail),

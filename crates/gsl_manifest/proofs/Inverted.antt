@@ -1,5 +1,5 @@
 -- What the lines of a manifest give: one to four words at a location, and all in order.
-use Rattle.std.proofs.Common.{◌≡◌, ℕ, zero, suc, ◌+◌, ◌≤◌, Bool, true, false, cond, List, [], ◌∷◌, ◌++◌, length, map, Option, Some, None, refl, ap, sym, subst, arith, ltb, leb}
+use Rattle.std.proofs.Common.{◌≡◌, ℕ, zero, suc, ◌+◌, ◌<◌, ◌≤◌, Bool, true, false, cond, List, [], ◌∷◌, ◌++◌, length, map, Option, Some, None, refl, ap, sym, subst, arith, ltb, leb}
 use Rattle.std.proofs.lemmas.Bool.{ltb-true}
 use Rattle.std.specs.List.{AllByRecursion}
 use Rattle.std.specs.Str.{is_utf8}
@@ -7,24 +7,25 @@ use Rattle.gsl_manifest.specs.declared.meaning.Keyword.{Keyword}
 use Rattle.gsl_manifest.specs.declared.meaning.Keyword.TheVariants as word
 use Rattle.gsl_manifest.specs.declared.meaning.Meaning.{Meaning}
 use Rattle.gsl_manifest.specs.declared.meaning.Meaning.TheVariants.{Nothing, Buffer, Push, In, Group, Local, Groups, Vertex, Instance, Choice, Steps}
+use Rattle.gsl_manifest.specs.declared.manifest.BufferLine.{BufferLine}
 use Rattle.gsl_manifest.specs.declared.manifest.Manifest.{Manifest}
 use Rattle.gsl_manifest.specs.Numbers.{◌>>=◌}
 use Rattle.gsl_manifest.specs.Fields.{field_at, number_at, unsigned_at, last, three_at, numbers_at, some_numbers_at, path_at}
 use Rattle.gsl_manifest.specs.Meanings.{keyword_of, fields_say, buffer_at, in_at, choice_at, steps_at, is_blank, sentence, meaning_of, most_steps}
-use Rattle.gsl_manifest.specs.Manifests.{gather, all, buffer_in, values_in, AreManifest, stands_before, is_lower, same_buffer, same_location}
-use Rattle.gsl_manifest.specs.Order.{InOrder, IsComps, IsLower, StandsBefore}
-use Rattle.gsl_manifest.proofs.Ordered.{all_order, ascends_order, buffer_orders, value_orders}
+use Rattle.gsl_manifest.specs.Manifests.{gather, all, buffer_in, values_in, AreManifest, IsEarlier, is_lower, same_location}
+use Rattle.gsl_base.specs.Proper.{Ascends, IsProper, IsComps, IsLower}
+use Rattle.gsl_manifest.proofs.Ordered.{all_order, ascends_order, value_orders}
 
 -- what a reading gives, each way it may give something
-bind_all : {A B : Type 0} (found : Option A) (next : A → Option B) (y : B) (P : Type 0) → ((x : A) → found ≡ Some x → next x ≡ Some y → P) → (found >>= next) ≡ Some y → P
+pub bind_all : {A B : Type 0} (found : Option A) (next : A → Option B) (y : B) (P : Type 0) → ((x : A) → found ≡ Some x → next x ≡ Some y → P) → (found >>= next) ≡ Some y → P
 bind_all (Some x) next y P each e = each x refl e
 bind_all None next y P each e = absurd (cc)
 
-guard_all : {A : Type 0} (b : Bool) (x y : A) → cond b (Some x) None ≡ Some y → (b ≡ true) × (x ≡ y)
+pub guard_all : {A : Type 0} (b : Bool) (x y : A) → cond b (Some x) None ≡ Some y → (b ≡ true) × (x ≡ y)
 guard_all true x y e = (refl, cc)
 guard_all false x y e = absurd (cc)
 
-numbers_few : (most : ℕ) (bytes ns : List ℕ) → numbers_at most bytes ≡ Some ns → length ns ≤ most
+pub numbers_few : (most : ℕ) (bytes ns : List ℕ) → numbers_at most bytes ≡ Some ns → length ns ≤ most
 unfolding numbers_at
 numbers_few zero [] ns e = let none : [] ≡ ns = cc in omega (arith, ap length none)
 numbers_few zero (b ∷ bytes) ns e = absurd (cc)
@@ -112,11 +113,43 @@ all_comps (l ∷ lines) (m ∷ says) n e =
     let rest : map meaning_of lines ≡ map Some says = cc in
     all-append IsComps (values_in n m) (gather values_in (n + 1) says) (at_any_line n m (line_gives l m here)) (all_comps lines says (n + 1) rest)
 
--- what lines say stands in order
-pub in_order_of : (lines : List (List ℕ)) (m : Manifest) → AreManifest lines m → InOrder m
-in_order_of lines m are =
-    subst InOrder (sym are.value) (record {
-      buffers = ascends_order stands_before same_buffer StandsBefore buffer_orders (all buffer_in are.says) are.once.buffers;
-      values = ascends_order is_lower same_location IsLower value_orders (all values_in are.says) are.once.values;
+-- the input of a manifest is proper
+pub proper_of : (lines : List (List ℕ)) (m : Manifest) → AreManifest lines m → IsProper m.input
+proper_of lines m are =
+    subst (λ (k : Manifest). IsProper k.input) (sym are.value) (record {
+      buffers = tt;
+      ins = ascends_order is_lower same_location IsLower value_orders (all values_in are.says) are.once.values;
       comps = all_order is_lower IsComps (all values_in are.says) (all_comps lines are.says 1 are.means);
     })
+
+-- the files of buffers stand in the order of their lines
+later_line : (n k : ℕ) (says : List Meaning) → n < k → AllByRecursion (λ (b : BufferLine). n < b.line) (gather buffer_in k says)
+later_line n k [] low = tt
+later_line n k (Buffer set binding path ∷ says) low = (low, later_line n (k + 1) says (omega arith))
+later_line n k (Nothing ∷ says) low = later_line n (k + 1) says (omega arith)
+later_line n k (Push path ∷ says) low = later_line n (k + 1) says (omega arith)
+later_line n k (In location words ∷ says) low = later_line n (k + 1) says (omega arith)
+later_line n k (Group ids ∷ says) low = later_line n (k + 1) says (omega arith)
+later_line n k (Local ids ∷ says) low = later_line n (k + 1) says (omega arith)
+later_line n k (Groups ids ∷ says) low = later_line n (k + 1) says (omega arith)
+later_line n k (Vertex id ∷ says) low = later_line n (k + 1) says (omega arith)
+later_line n k (Instance id ∷ says) low = later_line n (k + 1) says (omega arith)
+later_line n k (Choice words ∷ says) low = later_line n (k + 1) says (omega arith)
+later_line n k (Steps s ∷ says) low = later_line n (k + 1) says (omega arith)
+
+lines_ascend : (k : ℕ) (says : List Meaning) → Ascends IsEarlier (gather buffer_in k says)
+lines_ascend k [] = tt
+lines_ascend k (Buffer set binding path ∷ says) = (later_line k (k + 1) says (omega arith), lines_ascend (k + 1) says)
+lines_ascend k (Nothing ∷ says) = lines_ascend (k + 1) says
+lines_ascend k (Push path ∷ says) = lines_ascend (k + 1) says
+lines_ascend k (In location words ∷ says) = lines_ascend (k + 1) says
+lines_ascend k (Group ids ∷ says) = lines_ascend (k + 1) says
+lines_ascend k (Local ids ∷ says) = lines_ascend (k + 1) says
+lines_ascend k (Groups ids ∷ says) = lines_ascend (k + 1) says
+lines_ascend k (Vertex id ∷ says) = lines_ascend (k + 1) says
+lines_ascend k (Instance id ∷ says) = lines_ascend (k + 1) says
+lines_ascend k (Choice words ∷ says) = lines_ascend (k + 1) says
+lines_ascend k (Steps s ∷ says) = lines_ascend (k + 1) says
+
+pub by_lines : (lines : List (List ℕ)) (m : Manifest) → AreManifest lines m → Ascends IsEarlier m.buffers
+by_lines lines m are = subst (λ (k : Manifest). Ascends IsEarlier k.buffers) (sym are.value) (lines_ascend 1 are.says)

@@ -12,3 +12,7 @@ mod Prefixes
 mod Inverted
 mod Permuted
 mod Whole
+mod Spelled
+mod SpelledLines
+mod SpelledBack
+mod TextBack

@@ -1,7 +1,8 @@
 -- The first line of a text, and the others.
 use Rattle.std.proofs.Common.{◌≡◌, ℕ, suc, ◌+◌, ◌-◌, ◌<◌, true, false, cond, not, List, [], ◌∷◌, ◌++◌, length, get_or, take, drop, refl, ap, sym, ◌∙◌, arith, eqb, one-add, take-append-drop, length-append}
-use Rattle.std.proofs.lemmas.Bool.{eqb-true, eq-eqb, ne_eqb, cond-true, cond-false}
-use Rattle.std.specs.List.{prefix_len}
+use Rattle.std.proofs.lemmas.Bool.{eqb-true, eq-eqb, ne_eqb, or_parts, or_from, cond-true, cond-false}
+use Rattle.std.proofs.lemmas.List.Folds.{list_any-append}
+use Rattle.std.specs.List.{list_any, prefix_len}
 use Rattle.gsl_manifest.specs.Lines.{onto, pieces, without_cr, ended, lines_of}
 
 -- how many bytes stand before the first LF
@@ -56,7 +57,7 @@ some_pieces (b ∷ bytes) =
 pub ended_more : (piece : List ℕ) (found : List (List ℕ)) (one : List ℕ) (others : List (List ℕ)) → found ≡ one ∷ others → ended (piece ∷ found) ≡ without_cr piece ∷ ended found
 ended_more piece found one others e = ap (λ f. ended (piece ∷ f)) e ∙ ap (λ f. without_cr piece ∷ ended f) (sym e)
 
-ended_last : (last : List ℕ) → 0 < length last → ended (last ∷ []) ≡ last ∷ []
+pub ended_last : (last : List ℕ) → 0 < length last → ended (last ∷ []) ≡ last ∷ []
 ended_last [] some = absurd (omega arith)
 ended_last (b ∷ last) some = cond-false _ _ _ (ne_eqb (suc (length last)) 0 (λ e. omega arith))
 
@@ -103,3 +104,26 @@ pub no_lines : (bytes : List ℕ) → true ≡ eqb (length bytes) 0 → lines_of
 unfolding lines_of
 no_lines [] none = refl
 no_lines (b ∷ bytes) none = absurd (omega (arith, eqb-true _ _ (sym none)))
+
+-- no LF is among the bytes
+abbrev pub NoLf : List ℕ → Type 0
+NoLf bytes = list_any (λ b. eqb b 10) bytes ≡ false
+
+-- no CR is at their end
+abbrev pub NoCr : List ℕ → Type 0
+NoCr bytes = without_cr bytes ≡ bytes
+
+pub pieces_line : (line rest : List ℕ) → NoLf line → pieces (line ++ 10 ∷ rest) ≡ line ∷ pieces rest
+pieces_line [] rest none = refl
+pieces_line (b ∷ line) rest none =
+    let parts = or_parts (eqb b 10) _ none in
+    cond-false _ _ _ parts.0 ∙ ap (onto b) (pieces_line line rest parts.1)
+
+pub lines_line : (line rest : List ℕ) → NoLf line → NoCr line → lines_of (line ++ 10 ∷ rest) ≡ line ∷ lines_of rest
+unfolding lines_of
+lines_line line rest none end =
+    let next = some_pieces rest in
+    ap ended (pieces_line line rest none) ∙ ended_more line (pieces rest) next.one next.others next.are ∙ ap (λ l. l ∷ ended (pieces rest)) end
+
+pub no_lf_append : (a b : List ℕ) → NoLf a → NoLf b → NoLf (a ++ b)
+no_lf_append a b e f = list_any-append (λ c. eqb c 10) a b ∙ or_from _ _ e f

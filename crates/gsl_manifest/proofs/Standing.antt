@@ -10,7 +10,7 @@ use Rattle.gsl_manifest.specs.declared.meaning.Meaning.{Meaning}
 use Rattle.gsl_manifest.specs.declared.meaning.Meaning.TheVariants.{Nothing, Buffer, Push, In, Group, Local, Groups, Vertex, Instance, Choice, Steps}
 use Rattle.gsl_manifest.specs.declared.manifest.BufferLine.{BufferLine}
 use Rattle.gsl_manifest.specs.declared.draft.Draft.{Draft}
-use Rattle.gsl_manifest.specs.Manifests.{buffer_in, push_in, values_in, group_in, local_in, groups_in, vertex_in, instance_in, choices_in, steps_in, gather, all, same_buffer, same_location, differ, StandOnce, stands_before, is_lower, place, in_order, first}
+use Rattle.gsl_manifest.specs.Manifests.{buffer_in, push_in, values_in, group_in, local_in, groups_in, vertex_in, instance_in, choices_in, steps_in, gather, all, same_buffer, same_location, differ, StandOnce, is_lower, place, in_order, first}
 use Rattle.gsl_manifest.specs.Drafts.{empty}
 
 gather_more : {A : Type 0} (given : ℕ → Meaning → List A) (n : ℕ) (says : List Meaning) (m : Meaning) → gather given n (says ++ m ∷ []) ≡ gather given n says ++ given (n + length says) m
@@ -39,11 +39,11 @@ abbrev pub later : {A : Type 0} → Option A → List A → Option A
 later given [] = given
 later given (x ∷ xs) = Some x
 
-abbrev pub with_more : List ℕ → List ℕ → List ℕ
+abbrev pub with_more : {A : Type 0} → List A → List A → List A
 with_more given [] = given
 with_more given (x ∷ xs) = given ++ x ∷ xs
 
-pub with_more_is : (given xs : List ℕ) → with_more given xs ≡ given ++ xs
+pub with_more_is : {A : Type 0} (given xs : List A) → with_more given xs ≡ given ++ xs
 with_more_is given [] = sym (append-nil given)
 with_more_is given (x ∷ xs) = refl
 
@@ -145,9 +145,24 @@ module _ {A : Type 0} (same : A → A → Bool) (either : (a b : A) → same a b
   apart_back : (before : A → A → Bool) (xs given : List A) (y : A) → given ≡ in_order before xs → differ same (xs ++ y ∷ []) ≡ true → not (list_any (same y) given) ≡ true
   apart_back before xs given y is now = not_from_false _ (any_order before (same y) xs given is ∙ differ_back xs y now)
 
+-- an order in which each item stands behind those before it
+abbrev in_turn : BufferLine → BufferLine → Bool
+in_turn a b = false
+
+turns_onto : (acc xs : List BufferLine) → fold (λ placed x. place in_turn x placed) acc xs ≡ acc ++ xs
+turns_onto acc [] = sym (append-nil acc)
+turns_onto acc (x ∷ xs) = ap (λ placed. fold (λ placed x. place in_turn x placed) placed xs) (last acc) ∙ turns_onto (acc ++ x ∷ []) xs ∙ append_assoc acc (x ∷ []) xs
+  where
+    last : (ys : List BufferLine) → place in_turn x ys ≡ ys ++ x ∷ []
+    last [] = refl
+    last (y ∷ ys) = ap (λ r. y ∷ r) (last ys)
+
+turns : (xs : List BufferLine) → in_order in_turn xs ≡ xs
+turns xs = turns_onto [] xs
+
 -- The draft holds what the lines say.
 pub record Stands (says : List Meaning) (d : Draft) : Type 0 where
-  pub buffers : d.buffers ≡ in_order stands_before (all buffer_in says)
+  pub buffers : d.buffers ≡ all buffer_in says
   pub push : d.push ≡ first (all push_in says)
   pub values : d.ins ≡ in_order is_lower (all values_in says)
   pub group : d.group ≡ first (all group_in says)
@@ -200,7 +215,7 @@ pub record MayStand (n : ℕ) (m : Meaning) (d : Draft) : Type 0 where
 -- the draft with what line n says
 abbrev pub with_line : ℕ → Meaning → Draft → Draft
 with_line n m d = record {
-  buffers = with_place stands_before d.buffers (buffer_in n m);
+  buffers = with_more d.buffers (buffer_in n m);
   push = later d.push (push_in n m);
   ins = with_place is_lower d.ins (values_in n m);
   group = later d.group (group_in n m);
@@ -259,7 +274,7 @@ module _ (n : ℕ) (says : List Meaning) (m : Meaning) (d : Draft) (is : n ≡ 1
   -- a line that may stand
   pub once_more : StandOnce says → MayStand n m d → StandOnce (says ++ m ∷ [])
   once_more once may = let one = gives_one n m in record {
-    buffers = ap (differ same_buffer) (all_more buffer_in n says m is) ∙ differ_more same_buffer buffer_either stands_before (all buffer_in says) (buffer_in n m) d.buffers stands.buffers once.buffers one.buffers may.buffers;
+    buffers = ap (differ same_buffer) (all_more buffer_in n says m is) ∙ differ_more same_buffer buffer_either in_turn (all buffer_in says) (buffer_in n m) d.buffers (stands.buffers ∙ sym (turns (all buffer_in says))) once.buffers one.buffers may.buffers;
     push = one_more push_in d.push stands.push once.push one.push may.push;
     values = ap (differ same_location) (all_more values_in n says m is) ∙ differ_more same_location location_either is_lower (all values_in says) (values_in n m) d.ins stands.values once.values one.values may.values;
     group = one_more group_in d.group stands.group once.group one.group may.group;
@@ -272,7 +287,7 @@ module _ (n : ℕ) (says : List Meaning) (m : Meaning) (d : Draft) (is : n ≡ 1
 
   pub stands_more : MayStand n m d → Stands (says ++ m ∷ []) (with_line n m d)
   stands_more may = let one = gives_one n m in record {
-    buffers = order_more stands_before (all buffer_in says) (buffer_in n m) d.buffers stands.buffers one.buffers ∙ ap (in_order stands_before) (sym (all_more buffer_in n says m is));
+    buffers = with_more_is d.buffers (buffer_in n m) ∙ ap (λ c. c ++ buffer_in n m) stands.buffers ∙ sym (all_more buffer_in n says m is);
     push = held_more push_in d.push stands.push may.push;
     values = order_more is_lower (all values_in says) (values_in n m) d.ins stands.values one.values ∙ ap (in_order is_lower) (sym (all_more values_in n says m is));
     group = held_more group_in d.group stands.group may.group;
@@ -290,7 +305,7 @@ module _ (n : ℕ) (says : List Meaning) (m : Meaning) (d : Draft) (is : n ≡ 1
 
   pub buffer_back : (x : BufferLine) → buffer_in n m ≡ x ∷ [] → differ same_buffer (all buffer_in (says ++ m ∷ [])) ≡ true → not (list_any (same_buffer x) d.buffers) ≡ true
   buffer_back x here now =
-      apart_back same_buffer buffer_either stands_before (all buffer_in says) d.buffers x stands.buffers
+      apart_back same_buffer buffer_either in_turn (all buffer_in says) d.buffers x (stands.buffers ∙ sym (turns (all buffer_in says)))
       (ap (differ same_buffer) (sym (all_more buffer_in n says m is ∙ ap (λ r. all buffer_in says ++ r) here)) ∙ now)
 
   pub values_back : (x : Located) → values_in n m ≡ x ∷ [] → differ same_location (all values_in (says ++ m ∷ [])) ≡ true → not (list_any (same_location x) d.ins) ≡ true

@@ -11,7 +11,8 @@ use Rattle.std.specs.Fmt.{decimal}
 use Rattle.gsl_base.specs.declared.input.Buffer.{Buffer}
 use Rattle.gsl_base.specs.declared.input.Located.{Located}
 use Rattle.gsl_base.specs.declared.input.Output.{Output}
-use Rattle.gsl_manifest.specs.Listing.{hex_digit, hex_byte, hex_word, behind_word, word_lines, words_of, left_over, byte_field, left_line, buffer_text, out_text, ending, listing_of, FitsBuffer, FitsLocated, FitsOutput, AreBytes, AreWords, SameShown}
+use Rattle.gsl_manifest.specs.Listing.{hex_digit, hex_byte, hex_word, behind_word, word_lines, words_of, left_over, byte_field, left_line, buffer_text, out_text, ending, listing_of, FitsOutput, SameShown}
+use Rattle.gsl_base.specs.Ranges.{FitsBuffer, FitsLocated, AreBytes, AreWords}
 
 -- a digit is at most `f`
 hex_small : (d : ℕ) → d < 16 → hex_digit d ≤ 102

@@ -1,6 +1,6 @@
 -- A manifest that is printed whole is read back.
-use Rattle.std.proofs.Common.{◌≡◌, ℕ, suc, ◌+◌, ◌≤◌, Bool, true, false, cond, List, [], ◌∷◌, ◌++◌, length, map, Option, Some, None, refl, ap, sym, subst, ◌∙◌, arith, append_assoc, append-nil, inl, inr}
-use Rattle.std.proofs.lemmas.Bool.{and_from, and_left, and_right, or_from, not_from_false, ne_eqb, le-ltb}
+use Rattle.std.proofs.Common.{◌≡◌, ℕ, suc, ◌+◌, ◌≤◌, Bool, true, false, cond, List, [], ◌∷◌, ◌++◌, length, map, Option, Some, None, refl, ap, sym, subst, ◌∙◌, arith, append_assoc, append-nil}
+use Rattle.std.proofs.lemmas.Bool.{and_from, or_from, not_from_false, ne_eqb, le-ltb}
 use Rattle.std.specs.Prelude.{fold}
 use Rattle.std.specs.List.{list_any, AllByRecursion}
 use Rattle.gsl_base.specs.declared.input.Located.{Located}
@@ -10,8 +10,8 @@ use Rattle.gsl_manifest.specs.declared.manifest.BufferLine.{BufferLine}
 use Rattle.gsl_manifest.specs.declared.manifest.PushLine.{PushLine}
 use Rattle.gsl_manifest.specs.declared.manifest.Manifest.{Manifest}
 use Rattle.gsl_manifest.specs.Lines.{lines_of}
-use Rattle.gsl_manifest.specs.Manifests.{gather, all, buffer_in, push_in, values_in, group_in, local_in, groups_in, vertex_in, instance_in, choices_in, steps_in, place, in_order, differ, same_buffer, same_location, stands_before, is_lower, first, StandOnce, AreManifest, manifest_of}
-use Rattle.gsl_manifest.specs.Order.{Ascends, StandsBefore, IsLower}
+use Rattle.gsl_manifest.specs.Manifests.{gather, all, buffer_in, push_in, values_in, group_in, local_in, groups_in, vertex_in, instance_in, choices_in, steps_in, place, in_order, differ, same_buffer, same_location, is_lower, first, StandOnce, AreManifest, manifest_of}
+use Rattle.gsl_base.specs.Proper.{Ascends, IsLower}
 use Rattle.gsl_manifest.specs.Printing.{buffer_says, push_says, values_say, choices_say, rest_says, says_of, manifest_text, AreNumbered, IsNumbered, IsPrintable}
 use Rattle.gsl_manifest.proofs.Prefixes.{gather-append}
 use Rattle.gsl_manifest.proofs.Written.{written}
@@ -63,14 +63,6 @@ module _ {A : Type 0} (same : A → A → Bool) (P : A → A → Type 0) (each :
   all_differ : (xs : List A) → Ascends P xs → differ same xs ≡ true
   all_differ [] up = refl
   all_differ (x ∷ xs) up = and_from _ _ (not_from_false _ (none_same x xs up.0)) (all_differ xs up.1)
-
-buffer_not_before : (a b : BufferLine) → StandsBefore a b → stands_before b a ≡ false
-buffer_not_before a b (inl set) = or_from _ _ (le-ltb b.set a.set (omega (arith, set))) (and_left _ _ (ne_eqb b.set a.set (λ e. omega (arith, set))))
-buffer_not_before a b (inr both) = or_from _ _ (le-ltb b.set a.set (omega (arith, both.0))) (and_right _ _ (le-ltb b.binding a.binding (omega (arith, both.1))))
-
-buffer_apart : (a b : BufferLine) → StandsBefore a b → same_buffer a b ≡ false
-buffer_apart a b (inl set) = and_left _ _ (ne_eqb a.set b.set (λ e. omega (arith, set)))
-buffer_apart a b (inr both) = and_right _ _ (ne_eqb a.binding b.binding (λ e. omega (arith, both.1)))
 
 value_not_before : (a b : Located) → IsLower a b → is_lower b a ≡ false
 value_not_before a b low = le-ltb b.location a.location (omega arith)
@@ -193,9 +185,9 @@ module _ (m : Manifest) where
 
   once_given : IsPrintable m → StandOnce (says_of m)
   once_given can = record {
-    buffers = ap (differ same_buffer) (buffers_given can.buffers) ∙ all_differ same_buffer StandsBefore buffer_apart m.buffers can.order.buffers;
+    buffers = ap (differ same_buffer) (buffers_given can.buffers) ∙ can.pairs;
     push = one_push (all push_in (says_of m)) m.push (push_given can.push);
-    values = ap (differ same_location) values_given ∙ all_differ same_location IsLower value_apart m.input.ins can.order.values;
+    values = ap (differ same_location) values_given ∙ all_differ same_location IsLower value_apart m.input.ins can.proper.ins;
     group = one_given _ m.input.group group_given;
     local = one_given _ m.input.local local_given;
     groups = one_given _ m.input.groups groups_given;
@@ -206,10 +198,9 @@ module _ (m : Manifest) where
 
   whole_given : IsPrintable m → manifest_of (says_of m) ≡ m
   whole_given can =
-      let b : in_order stands_before (all buffer_in (says_of m)) ≡ m.buffers =
-      ap (in_order stands_before) (buffers_given can.buffers) ∙ stays stands_before m.buffers (ascends_map StandsBefore (NotBefore stands_before) buffer_not_before m.buffers can.order.buffers) in
+      let b : all buffer_in (says_of m) ≡ m.buffers = buffers_given can.buffers in
       let v : in_order is_lower (all values_in (says_of m)) ≡ m.input.ins =
-      ap (in_order is_lower) values_given ∙ stays is_lower m.input.ins (ascends_map IsLower (NotBefore is_lower) value_not_before m.input.ins can.order.values) in
+      ap (in_order is_lower) values_given ∙ stays is_lower m.input.ins (ascends_map IsLower (NotBefore is_lower) value_not_before m.input.ins can.proper.ins) in
       let p : first (all push_in (says_of m)) ≡ m.push = ap first (push_given can.push) ∙ first_push m.push in
       rw (b, p, v, group_given, local_given, groups_given, vertex_given, instance_given, choices_given, steps_given) (
       ap (λ bs. record m { input = record m.input { buffers = bs; push = None } }) (sym can.no_buffers)

@@ -1,42 +1,20 @@
 -- The lines of what a writer prints.
-use Rattle.std.proofs.Common.{◌≡◌, ℕ, ◌<◌, ◌≤◌, ◌^◌, false, List, [], ◌∷◌, ◌++◌, length, map, Some, refl, ap, sym, subst, ◌∙◌, arith, eqb, append_assoc, append-nil, codes}
-use Rattle.std.proofs.lemmas.Bool.{or_parts, or_from, cond-false}
-use Rattle.std.proofs.lemmas.List.Folds.{list_any-append}
-use Rattle.std.specs.List.{flat_map, list_any, AllByRecursion}
+use Rattle.std.proofs.Common.{◌≡◌, ℕ, ◌<◌, ◌≤◌, ◌^◌, List, [], ◌∷◌, ◌++◌, length, map, Some, refl, ap, sym, subst, ◌∙◌, arith, append_assoc, append-nil, codes}
+use Rattle.std.proofs.lemmas.Bool.{or_from, cond-false}
+use Rattle.std.specs.List.{flat_map, AllByRecursion}
 use Rattle.std.specs.Fmt.{decimal}
 use Rattle.std.specs.Str.Parse.{AllDigits}
 use Rattle.gsl_manifest.specs.declared.meaning.Meaning.{Meaning}
 use Rattle.gsl_manifest.specs.declared.meaning.Meaning.TheVariants.{Nothing, Buffer, Push, In, Group, Local, Groups, Vertex, Instance, Choice, Steps}
-use Rattle.gsl_manifest.specs.Lines.{onto, pieces, without_cr, ended, lines_of}
-use Rattle.gsl_manifest.specs.Listing.{AreWords}
+use Rattle.gsl_manifest.specs.Lines.{lines_of}
+use Rattle.gsl_base.specs.Ranges.{AreWords}
 use Rattle.gsl_manifest.specs.Meanings.{meaning_of}
 use Rattle.gsl_manifest.specs.Manifests.{StandOnce, AreManifest, manifest_of}
-use Rattle.gsl_manifest.specs.Printing.{field_text, line_text, printed, IsPath, IsWritable}
-use Rattle.gsl_manifest.proofs.Splitting.{some_pieces, ended_more}
-use Rattle.gsl_manifest.proofs.Printed.{decimal_digits, digit_above, one_fits, line_read}
-
--- no LF is among the bytes
-abbrev NoLf : List ℕ → Type 0
-NoLf bytes = list_any (λ b. eqb b 10) bytes ≡ false
-
--- no CR is at their end
-abbrev NoCr : List ℕ → Type 0
-NoCr bytes = without_cr bytes ≡ bytes
-
-pieces_line : (line rest : List ℕ) → NoLf line → pieces (line ++ 10 ∷ rest) ≡ line ∷ pieces rest
-pieces_line [] rest none = refl
-pieces_line (b ∷ line) rest none =
-    let parts = or_parts (eqb b 10) _ none in
-    cond-false _ _ _ parts.0 ∙ ap (onto b) (pieces_line line rest parts.1)
-
-lines_line : (line rest : List ℕ) → NoLf line → NoCr line → lines_of (line ++ 10 ∷ rest) ≡ line ∷ lines_of rest
-unfolding lines_of
-lines_line line rest none end =
-    let next = some_pieces rest in
-    ap ended (pieces_line line rest none) ∙ ended_more line (pieces rest) next.one next.others next.are ∙ ap (λ l. l ∷ ended (pieces rest)) end
-
-no_lf_append : (a b : List ℕ) → NoLf a → NoLf b → NoLf (a ++ b)
-no_lf_append a b e f = list_any-append (λ c. eqb c 10) a b ∙ or_from _ _ e f
+use Rattle.gsl_manifest.specs.Printing.{field_text, line_text, printed, IsPath, AreSome, IsWritable}
+use Rattle.gsl_manifest.proofs.Splitting.{NoLf, NoCr, lines_line, no_lf_append}
+use Rattle.gsl_manifest.proofs.Printed.{decimal_digits, digit_above, one_fits}
+use Rattle.gsl_manifest.proofs.SpelledLines.{line_is}
+use Rattle.gsl_manifest.specs.Spelling.{WritesUnsigned, WritesWord, WritesWords, IsPathText, Spells, IsGap}
 
 no_cr_append : (a b : List ℕ) → 0 < length b → NoCr b → NoCr (a ++ b)
 no_cr_append [] b some end = end
@@ -114,9 +92,40 @@ printed_lines (m ∷ says) can =
     ap lines_of (append_assoc (line_text m) (codes "\n") (printed says)) ∙ lines_line (line_text m) (printed says) (line_no_lf m can.0) (line_no_cr m can.0)
     ∙ ap (λ r. line_text m ∷ r) (printed_lines says can.1)
 
+-- ---- a printed line is spelled as the format allows
+
+space : IsGap (32 ∷ [])
+space = record { some = omega arith; spaces = (refl, tt) }
+
+printed_words : (ns : List ℕ) → AreWords ns → WritesWords (flat_map field_text ns) ns
+printed_words [] fit = WritesWords.none
+printed_words (n ∷ ns) fit = WritesWords.more space (WritesWord.unsigned (WritesUnsigned.decimal_digits n fit.0)) (printed_words ns fit.1)
+
+printed_path : (path : List ℕ) → IsPath path → IsPathText path
+printed_path path is = record { some = is.some; text = is.text; begins = is.begins }
+
+three : (ids : List ℕ) → AreSome 3 3 ids → length ids ≡ 3
+three ids are = omega (arith, are.some, are.most)
+
+printed_spells : (m : Meaning) → IsWritable m → Spells (line_text m) m
+printed_spells Nothing can = Spells.empty
+printed_spells (Buffer set binding path) can =
+    Spells.buffer space (WritesUnsigned.decimal_digits set can.0) space (WritesUnsigned.decimal_digits binding can.1) space (printed_path path can.2)
+printed_spells (Push path) can = Spells.push space (printed_path path can)
+printed_spells (In location words) can =
+    Spells.values space (WritesUnsigned.decimal_digits location can.0) (printed_words words can.1.fit) can.1.some can.1.most
+printed_spells (Group ids) can = Spells.group (printed_words ids can.fit) (three ids can)
+printed_spells (Local ids) can = Spells.local (printed_words ids can.fit) (three ids can)
+printed_spells (Groups ids) can = Spells.groups (printed_words ids can.fit) (three ids can)
+printed_spells (Vertex n) can = Spells.vertex (printed_words (n ∷ []) (one_fits n can))
+printed_spells (Instance n) can = Spells.instance (printed_words (n ∷ []) (one_fits n can))
+printed_spells (Choice words) can = Spells.choice (printed_words words can.1) can.0
+printed_spells (Steps n) can =
+    subst (λ fields. Spells (codes "steps" ++ fields) (Steps n)) (sym (append-nil (field_text n))) (Spells.steps space (WritesUnsigned.decimal_digits n (omega arith)) can)
+
 lines_mean : (says : List Meaning) → AllByRecursion IsWritable says → map meaning_of (map line_text says) ≡ map Some says
 lines_mean [] can = refl
-lines_mean (m ∷ says) can = ap (λ f. f ∷ map meaning_of (map line_text says)) (line_read m can.0) ∙ ap (λ r. Some m ∷ r) (lines_mean says can.1)
+lines_mean (m ∷ says) can = ap (λ f. f ∷ map meaning_of (map line_text says)) (line_is (line_text m) m (printed_spells m can.0)) ∙ ap (λ r. Some m ∷ r) (lines_mean says can.1)
 
 -- what was printed is the manifest that was meant
 pub written : (says : List Meaning) → AllByRecursion IsWritable says → StandOnce says → AreManifest (lines_of (printed says)) (manifest_of says)

@@ -1,3 +1,4 @@
+-- How the code reads, and not the rule, which stands in `Manifests.antt`.
 -- Reading a manifest line by line.
 use Rattle.std.specs.Prelude.{◌≡◌, ℕ, ◌+◌, if◌then◌else◌, List, [], ◌∷◌, ◌++◌, Option, Some, None, Result, Ok, Err, ⊤}
 use Rattle.std.specs.List.{list_any}
@@ -13,7 +14,7 @@ use Rattle.gsl_manifest.specs.declared.manifest.ManifestRefusal.TheVariants.{Lin
 use Rattle.gsl_manifest.specs.declared.draft.Draft.{Draft}
 use Rattle.gsl_manifest.specs.Numbers.{◌>>=◌}
 use Rattle.gsl_manifest.specs.Meanings.{meaning_of, most_steps}
-use Rattle.gsl_manifest.specs.Manifests.{same_buffer, same_location, stands_before, is_lower, place}
+use Rattle.gsl_manifest.specs.Manifests.{same_buffer, same_location, is_lower, place}
 
 -- what no line says
 abbrev pub empty : Draft
@@ -30,9 +31,9 @@ empty = record {
   steps = None;
 }
 
--- with the file of a buffer, in its place, if its set and binding are new
+-- with the file of one buffer more, if its set and binding are new
 abbrev pub put_buffer : BufferLine → Draft → Option Draft
-put_buffer b d = if list_any (same_buffer b) d.buffers then None else Some (record d { buffers = place stands_before b d.buffers })
+put_buffer b d = if list_any (same_buffer b) d.buffers then None else Some (record d { buffers = d.buffers ++ b ∷ [] })
 
 -- with words at a location, in their place, if the location is new
 abbrev pub put_values : Located → Draft → Option Draft

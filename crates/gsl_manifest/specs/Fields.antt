@@ -1,3 +1,4 @@
+-- Computes what the format says; the rule is in `Spelling.antt`.
 -- The fields of a line: a word, and then fields with one or more spaces before each.
 use Rattle.std.specs.Prelude.{ℕ, zero, suc, ◌==◌, ◌&&◌, not, if◌then◌else◌, nat_lt, List, [], ◌∷◌, length, take, drop, Option, Some, None}
 use Rattle.std.specs.List.{prefix_len}

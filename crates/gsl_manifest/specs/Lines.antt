@@ -1,3 +1,4 @@
+-- Computes what the format says; the rule is in `Spelling.antt`.
 -- The lines of a text.
 use Rattle.std.specs.Prelude.{ℕ, ◌==◌, if◌then◌else◌, List, [], ◌∷◌, length}
 

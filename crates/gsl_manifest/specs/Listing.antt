@@ -1,10 +1,11 @@
 -- The text that shows what a run gave: its buffers, and then its outputs.
-use Rattle.std.specs.Prelude.{◌≡◌, ℕ, ◌+◌, ◌*◌, ◌/◌, ◌%◌, ◌^◌, ◌<◌, false, ◌==◌, ◌||◌, if◌then◌else◌, nat_lt, List, [], ◌∷◌, ◌++◌, length, codes}
+use Rattle.std.specs.Prelude.{◌≡◌, ℕ, ◌+◌, ◌*◌, ◌/◌, ◌%◌, ◌^◌, false, ◌==◌, ◌||◌, if◌then◌else◌, nat_lt, List, [], ◌∷◌, ◌++◌, length, codes}
 use Rattle.std.specs.List.{flat_map, AllByRecursion}
 use Rattle.std.specs.Fmt.{decimal}
 use Rattle.gsl_base.specs.declared.input.Buffer.{Buffer}
 use Rattle.gsl_base.specs.declared.input.Located.{Located}
 use Rattle.gsl_base.specs.declared.input.Output.{Output}
+use Rattle.gsl_base.specs.Ranges.{FitsBuffer, FitsLocated}
 
 -- a hexadecimal digit, in lower case
 abbrev pub hex_digit : ℕ → ℕ
@@ -70,25 +71,6 @@ ending o = if o.killed then codes "discarded\n" else flat_map out_text o.outs
 -- the buffers, and then the end
 abbrev pub listing_of : Output → List ℕ
 listing_of o = flat_map buffer_text o.buffers ++ ending o
-
--- Each is a byte.
-abbrev pub AreBytes : List ℕ → Type 0
-AreBytes bytes = AllByRecursion (λ byte. byte < 256) bytes
-
--- Each is a word.
-abbrev pub AreWords : List ℕ → Type 0
-AreWords words = AllByRecursion (λ word. word < 2 ^ 32) words
-
--- The numbers of a buffer are in their ranges.
-pub record FitsBuffer (buffer : Buffer) : Type 0 where
-  pub set : buffer.set < 2 ^ 32
-  pub binding : buffer.binding < 2 ^ 32
-  pub bytes : AreBytes buffer.bytes
-
--- The numbers of a value at a location are in their ranges.
-pub record FitsLocated (value : Located) : Type 0 where
-  pub location : value.location < 2 ^ 32
-  pub words : AreWords value.words
 
 -- Each number of the output is in the range of its type.
 pub record FitsOutput (o : Output) : Type 0 where

@@ -1,5 +1,5 @@
 -- Which lines are those of a manifest, and what the manifest says.
-use Rattle.std.specs.Prelude.{◌≡◌, ℕ, ◌+◌, ◌-◌, ◌≤◌, Bool, true, ◌==◌, ◌&&◌, ◌||◌, not, if◌then◌else◌, nat_lt, IsTrue, List, [], ◌∷◌, ◌++◌, length, take, map, Option, Some, None, Result, Ok, Err, ⊤, fold}
+use Rattle.std.specs.Prelude.{◌≡◌, ℕ, ◌+◌, ◌-◌, ◌<◌, ◌≤◌, Bool, true, ◌==◌, ◌&&◌, not, if◌then◌else◌, nat_lt, IsTrue, List, [], ◌∷◌, ◌++◌, length, take, map, Option, Some, None, Result, Ok, Err, ⊤, fold}
 use Rattle.std.specs.List.{list_any}
 use Rattle.std.specs.Option.{unwrap_or}
 use Rattle.gsl_base.specs.declared.input.Located.{Located}
@@ -96,9 +96,9 @@ pub record StandOnce (says : List Meaning) : Type 0 where
   pub instance : length (all instance_in says) ≤ 1
   pub steps : length (all steps_in says) ≤ 1
 
--- by set, and at one set by binding
-abbrev pub stands_before : BufferLine → BufferLine → Bool
-stands_before a b = nat_lt a.set b.set || a.set == b.set && nat_lt a.binding b.binding
+-- by line
+abbrev pub IsEarlier : BufferLine → BufferLine → Type 0
+IsEarlier a b = a.line < b.line
 
 -- by location
 abbrev pub is_lower : Located → Located → Bool
@@ -118,10 +118,10 @@ abbrev pub first : {A : Type 0} → List A → Option A
 first [] = None
 first (x ∷ xs) = Some x
 
--- What the lines say. What none of them says is none, 0, one work group, no choice, or the most steps.
+-- What the lines say: the files of buffers in the order of their lines, and values by location. What none of them says is none, 0, one work group, no choice, or the most steps.
 abbrev pub manifest_of : List Meaning → Manifest
 manifest_of says = record {
-  buffers = in_order stands_before (all buffer_in says);
+  buffers = all buffer_in says;
   push = first (all push_in says);
   input = record {
     buffers = [];

@@ -1,3 +1,4 @@
+-- Computes what the format says; the rule is in `Spelling.antt`.
 -- What each line of a manifest says.
 use Rattle.std.specs.Prelude.{ℕ, ◌==◌, Bool, true, if◌then◌else◌, nat_le, List, [], ◌∷◌, length, Option, Some, None, codes}
 use Rattle.std.specs.Str.{is_utf8, bytes_eq}

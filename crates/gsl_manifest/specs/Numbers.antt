@@ -1,5 +1,6 @@
+-- Computes what the format says; the rule is in `Spelling.antt`.
 -- The numbers of a manifest and the words that they write.
-use Rattle.std.specs.Prelude.{ℕ, ◌-◌, ◌%◌, ◌^◌, Bool, true, ◌&&◌, if◌then◌else◌, nat_le, nat_lt, List, [], ◌∷◌, length, take, drop, Option, Some, None, codes}
+use Rattle.std.specs.Prelude.{ℕ, ◌-◌, ◌%◌, ◌^◌, Bool, true, false, ◌==◌, ◌&&◌, if◌then◌else◌, nat_le, nat_lt, List, [], ◌∷◌, length, take, drop, Option, Some, None, codes}
 use Rattle.std.specs.Char.{digit_value}
 use Rattle.std.specs.Str.{bytes_eq}
 use Rattle.std.specs.Str.Parse.{digits_value}
@@ -21,9 +22,19 @@ natural base digits =
     if nat_lt 0 (length digits) && are_digits base digits && nat_lt (digits_value base digits) (2 ^ 32)
     then Some (digits_value base digits) else None
 
--- a number without sign: decimal, or hexadecimal behind `0x`
+-- whether the digits begin with a zero that others follow
+abbrev pub leads_with_zero : List ℕ → Bool
+leads_with_zero [] = false
+leads_with_zero (d ∷ []) = false
+leads_with_zero (d ∷ e ∷ digits) = d == 48
+
+-- a decimal number, which has no zero in front of its digits
+unfoldable pub decimal_of : List ℕ → Option ℕ
+decimal_of digits = if leads_with_zero digits then None else natural 10 digits
+
+-- a number without sign: decimal, or hexadecimal behind `0x`, whose digits may begin with zeros
 abbrev pub unsigned : List ℕ → Option ℕ
-unsigned field = if bytes_eq (take 2 field) (codes "0x") then natural 16 (drop 2 field) else natural 10 field
+unsigned field = if bytes_eq (take 2 field) (codes "0x") then natural 16 (drop 2 field) else decimal_of field
 
 -- the word of a number below zero, down to -2^31
 abbrev pub below_zero : ℕ → Option ℕ
@@ -31,4 +42,4 @@ below_zero n = if nat_le n (2 ^ 31) then Some ((2 ^ 32 - n) % 2 ^ 32) else None
 
 -- the word of a number: one without sign, or `-` and decimal digits
 abbrev pub number : List ℕ → Option ℕ
-number field = if bytes_eq (take 1 field) (codes "-") then (natural 10 (drop 1 field) >>= below_zero) else unsigned field
+number field = if bytes_eq (take 1 field) (codes "-") then (decimal_of (drop 1 field) >>= below_zero) else unsigned field

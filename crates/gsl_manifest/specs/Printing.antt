@@ -10,9 +10,10 @@ use Rattle.gsl_manifest.specs.declared.manifest.Manifest.{Manifest}
 use Rattle.gsl_manifest.specs.declared.meaning.Meaning.{Meaning}
 use Rattle.gsl_manifest.specs.declared.meaning.Meaning.TheVariants.{Nothing, Buffer, Push, In, Group, Local, Groups, Vertex, Instance, Choice, Steps}
 use Rattle.gsl_manifest.specs.Lines.{without_cr}
-use Rattle.gsl_manifest.specs.Listing.{AreWords}
+use Rattle.gsl_base.specs.Proper.{IsProper}
+use Rattle.gsl_base.specs.Ranges.{AreWords}
 use Rattle.gsl_manifest.specs.Meanings.{most_steps}
-use Rattle.gsl_manifest.specs.Order.{InOrder}
+use Rattle.gsl_manifest.specs.Manifests.{differ, same_buffer}
 
 -- a number behind a space
 abbrev pub field_text : ℕ → List ℕ
@@ -110,10 +111,11 @@ abbrev pub IsNumbered : ℕ → Option PushLine → Type 0
 IsNumbered n None = ⊤
 IsNumbered n (Some p) = p.line ≡ n
 
--- A manifest that a writer prints: in order, its files numbered as they are printed, and no buffer and no
--- push constants in its input.
+-- A manifest that a writer prints: no buffer twice, a proper input, its files numbered as they are printed, and no buffer and
+-- no push constants in its input.
 pub record IsPrintable (m : Manifest) : Type 0 where
-  pub order : InOrder m
+  pub pairs : IsTrue (differ same_buffer m.buffers)
+  pub proper : IsProper m.input
   pub buffers : AreNumbered 1 m.buffers
   pub push : IsNumbered (1 + length m.buffers) m.push
   pub no_buffers : m.input.buffers ≡ []

@@ -26,13 +26,24 @@ fn natural(base: u32, digits: &[u8]) -> Option<u32>
     Some(value)
 }
 
+/// A decimal number, which has no zero in front of its digits.
+#[tactic(auto, unfolding(crate::specs::Numbers::decimal_of))]
+fn decimal(digits: &[u8]) -> Option<u32>
+    ensures { result ≡ numbers.decimal_of digits.now }
+{
+    match digits {
+        [b'0', _, ..] => None,
+        _ => natural(10, digits),
+    }
+}
+
 /// A number without sign: decimal, or hexadecimal behind `0x`.
 fn unsigned(field: &[u8]) -> Option<u32>
     ensures { result ≡ numbers.unsigned field.now }
 {
     match field.strip_prefix(b"0x") {
         Some(digits) => natural(16, digits),
-        None => natural(10, field),
+        None => decimal(field),
     }
 }
 
@@ -51,7 +62,7 @@ fn number(field: &[u8]) -> Option<u32>
     ensures { result ≡ numbers.number field.now }
 {
     match field.strip_prefix(b"-") {
-        Some(digits) => below_zero(natural(10, digits)?),
+        Some(digits) => below_zero(decimal(digits)?),
         None => unsigned(field),
     }
 }

@@ -16,7 +16,7 @@ pub struct BufferLine {
     pub line: u32,
 }
 
-/// The files of buffers, in ascending order of set and binding.
+/// The files of buffers, in the order of their lines.
 pub type BufferLines = List<BufferLine>;
 
 /// The file with the bytes of the push constant block.

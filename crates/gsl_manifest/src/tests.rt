@@ -40,7 +40,7 @@ const LINES: &[(&[u8], u32)] = &[
     (b"push \xc3\n", 1),
     (b"buffer 0 0 a\nbuffer 0 1 b\nbuffer 0 0x0 c\n", 3),
     (b"push a\npush a\n", 2),
-    (b"in 1 5\nin 0 5\nin 01 6\n", 3),
+    (b"in 1 5\nin 0 5\nin 0x01 6\n", 3),
     (b"in 0\n", 1),
     (b"in 0 1 2 3 4\n", 0),
     (b"in 0 1 2 3 4 5\n", 1),
@@ -76,8 +76,10 @@ fn the_first_line_that_breaks_the_format_is_refused(
 /// Fields, and the words that they write.
 const WORDS: &[(&[u8], Option<u32>)] = &[
     (b"vertex 0", Some(0)),
-    (b"vertex 00", Some(0)),
-    (b"vertex 0000000000000017", Some(17)),
+    (b"vertex 00", None),
+    (b"vertex 007", None),
+    (b"vertex -07", None),
+    (b"vertex 0x0017", Some(0x17)),
     (b"vertex 4294967295", Some(0xffff_ffff)),
     (b"vertex 4294967296", None),
     (b"vertex 99999999999999999999", None),
@@ -124,17 +126,17 @@ const LINES_IN_NO_ORDER: &[u8] =
     b"# no order\nbuffer 1 0 c\nin 9 -1\npush p q\r\nbuffer 0 7 b\ngroups 2 3 4\n\nchoice 5\nin 3 1 2\nchoice 6 7\nbuffer 0 2 a\nsteps 8\n";
 
 #[test]
-fn buffers_and_values_stand_in_order(rt: HostRuntime) -> Result<(), std::test::Fail> {
+fn buffers_stand_in_the_order_of_their_lines(rt: HostRuntime) -> Result<(), std::test::Fail> {
     let manifest = read_manifest(rt.alloc(), LINES_IN_NO_ORDER)?;
     let buffers = manifest.buffers.as_slice();
     assert_eq!(rt; buffers.len(), 3);
     let [first, second, third] = buffers else {
         return Ok(());
     };
-    assert_eq!(rt; (first.set, first.binding, first.line), (0, 2, 11));
-    assert_eq!(rt; first.path.as_str(), "a");
+    assert_eq!(rt; (first.set, first.binding, first.line), (1, 0, 2));
+    assert_eq!(rt; first.path.as_str(), "c");
     assert_eq!(rt; (second.set, second.binding, second.line), (0, 7, 5));
-    assert_eq!(rt; (third.set, third.binding, third.line), (1, 0, 2));
+    assert_eq!(rt; (third.set, third.binding, third.line), (0, 2, 11));
     Ok(())
 }
 

@@ -1,3 +1,4 @@
+-- How the code reads, and not the rule, which stands in `Phrases.antt`, `Declarations.antt` and `Statements.antt` of `gsl_syntax`.
 -- Lists of items, read from left to right behind those that were found.
 use Rattle.std.specs.Prelude.{ℕ, zero, suc, Bool, List, [], ◌∷◌, ◌++◌, length, Ok, if◌then◌else◌}
 use Rattle.gsl_base.specs.declared.token.Punct.TheVariants as punct

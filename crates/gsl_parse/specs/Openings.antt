@@ -1,3 +1,4 @@
+-- How the code reads, and not the rule, which stands in `Statements.antt` of `gsl_syntax`.
 -- What a statement begins with.
 use Rattle.std.specs.Prelude.{List, [], ◌∷◌}
 use Rattle.gsl_base.specs.declared.token.Punct.{Punct}

@@ -1,3 +1,4 @@
+-- How the code reads, and not the rule, which stands in `Declarations.antt` of `gsl_syntax`.
 -- Reading qualifiers and types.
 use Rattle.std.specs.Prelude.{ℕ, Bool, ◌||◌, is_some, List, [], ◌∷◌, Option, Some, None, Ok, if◌then◌else◌}
 use Rattle.gsl_base.specs.declared.fault.Place.{Place}

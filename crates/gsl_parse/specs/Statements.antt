@@ -1,3 +1,4 @@
+-- How the code reads, and not the rule, which stands in `Statements.antt` of `gsl_syntax`.
 -- Reading statements.
 use Rattle.std.specs.Prelude.{ℕ, zero, suc, List, [], ◌∷◌, ◌++◌, length, Option, Some, None, Ok, Err, if◌then◌else◌}
 use Rattle.gsl_base.specs.declared.fault.Place.{Place}

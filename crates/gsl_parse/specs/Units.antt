@@ -1,3 +1,4 @@
+-- How the code reads, and not the rule, which stands in `Sentences.antt` of `gsl_syntax`.
 -- Reading functions, blocks and whole units.
 use Rattle.std.specs.Prelude.{ℕ, Bool, true, false, ◌&&◌, List, [], ◌∷◌, Option, Some, None, Ok, if◌then◌else◌}
 use Rattle.gsl_base.specs.declared.token.Punct.TheVariants as punct

@@ -1,3 +1,4 @@
+-- How the code reads, and not the rule, which stands in `Declarations.antt` of `gsl_syntax`.
 -- Reading declared names, initialisers, structs and variables.
 use Rattle.std.specs.Prelude.{ℕ, zero, suc, Bool, not, ◌&&◌, List, [], ◌∷◌, ◌++◌, length, Ok, if◌then◌else◌}
 use Rattle.gsl_base.specs.declared.token.Punct.TheVariants as punct

@@ -1,3 +1,4 @@
+-- How the code reads, and not the rule, which stands in `Statements.antt` of `gsl_syntax`.
 -- A function value that reads statements nested so deeply.
 use Rattle.std.specs.Prelude.{ℕ, Result}
 use Rattle.std.specs.declared.alloc.Global.{Global}

@@ -3,7 +3,6 @@ use Rattle.std.specs.Prelude.{⊤}
 use Rattle.gsl_layout.specs.Layout.{IsLayout, array}
 use Rattle.gsl_layout.specs.Rules.{IsAlignment, least_multiple}
 use Rattle.gsl_layout.proofs.Arrays.{counted_array, open_array}
-use Rattle.gsl_layout.proofs.Multiples.{near}
 use Rattle.gsl_layout.proofs.measuring.array_of.Goals as goal
 use Rattle.gsl_layout.proofs.measuring.array_of.Goals.{in-Some, in-None}
 
@@ -22,5 +21,5 @@ array-requires g c =
           stays (subst (λ count. IsLayout (array (least_multiple c.raise-align.result element.size) count element.laid)) (sym w.count-is)
           (counted_array c.raise-align.result align element c.requires.measured c.requires.closed c.requires.size n some (omega (arith, is, w.size-is, c.if-size.false))))
       | in-None w ↦ stays (subst (λ count. IsLayout (array (least_multiple c.raise-align.result element.size) count element.laid)) (sym (w.count-is ∙ w.in-None.is))
-          (open_array c.raise-align.result align element c.requires.measured c.requires.closed c.requires.size (omega (arith, c.round_up-stride.ensures, near c.raise-align.result element.size align, c.requires.measured.extent))))
+          (open_array c.raise-align.result align element c.requires.measured c.requires.closed c.requires.size))
     ]

@@ -1,5 +1,5 @@
 use Rattle.std.proofs.Common.{◌≡◌, map, length}
-use Rattle.gsl_lex.specs.Tables.{of_family}
+use Rattle.gsl_lex.specs.Searching.{of_family}
 use Rattle.gsl_lex.proofs.tables.is_of_family.Given as goal
 
 abbrev pub invariant-loop-heads : goal.invariant-loop-heads

@@ -1,0 +1,33 @@
+-- How the code searches the tables: under the letter that a word begins with, and by the two parts of a word. This is not the
+-- rule, which stands in `Tables.antt`.
+use Rattle.std.specs.Prelude.{◌≡◌, ℕ, ◌+◌, Bool, true, false, ◌==◌, ◌&&◌, nat_le, List, [], ◌∷◌, Option, Some, None, if◌then◌else◌}
+use Rattle.std.specs.List.{filter, slice_get}
+use Rattle.gsl_base.specs.Prefix.{after}
+use Rattle.gsl_lex.specs.Ascii.{lower_a, lower_z}
+use Rattle.gsl_lex.specs.Bytes.{first_of}
+use Rattle.gsl_lex.specs.Tables.{among}
+
+-- whether the byte is one of `a` to `z`
+abbrev pub is_lower : ℕ → Bool
+is_lower byte = nat_le lower_a byte && nat_le byte lower_z
+
+-- The item stands at this index.
+pub record IsAt {A : Type 0} (items : List A) (i : ℕ) (item : A) : Type 0 where
+  pub is : slice_get items i ≡ Some item
+
+-- the rows whose word begins with the letter of this number, `a` being 0
+abbrev pub under : {A : Type 0} → (A → List ℕ) → List A → ℕ → List A
+under spelled rows letter = filter (λ row. first_of (spelled row) == lower_a + letter) rows
+
+abbrev pub among_after : List (List ℕ) → Option (List ℕ) → Bool
+among_after tails None = false
+among_after tails (Some tail) = among tails tail
+
+-- whether the word is the text and one of the tails
+abbrev pub is_joint : List ℕ → List (List ℕ) → List ℕ → Bool
+is_joint head tails word = among_after tails (after head word)
+
+-- whether the word is one of the heads and one of the tails
+abbrev pub of_family : List (List ℕ) → List (List ℕ) → List ℕ → Bool
+of_family [] tails word = false
+of_family (head ∷ heads) tails word = if is_joint head tails word then true else of_family heads tails word
