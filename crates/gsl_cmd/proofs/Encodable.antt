@@ -13,6 +13,7 @@ use Rattle.gsl_words.specs.declared.table.Count.TheVariants.{Exactly, Either, Be
 use Rattle.gsl_words.specs.declared.table.Operands.TheVariants.{Numbers}
 use Rattle.gsl_words.specs.declared.op.TheConstants as op
 use Rattle.gsl_words.specs.declared.module.Instr.{Instr}
+use Rattle.gsl_words.specs.declared.target.Target.TheVariants.{V10}
 use Rattle.gsl_words.specs.Instructions.{row_of, allows, IsInTable, HasFile, word_count}
 use Rattle.gsl_words.specs.Strings.{string_words, IsText}
 use Rattle.gsl_cmd.specs.declared.program.Term.{Term}
@@ -211,4 +212,4 @@ code_fits p fits =
 
 -- Each program's module has a file.
 pub module_has_file : (p : Program) → IsProgram p → HasFile (module_of p)
-module_has_file p fits = record { version = refl; instrs = All-from_recursion IsInTable (code_of p) (code_fits p fits) }
+module_has_file p fits = record { version = (V10, refl); instrs = All-from_recursion IsInTable (code_of p) (code_fits p fits) }

@@ -3,7 +3,7 @@ use Rattle.std.specs.Prelude.{ℕ, ◌+◌, ◌*◌, ◌==◌, if◌then◌else�
 use Rattle.std.specs.List.{list_any, position_or_len, range_with_len, flat_map}
 use Rattle.gsl_words.specs.declared.module.Instr.{Instr}
 use Rattle.gsl_words.specs.declared.module.Module.{Module}
-use Rattle.gsl_words.specs.declared.module.TheConstants.{VERSION_1_0}
+use Rattle.gsl_words.specs.declared.target.TheConstants.{VERSION_1_0}
 use Rattle.gsl_words.specs.declared.op.TheConstants as op
 use Rattle.gsl_words.specs.declared.enumerant.capability.TheConstants as capability
 use Rattle.gsl_words.specs.declared.enumerant.memory_model.TheConstants as memory_model

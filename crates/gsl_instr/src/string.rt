@@ -1,12 +1,12 @@
 ghost use Rattle.std.specs.Prelude.{◌≡◌, ◌<◌, [], ◌∷◌, ◌++◌, length, OnOk};
-ghost use Rattle.gsl_words.specs.Strings.{string_words, word_of};
+ghost use Rattle.gsl_instr.specs.Strings.{string_words, word_of};
 
-use crate::module::Args;
-use gsl_base::Memory;
+
+use gsl_base::{List, Memory};
 
 /// Adds the words of a text at the end of the operands (SPIR-V 1.0, 2.2.1). After `Memory` they have
 /// gained some of them.
-pub fn push_string(args: &mut Args, text: &str) -> Result<(), Memory>
+pub fn push_string(args: &mut List<u32>, text: &str) -> Result<(), Memory>
     ensures { OnOk result (args.new ≡ args.old ++ string_words text.now) }
 {
     let mut rest = text.as_bytes();

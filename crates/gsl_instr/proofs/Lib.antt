@@ -1,0 +1,4 @@
+pub mod Ends
+pub mod Utf8
+pub mod Texts
+pub mod Fittings
