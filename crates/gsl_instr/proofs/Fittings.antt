@@ -4,7 +4,7 @@ use Rattle.std.proofs.lemmas.Bool.{true≢false, and_parts, and_from, or_from, l
 use Rattle.std.proofs.lemmas.List.{take_at, drop_at}
 use Rattle.std.proofs.lemmas.List.Elements.{All-nil, All-cons, All-head, All-tail}
 use Rattle.std.proofs.lemmas.Str.{IsUtf8-from_is_utf8, is_utf8-from_IsUtf8}
-use Rattle.std.specs.Prelude.{All}
+use Rattle.std.specs.Prelude.{All, find}
 use Rattle.std.specs.Option.{option_map}
 use Rattle.std.specs.Str.{IsUtf8, is_utf8}
 use Rattle.gsl_base.specs.Ranges.{AreWords, AreBytes}
@@ -13,6 +13,7 @@ use Rattle.gsl_instr.specs.declared.slot.Slot.TheVariants.{Result, Id, Forward, 
 use Rattle.gsl_instr.specs.declared.form.Form.{Form}
 use Rattle.gsl_instr.specs.declared.slot.Enumeration.TheVariants.{Model}
 use Rattle.gsl_instr.specs.declared.form.Form.TheVariants as form
+use Rattle.gsl_instr.specs.declared.form.TheConstants.{TABLE}
 use Rattle.gsl_instr.specs.Strings.{word_of, string_words, IsText}
 use Rattle.gsl_instr.specs.Texts.{bytes_of, is_full, last_len, ends_with, onto, text_at}
 use Rattle.gsl_instr.specs.Forms.{form_of, slots, rest, allows, is_text, has_text, allows_words}
@@ -517,3 +518,17 @@ passes op form args found fits =
     either : (b : Bool) → (b ≡ true) ⊎ (b ≡ false)
     either true = inl refl
     either false = inr refl
+
+-- Instructions of a literal opcode -------------------------------------------------------------------------------
+
+-- the table's answer, which computes
+abbrev pub looked_up : ℕ → Option Form
+looked_up op = option_map (λ row. row.form) (find (λ row. eqb row.op op) TABLE)
+
+pub form_found : (op : ℕ) (form : Form) → looked_up op ≡ Some form → form_of op ≡ Some form
+unfolding form_of
+form_found op form e = e
+
+-- one without a text
+pub words_fit : (op : ℕ) (form : Form) (args : List ℕ) → looked_up op ≡ Some form → has_text form ≡ false → allows_words form (length args) ≡ true → 1 + length args < 2 ^ 16 → Fits op args
+words_fit op form args found plain counted short = passed_words op form args (form_found op form found) plain short counted

@@ -2,3 +2,4 @@ pub mod Ends
 pub mod Utf8
 pub mod Texts
 pub mod Fittings
+pub mod Opcodes

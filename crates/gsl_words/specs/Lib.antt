@@ -3,3 +3,4 @@ pub mod Instructions
 pub mod Bytes
 pub mod Flat
 pub mod Words
+pub mod Faults

@@ -1,9 +1,11 @@
 //! The instructions of a module, in one list of words.
 
-ghost use Rattle.std.specs.Prelude.{◌≡◌, ℕ, ◌+◌, ◌*◌, ◌%◌, ◌^◌, ◌<◌, ◌≤◌, [], ◌∷◌, ◌++◌, length, take, drop, slice_get, slice_index, Some, All, OnOk, OnErr, IsSomeAnd};
-ghost use Rattle.std.specs.List.{flat_map};
+ghost use Rattle.std.specs.Prelude.{◌≡◌, ℕ, ◌+◌, ◌*◌, ◌%◌, ◌^◌, ◌<◌, ◌≤◌, [], ◌∷◌, ◌++◌, length, take, drop, slice_get, slice_index, Some, All, OnOk, OnErr, IfOk, IfErr, IsSomeAnd};
+ghost use Rattle.std.specs.List.{flat_map, AllByRecursion};
 ghost use Rattle.gsl_words.specs.Flat.{parts, kept_words, end_of, IsFlat};
 
+use crate::decoding::starts_of;
+use crate::fault::WordFault;
 use crate::module::{Args, Instr};
 use gsl_base::Memory;
 use gsl_instr::push_string;
@@ -35,7 +37,8 @@ impl Model for Instrs {
 impl Instrs {
     ghost use Rattle.gsl_words.specs.declared.module.Instr.{Instr};
     ghost use Rattle.gsl_words.specs.Bytes.{instr_words};
-    ghost use Rattle.gsl_words.specs.Instructions.{word_count};
+    ghost use Rattle.gsl_words.specs.Instructions.{word_count, IsInTable};
+    ghost use Rattle.gsl_words.specs.Faults.{Ends};
     ghost use Rattle.gsl_instr.specs.Strings.{string_words};
 
     /// No instructions, which takes no memory.
@@ -47,6 +50,20 @@ impl Instrs {
             words: Vec::new(alloc),
             starts: Vec::new(alloc),
         }
+    }
+
+    /// The instructions that the words behind a header are, or what is wrong with them.
+    pub(crate) fn read(alloc: Global, words: Vec<u32>) -> Result<Instrs, WordFault>
+        requires { length words.items < 2 ^ 30 }
+        ensures ok { IfOk result (λ code. All IsInTable code × (words.items ≡ flat_map instr_words code) × AllByRecursion (λ instr. instr.op < 2 ^ 16) code) }
+        ensures fault { IfErr result (Ends words.items) }
+    {
+        let starts = starts_of(alloc, words.as_slice())?;
+        Ok(Instrs {
+            alloc,
+            words,
+            starts: starts.into_vec(),
+        })
     }
 
     /// How many instructions there are.

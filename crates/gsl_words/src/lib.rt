@@ -5,12 +5,16 @@
 //! bytes; `decode` reads a file or answers that.
 #![tactic(auto)]
 
+mod decoding;
 mod encoding;
+mod fault;
 mod instrs;
 mod module;
 mod target;
 
+pub use decoding::decode;
 pub use encoding::{MAGIC, encode};
+pub use fault::WordFault;
 pub use instrs::Instrs;
 pub use module::{Args, Instr, Module};
 pub use target::{Target, VERSION_1_0, VERSION_1_3};
