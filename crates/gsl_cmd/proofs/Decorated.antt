@@ -4,7 +4,7 @@ use Rattle.std.specs.List.{list_any, range_with_len}
 use Rattle.std.specs.Option.{option_map_or}
 use Rattle.std.proofs.lemmas.Bool.{and_left, and_right, or_from, or_parts, cases_order, eq-eqb, ne_eqb, not-true, not_from_false}
 use Rattle.gsl_words.specs.declared.module.Instr.{Instr}
-use Rattle.gsl_words.specs.declared.enumerant.decoration.TheConstants as decoration
+use Rattle.gsl_instr.specs.declared.enumerant.decoration.TheConstants as decoration
 use Rattle.gsl_valid.specs.Instruction.{read}
 use Rattle.gsl_valid.specs.Search.{Test, Passes}
 use Rattle.gsl_valid.specs.Decorations.{Place, On, OnMember, Decoration, decoration_of, stands_on, literals_on, literals_if}

@@ -1,5 +1,5 @@
 -- The module of a program has a file.
-use Rattle.std.proofs.Common.{◌≡◌, ◌≢◌, ℕ, zero, suc, ◌+◌, ◌<◌, ◌≤◌, ◌^◌, Bool, true, ◌&&◌, ltb, IsTrue, List, [], ◌∷◌, ◌++◌, length, get_or, map, Some, refl, arith}
+use Rattle.std.proofs.Common.{◌≡◌, ◌≢◌, ℕ, zero, suc, ◌+◌, ◌-◌, ◌<◌, ◌≤◌, ◌^◌, Bool, true, false, ◌&&◌, ltb, IsTrue, List, [], ◌∷◌, ◌++◌, length, get_or, map, Some, refl, sym, append-nil, arith}
 use Rattle.std.specs.Prelude.{codes, All}
 use Rattle.std.specs.List.{range_with_len, list_all, AllByRecursion}
 use Rattle.std.specs.Str.{all_ascii_digits}
@@ -8,13 +8,15 @@ use Rattle.std.proofs.Math.ListN.{replicate, length-replicate}
 use Rattle.std.proofs.lemmas.Bool.{and_parts, and_from, le-leb, leb-true, lt-ltb, ltb-true}
 use Rattle.std.proofs.lemmas.Str.{IsUtf8-from_ascii}
 use Rattle.std.proofs.lemmas.List.Elements.{All-nil, All-cons, All-from_recursion}
-use Rattle.gsl_words.specs.declared.table.Count.{Count}
-use Rattle.gsl_words.specs.declared.table.Count.TheVariants.{Exactly, Either, Between, AtLeast}
-use Rattle.gsl_words.specs.declared.table.Operands.TheVariants.{Numbers}
-use Rattle.gsl_words.specs.declared.op.TheConstants as op
+use Rattle.gsl_instr.specs.declared.form.Form.{Form}
+use Rattle.gsl_instr.specs.declared.form.Form.TheVariants as form
+use Rattle.gsl_instr.specs.Forms.{has_text, allows_words}
+use Rattle.gsl_instr.proofs.Fittings.{looked_up, form_found, words_fit}
+use Rattle.gsl_instr.specs.declared.op.TheConstants as op
 use Rattle.gsl_words.specs.declared.module.Instr.{Instr}
-use Rattle.gsl_words.specs.Instructions.{row_of, allows, IsInTable, HasFile, word_count}
-use Rattle.gsl_words.specs.Strings.{string_words, IsText}
+use Rattle.gsl_words.specs.declared.target.Target.TheVariants.{V10}
+use Rattle.gsl_words.specs.Instructions.{IsInTable, HasFile, word_count}
+use Rattle.gsl_instr.specs.Strings.{string_words, IsText}
 use Rattle.gsl_cmd.specs.declared.program.Term.{Term}
 use Rattle.gsl_cmd.specs.declared.program.Term.TheVariants.{Member, Literal}
 use Rattle.gsl_cmd.specs.declared.program.Statement.{Statement}
@@ -36,9 +38,8 @@ range_fits f first zero each = tt
 range_fits f first (suc count) each =
     (each first (omega arith) (omega arith), range_fits f (first + 1) count (λ i low high. each i (omega arith) (omega arith)))
 
-numbers : (i : Instr) (count : Count) → row_of i.op ≡ Some (record { op = i.op; count = count; operands = Numbers }) →
-    allows count (word_count i) ≡ true → ltb (word_count i) (2 ^ 16) ≡ true → IsInTable i
-numbers i count found counted short = record { row = _; found = found; counted = counted; short = ltb-true _ _ short; texts = tt }
+numbers : (i : Instr) (form : Form) → looked_up i.op ≡ Some form → has_text form ≡ false → allows_words form (length i.args) ≡ true → ltb (word_count i) (2 ^ 16) ≡ true → IsInTable i
+numbers i form found plain counted short = words_fit i.op form i.args found plain counted (ltb-true _ _ short)
 
 -- Texts -----------------------------------------------------------------------------------------------------
 
@@ -101,75 +102,90 @@ member_name i name block good =
     let some = words_some name in
     let few = words_few name in
     record {
-      row = _;
-      found = refl;
-      counted = le-leb _ _ (omega arith);
+      form = form.MemberName;
+      found = form_found op.MEMBER_NAME form.MemberName refl;
+      more = [];
+      fixed = (block, i ∷ string_words name, refl, (i, string_words name, refl, (name, [], plain_text name plainly.0, sym (append-nil (string_words name)), refl)));
+      follow = refl;
       short = omega (arith, plainly.1);
-      texts = (name, plain_text name plainly.0, refl);
     }
 
 names_fit : (members : List Name) → AllByRecursion (λ name. IsTrue (is_name name)) members → AllFit (name_code members)
 names_fit members all = (
-  record { row = _; found = refl; counted = refl; short = omega arith; texts = (codes "B", plain_text (codes "B") refl, refl) },
+  record {
+    form = form.Name;
+    found = form_found op.NAME form.Name refl;
+    more = [];
+    fixed = (id.BLOCK, string_words (codes "B"), refl, (codes "B", [], plain_text (codes "B") refl, refl, refl));
+    follow = refl;
+    short = omega arith;
+  },
   range_fits _ 0 (length members)
       (λ i low high. member_name i (name_of members i) id.BLOCK (all_at (λ name. IsTrue (is_name name)) members i [] all (omega arith))),
 )
 
 preamble_fits : AllFit preamble
 preamble_fits = (
-  numbers _ (Exactly 2) refl refl refl,
+  numbers _ form.Capability refl refl refl refl,
   (
-    numbers _ (Exactly 3) refl refl refl,
+    numbers _ form.MemoryModel refl refl refl refl,
     (
-      record { row = _; found = refl; counted = refl; short = omega arith; texts = (codes "main", [], plain_text (codes "main") refl, refl) },
-      (numbers _ (Either 3 6) refl refl refl, tt),
+      record {
+        form = form.EntryPoint;
+        found = form_found op.ENTRY_POINT form.EntryPoint refl;
+        more = [];
+        fixed = (_, _, refl, (_, _, refl, (codes "main", [], plain_text (codes "main") refl, refl, refl)));
+        follow = refl;
+        short = omega arith;
+      },
+      (numbers _ form.ExecutionMode refl refl refl refl, tt),
     ),
   ),
 )
 
 decorations_fit : (members : ℕ) → AllFit (decoration_code members)
 decorations_fit members = (
-  numbers _ (Between 3 4) refl refl refl,
-  appended _ _ (range_fits _ 0 members (λ i low high. numbers _ (Between 4 5) refl refl refl))
-      (numbers _ (Between 3 4) refl refl refl, (numbers _ (Between 3 4) refl refl refl, tt)),
+  numbers _ form.Decorate refl refl refl refl,
+  appended _ _ (range_fits _ 0 members (λ i low high. numbers _ form.MemberDecorate refl refl refl refl))
+      (numbers _ form.Decorate refl refl refl refl, (numbers _ form.Decorate refl refl refl refl, tt)),
 )
 
 struct_fits : (members block int : ℕ) → 1 ≤ members → members ≤ 64 → IsInTable (instr op.TYPE_STRUCT (block ∷ replicate members int))
 struct_fits members block int some few =
     let count : length (replicate members int) ≡ members = length-replicate members int in
-    record { row = _; found = refl; counted = le-leb _ _ (omega arith); short = omega arith; texts = tt }
+    words_fit op.TYPE_STRUCT form.TypeStruct (block ∷ replicate members int) refl refl (and_from _ _ (le-leb 1 (suc (length (replicate members int))) (omega arith)) (le-leb 1 (suc (length (replicate members int)) - 1) (omega arith))) (omega arith)
 
 types_fit : (members : ℕ) → 1 ≤ members → members ≤ 64 → AllFit (type_code members)
 types_fit members some few = (
-  numbers _ (Exactly 2) refl refl refl,
+  numbers _ form.TypeVoid refl refl refl refl,
   (
-    numbers _ (AtLeast 3) refl refl refl,
+    numbers _ form.TypeFunction refl refl refl refl,
     (
-      numbers _ (Exactly 4) refl refl refl,
+      numbers _ form.TypeInt refl refl refl refl,
       (
         struct_fits members _ _ some few,
-        (numbers _ (Exactly 4) refl refl refl, (numbers _ (Exactly 4) refl refl refl, tt)),
+        (numbers _ form.TypePointer refl refl refl refl, (numbers _ form.TypePointer refl refl refl refl, tt)),
       ),
     ),
   ),
 )
 
 variable_fits : AllFit variable_code
-variable_fits = (numbers _ (Between 4 5) refl refl refl, tt)
+variable_fits = (numbers _ form.Variable refl refl refl refl, tt)
 
 module _ (constants : List ℕ) where
   constants_fit : AllFit (constant_code constants)
-  constants_fit = range_fits _ 0 (length constants) (λ i low high. numbers _ (Exactly 4) refl refl refl)
+  constants_fit = range_fits _ 0 (length constants) (λ i low high. numbers _ form.Constant refl refl refl refl)
 
   term_fits : (next : ℕ) (term : Term) (follows : Code) → AllFit follows → AllFit (term_code constants next term follows)
-  term_fits next (Member i) follows fit = (numbers _ (AtLeast 5) refl refl refl, (numbers _ (Exactly 4) refl refl refl, fit))
+  term_fits next (Member i) follows fit = (numbers _ form.AccessChain refl refl refl refl, (numbers _ form.Load refl refl refl refl, fit))
   term_fits next (Literal n) follows fit = fit
 
   more_fits : (next value : ℕ) (terms : List Term) (follows : Code) → AllFit follows → AllFit (more_code constants next value terms follows)
   more_fits next value [] follows fit = fit
   more_fits next value (term ∷ terms) follows fit =
       let sum = next + term_ids constants term in
-      term_fits next term _ (numbers _ (Exactly 5) refl refl refl, more_fits (sum + 1) sum terms follows fit)
+      term_fits next term _ (numbers _ form.Arithmetic refl refl refl refl, more_fits (sum + 1) sum terms follows fit)
 
   sum_fits : (next : ℕ) (terms : List Term) (follows : Code) → AllFit follows → AllFit (sum_code constants next terms follows)
   sum_fits next [] follows fit = fit
@@ -178,14 +194,14 @@ module _ (constants : List ℕ) where
   statements_fit : (next : ℕ) (statements : List Statement) (follows : Code) → AllFit follows → AllFit (statements_code constants next statements follows)
   statements_fit next [] follows fit = fit
   statements_fit next (s ∷ statements) follows fit =
-      sum_fits next s.terms _ (numbers _ (AtLeast 5) refl refl refl, (numbers _ (Exactly 3) refl refl refl, statements_fit (next + statement_ids constants s) statements follows fit))
+      sum_fits next s.terms _ (numbers _ form.AccessChain refl refl refl refl, (numbers _ form.Store refl refl refl refl, statements_fit (next + statement_ids constants s) statements follows fit))
 
   function_fits : (statements : List Statement) → AllFit (function_code constants statements)
   function_fits statements = (
-    numbers _ (Exactly 5) refl refl refl,
+    numbers _ form.Function refl refl refl refl,
     (
-      numbers _ (Exactly 2) refl refl refl,
-      statements_fit _ statements _ (numbers _ (Exactly 1) refl refl refl, (numbers _ (Exactly 1) refl refl refl, tt)),
+      numbers _ form.Label refl refl refl refl,
+      statements_fit _ statements _ (numbers _ form.Return refl refl refl refl, (numbers _ form.FunctionEnd refl refl refl refl, tt)),
     ),
   )
 
@@ -211,4 +227,4 @@ code_fits p fits =
 
 -- Each program's module has a file.
 pub module_has_file : (p : Program) → IsProgram p → HasFile (module_of p)
-module_has_file p fits = record { version = refl; instrs = All-from_recursion IsInTable (code_of p) (code_fits p fits) }
+module_has_file p fits = record { version = (V10, refl); instrs = All-from_recursion IsInTable (code_of p) (code_fits p fits) }

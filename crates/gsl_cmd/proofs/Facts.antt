@@ -1,7 +1,7 @@
 -- What the ids of a program's module stand for.
 use Rattle.std.proofs.Common.{◌≡◌, ℕ, true, [], length, refl, ap, ◌∙◌, inl, inr, arith}
 use Rattle.std.specs.Prelude.{replicate}
-use Rattle.gsl_words.specs.declared.enumerant.storage_class.TheConstants as storage_class
+use Rattle.gsl_instr.specs.declared.enumerant.storage_class.TheConstants as storage_class
 use Rattle.gsl_valid.specs.Instruction.{TypeVoid, TypeInt, TypeStruct, TypePointer, TypeFunction, Constant, Variable, Function}
 use Rattle.gsl_valid.specs.Ids.{definition}
 use Rattle.gsl_valid.proofs.Lookups.{Has}

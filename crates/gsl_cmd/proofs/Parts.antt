@@ -6,9 +6,9 @@ use Rattle.std.proofs.lemmas.Bool.{or_from, or_parts, cases_order}
 use Rattle.std.proofs.Common.{◌*◌}
 use Rattle.std.specs.Prelude.{codes}
 use Rattle.gsl_words.specs.declared.module.Instr.{Instr}
-use Rattle.gsl_words.specs.declared.op.TheConstants as op
-use Rattle.gsl_words.specs.declared.enumerant.decoration.TheConstants as decoration
-use Rattle.gsl_words.specs.Strings.{string_words}
+use Rattle.gsl_instr.specs.declared.op.TheConstants as op
+use Rattle.gsl_instr.specs.declared.enumerant.decoration.TheConstants as decoration
+use Rattle.gsl_instr.specs.Strings.{string_words}
 use Rattle.gsl_valid.specs.Search.{Test, passed, Passes}
 use Rattle.gsl_valid.proofs.Searching.{passes_append}
 use Rattle.gsl_valid.proofs.Lookups.{Has, has_left, has_right}

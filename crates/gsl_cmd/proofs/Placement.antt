@@ -3,12 +3,12 @@ use Rattle.std.proofs.Common.{◌≡◌, ℕ, suc, ◌+◌, ◌*◌, Bool, not, 
 use Rattle.std.specs.Prelude.{codes}
 use Rattle.std.specs.List.{range_with_len}
 use Rattle.std.proofs.lemmas.Bool.{cond-false, not-true}
-use Rattle.gsl_words.specs.declared.op.TheConstants as op
-use Rattle.gsl_words.specs.declared.enumerant.execution_model.TheConstants as execution_model
-use Rattle.gsl_words.specs.declared.enumerant.execution_mode.TheConstants as execution_mode
-use Rattle.gsl_words.specs.declared.enumerant.storage_class.TheConstants as storage_class
-use Rattle.gsl_words.specs.declared.enumerant.decoration.TheConstants as decoration
-use Rattle.gsl_words.specs.Strings.{string_words}
+use Rattle.gsl_instr.specs.declared.op.TheConstants as op
+use Rattle.gsl_instr.specs.declared.enumerant.execution_model.TheConstants as execution_model
+use Rattle.gsl_instr.specs.declared.enumerant.execution_mode.TheConstants as execution_mode
+use Rattle.gsl_instr.specs.declared.enumerant.storage_class.TheConstants as storage_class
+use Rattle.gsl_instr.specs.declared.enumerant.decoration.TheConstants as decoration
+use Rattle.gsl_instr.specs.Strings.{string_words}
 use Rattle.gsl_valid.specs.Instruction.{Instruction, EntryPoint, ExecutionMode, Name, MemberName, MemberDecorate, Variable, read}
 use Rattle.gsl_valid.specs.Search.{Test, Passes}
 use Rattle.gsl_valid.specs.Decorations.{number_in}

@@ -3,12 +3,12 @@ use Rattle.std.proofs.Common.{ℕ, ◌<◌, IsTrue, List, [], ◌∷◌, ◌++�
 use Rattle.std.specs.Prelude.{codes, replicate}
 use Rattle.std.specs.List.{range_with_len}
 use Rattle.gsl_words.specs.declared.module.Instr.{Instr}
-use Rattle.gsl_words.specs.declared.op.TheConstants as op
-use Rattle.gsl_words.specs.declared.enumerant.decoration.TheConstants as decoration
-use Rattle.gsl_words.specs.declared.enumerant.execution_model.TheConstants as execution_model
-use Rattle.gsl_words.specs.declared.enumerant.execution_mode.TheConstants as execution_mode
-use Rattle.gsl_words.specs.declared.enumerant.storage_class.TheConstants as storage_class
-use Rattle.gsl_words.specs.Strings.{string_words}
+use Rattle.gsl_instr.specs.declared.op.TheConstants as op
+use Rattle.gsl_instr.specs.declared.enumerant.decoration.TheConstants as decoration
+use Rattle.gsl_instr.specs.declared.enumerant.execution_model.TheConstants as execution_model
+use Rattle.gsl_instr.specs.declared.enumerant.execution_mode.TheConstants as execution_mode
+use Rattle.gsl_instr.specs.declared.enumerant.storage_class.TheConstants as storage_class
+use Rattle.gsl_instr.specs.Strings.{string_words}
 use Rattle.gsl_valid.specs.Search.{Test, passed, Passes}
 use Rattle.gsl_valid.proofs.Searching.{passed_append, passes_append, passes_range}
 use Rattle.gsl_cmd.specs.declared.program.Program.{Program}

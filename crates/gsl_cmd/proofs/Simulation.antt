@@ -7,8 +7,8 @@ use Rattle.std.proofs.lemmas.List.{length-replicate, get_or-replicate}
 use Rattle.gsl_base.specs.declared.input.Buffer.{Buffer}
 use Rattle.gsl_base.specs.declared.input.Input.{Input}
 use Rattle.gsl_words.specs.declared.module.Module.{Module}
-use Rattle.gsl_words.specs.declared.op.TheConstants as op
-use Rattle.gsl_words.specs.declared.enumerant.decoration.TheConstants as decoration
+use Rattle.gsl_instr.specs.declared.op.TheConstants as op
+use Rattle.gsl_instr.specs.declared.enumerant.decoration.TheConstants as decoration
 use Rattle.gsl_cmd.specs.declared.program.Term.{Term}
 use Rattle.gsl_cmd.specs.declared.program.Term.TheVariants.{Member, Literal}
 use Rattle.gsl_cmd.specs.declared.program.Statement.{Statement}

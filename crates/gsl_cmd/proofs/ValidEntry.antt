@@ -3,8 +3,8 @@ use Rattle.std.proofs.Common.{◌≡◌, ℕ, true, not, [], ◌∷◌, length, 
 use Rattle.std.specs.Prelude.{filter_map, is_some}
 use Rattle.std.proofs.lemmas.Bool.{and_from}
 use Rattle.gsl_words.specs.declared.module.Instr.{Instr}
-use Rattle.gsl_words.specs.declared.enumerant.execution_model.TheConstants as execution_model
-use Rattle.gsl_words.specs.declared.enumerant.execution_mode.TheConstants as execution_mode
+use Rattle.gsl_instr.specs.declared.enumerant.execution_model.TheConstants as execution_model
+use Rattle.gsl_instr.specs.declared.enumerant.execution_mode.TheConstants as execution_mode
 use Rattle.gsl_valid.specs.Instruction.{read}
 use Rattle.gsl_valid.specs.Search.{Test, Passes}
 use Rattle.gsl_valid.specs.Ids.{definition}

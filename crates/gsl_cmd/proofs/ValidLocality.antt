@@ -2,9 +2,9 @@
 use Rattle.std.proofs.Common.{◌≡◌, ℕ, Bool, true, ◌&&◌, eqb, [], ◌∷◌, length, refl, ap, ◌⊎◌, inl, inr, arith}
 use Rattle.std.specs.List.{list_all}
 use Rattle.std.proofs.lemmas.Bool.{and_from, or_left, or_right, cond_both, eq-eqb}
-use Rattle.gsl_words.specs.declared.op.TheConstants as op
-use Rattle.gsl_words.specs.declared.enumerant.capability.TheConstants as capability
-use Rattle.gsl_words.specs.declared.enumerant.memory_model.TheConstants as memory_model
+use Rattle.gsl_instr.specs.declared.op.TheConstants as op
+use Rattle.gsl_instr.specs.declared.enumerant.capability.TheConstants as capability
+use Rattle.gsl_instr.specs.declared.enumerant.memory_model.TheConstants as memory_model
 use Rattle.gsl_valid.specs.Search.{passed, Passes}
 use Rattle.gsl_valid.specs.Ids.{defined, definition}
 use Rattle.gsl_valid.specs.LocalityRules.{uses_near, is_near, near_as, of_block, back_to, bounds_block, bounds_function}

@@ -2,7 +2,7 @@
 use Rattle.std.proofs.Common.{◌≡◌, ℕ, ◌+◌, Bool, true, false, not, eqb, [], ◌∷◌, ◌++◌, length, append-nil, map, None, refl, ap, subst, ◌∙◌, arith}
 use Rattle.std.specs.List.{range_with_len}
 use Rattle.std.proofs.lemmas.Bool.{and_from, or_left, cond-true}
-use Rattle.gsl_words.specs.declared.enumerant.storage_class.TheConstants as storage_class
+use Rattle.gsl_instr.specs.declared.enumerant.storage_class.TheConstants as storage_class
 use Rattle.gsl_words.specs.Instructions.{word_count}
 use Rattle.gsl_valid.specs.Instruction.{Instruction, Function, Label, FunctionEnd, read}
 use Rattle.gsl_valid.specs.Placed.{placed_from, header_size, count_of_words}

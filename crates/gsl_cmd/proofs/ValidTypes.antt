@@ -3,7 +3,7 @@ use Rattle.std.proofs.Common.{◌≡◌, ℕ, zero, suc, ◌+◌, ◌≤◌, tru
 use Rattle.std.specs.Prelude.{replicate, fold, max}
 use Rattle.std.proofs.Math.ListN.{length-replicate}
 use Rattle.std.proofs.lemmas.Bool.{and_from, or_right, not_from_false, le-leb}
-use Rattle.gsl_words.specs.declared.enumerant.storage_class.TheConstants as storage_class
+use Rattle.gsl_instr.specs.declared.enumerant.storage_class.TheConstants as storage_class
 use Rattle.gsl_valid.specs.Search.{Passes}
 use Rattle.gsl_valid.specs.Types.{void_type, int_type, struct_type, value_type, target_of, is_value_type, highest, height}
 use Rattle.gsl_valid.specs.TypeRules.{type_made, same_type}

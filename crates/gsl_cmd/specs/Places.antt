@@ -1,11 +1,11 @@
 -- Where a module puts what a program declares: its stage, its buffer with the members' offsets, and its names.
 use Rattle.std.specs.Prelude.{◌≡◌, ℕ, ◌+◌, Bool, true, false, List, [], ◌∷◌, length, map, filter, replicate, codes, Some}
 use Rattle.gsl_words.specs.declared.module.Module.{Module}
-use Rattle.gsl_words.specs.declared.enumerant.execution_model.TheConstants as execution_model
-use Rattle.gsl_words.specs.declared.enumerant.execution_mode.TheConstants as execution_mode
-use Rattle.gsl_words.specs.declared.enumerant.storage_class.TheConstants as storage_class
-use Rattle.gsl_words.specs.declared.enumerant.decoration.TheConstants as decoration
-use Rattle.gsl_words.specs.Strings.{string_words}
+use Rattle.gsl_instr.specs.declared.enumerant.execution_model.TheConstants as execution_model
+use Rattle.gsl_instr.specs.declared.enumerant.execution_mode.TheConstants as execution_mode
+use Rattle.gsl_instr.specs.declared.enumerant.storage_class.TheConstants as storage_class
+use Rattle.gsl_instr.specs.declared.enumerant.decoration.TheConstants as decoration
+use Rattle.gsl_instr.specs.Strings.{string_words}
 use Rattle.gsl_valid.specs.Instruction.{Instruction, EntryPoint, ExecutionMode, Name, MemberName, MemberDecorate, TypeInt, TypeStruct, TypePointer, Variable, read}
 use Rattle.gsl_valid.specs.Placed.{Code}
 use Rattle.gsl_valid.specs.Types.{defined_as}

@@ -1,6 +1,6 @@
 -- What the instructions before a module's functions say of its ids (SPIR-V 1.0, 2.4).
 use Rattle.std.specs.Prelude.{ℕ, Bool, true, false, ◌==◌, ◌&&◌, if◌then◌else◌, List, [], ◌∷◌, drop, slice_index, is_some, Option, Some, None, option_map}
-use Rattle.gsl_words.specs.declared.op.TheConstants as op
+use Rattle.gsl_instr.specs.declared.op.TheConstants as op
 use Rattle.gsl_cmd.specs.Lowering.{Code}
 
 -- whether the operand at a place is this word

@@ -1,5 +1,5 @@
 ghost use Rattle.std.specs.Prelude.{◌≡◌, ◌+◌, ◌^◌, ◌<◌, [], ◌∷◌, ◌++◌, OnOk};
-ghost use Rattle.gsl_words.specs.Strings.{string_words};
+ghost use Rattle.gsl_instr.specs.Strings.{string_words};
 
 use gsl_base::Memory;
 use gsl_words::Instrs;

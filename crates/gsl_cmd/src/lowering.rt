@@ -3,7 +3,7 @@
 ghost use Rattle.std.specs.Prelude.{◌≡◌, ◌+◌, ◌*◌, ◌^◌, ◌<◌, ◌≤◌, ◌++◌, [], ◌∷◌, ◌==◌, List, length, fold, replicate, All, OnOk, IfOk};
 ghost use Rattle.std.specs.List.{position};
 ghost use Rattle.gsl_words.specs.declared.module.Instr.{Instr};
-ghost use Rattle.gsl_words.specs.declared.op.TheConstants as op;
+ghost use Rattle.gsl_instr.specs.declared.op.TheConstants as op;
 ghost use Rattle.gsl_cmd.specs.declared.lowering.id.TheConstants as id;
 ghost use Rattle.gsl_cmd.specs.Form.{IsProgram};
 ghost use Rattle.gsl_cmd.specs.Lowering as spec;
@@ -11,10 +11,11 @@ ghost use Rattle.gsl_cmd.specs.Lowering as spec;
 use crate::code::Code;
 use crate::program::{Names, Program, Statement, Term};
 use gsl_base::{List, Memory};
-use gsl_words::enumerant::{
+use gsl_instr::enumerant::{
     capability, decoration, execution_mode, execution_model, memory_model, storage_class,
 };
-use gsl_words::{Module, VERSION_1_0, op};
+use gsl_instr::op;
+use gsl_words::{Module, VERSION_1_0};
 use std::alloc::Global;
 
 /// The ids that every module has.

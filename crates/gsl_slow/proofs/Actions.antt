@@ -7,7 +7,7 @@ use Rattle.gsl_base.specs.declared.input.Located.{Located}
 use Rattle.gsl_base.specs.declared.input.Output.{Output}
 use Rattle.gsl_words.specs.declared.module.Module.{Module}
 use Rattle.gsl_slow.specs.declared.machine.Entry.{Entry}
-use Rattle.gsl_words.specs.declared.enumerant.decoration.TheConstants as decoration
+use Rattle.gsl_instr.specs.declared.enumerant.decoration.TheConstants as decoration
 use Rattle.gsl_cmd.specs.Lowering.{Code}
 use Rattle.gsl_words.specs.Words.{word_at, put_word}
 use Rattle.gsl_cmd.specs.Buffers.{is_at, bytes_at, with_bytes}

@@ -3,7 +3,7 @@ use Rattle.std.proofs.Common.{◌≡◌, ◌≢◌, ℕ, zero, suc, ◌+◌, Lis
 use Rattle.std.specs.Prelude.{slice_get, IsSomeAnd}
 use Rattle.gsl_cmd.specs.Lowering.{Code, instr}
 use Rattle.gsl_words.specs.declared.module.Module.{Module}
-use Rattle.gsl_words.specs.declared.op.TheConstants as op
+use Rattle.gsl_instr.specs.declared.op.TheConstants as op
 use Rattle.gsl_cmd.specs.Sections.{operands}
 use Rattle.gsl_cmd.specs.Machine.{State, words_of, from_label, in_function, step_on, act, place_of, action_of}
 

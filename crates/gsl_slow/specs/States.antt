@@ -1,7 +1,7 @@
 -- How the slow program of a module stands for the states of its run.
 use Rattle.std.specs.Prelude.{◌≡◌, ℕ, Bool, true, false, List, [], ◌∷◌, length, drop, Option, Some, None, option_and_then, position}
 use Rattle.gsl_base.specs.declared.input.Buffer.{Buffer}
-use Rattle.gsl_words.specs.declared.enumerant.decoration.TheConstants as decoration
+use Rattle.gsl_instr.specs.declared.enumerant.decoration.TheConstants as decoration
 use Rattle.gsl_slow.specs.declared.machine.SlowPointer.{SlowPointer}
 use Rattle.gsl_slow.specs.declared.machine.SlowValue.{SlowValue}
 use Rattle.gsl_slow.specs.declared.machine.SlowValue.TheVariants as value

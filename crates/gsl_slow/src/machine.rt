@@ -11,8 +11,9 @@ ghost use Rattle.gsl_cmd.specs.Machine as meaning;
 
 use crate::shader::{place_of, put_word, word_at, word_sum};
 use gsl_base::{Buffer, Bytes, Input, List, Memory, Output, Outs};
-use gsl_words::enumerant::decoration;
-use gsl_words::{Instrs, Module, op};
+use gsl_instr::enumerant::decoration;
+use gsl_instr::op;
+use gsl_words::{Instrs, Module};
 use std::alloc::Global;
 use std::mem;
 

@@ -4,12 +4,12 @@ use Rattle.std.specs.List.{list_any, list_all}
 use Rattle.std.specs.Str.{bytes_eq}
 use Rattle.gsl_words.specs.declared.module.Instr.{Instr}
 use Rattle.gsl_words.specs.declared.module.Module.{Module}
-use Rattle.gsl_words.specs.declared.enumerant.execution_model.TheConstants as execution_model
-use Rattle.gsl_words.specs.declared.enumerant.execution_mode.TheConstants as execution_mode
-use Rattle.gsl_words.specs.declared.enumerant.storage_class.TheConstants as storage_class
-use Rattle.gsl_words.specs.declared.enumerant.decoration.TheConstants as decoration
-use Rattle.gsl_words.specs.declared.enumerant.built_in.TheConstants as built_in
-use Rattle.gsl_words.specs.Strings.{string_words}
+use Rattle.gsl_instr.specs.declared.enumerant.execution_model.TheConstants as execution_model
+use Rattle.gsl_instr.specs.declared.enumerant.execution_mode.TheConstants as execution_mode
+use Rattle.gsl_instr.specs.declared.enumerant.storage_class.TheConstants as storage_class
+use Rattle.gsl_instr.specs.declared.enumerant.decoration.TheConstants as decoration
+use Rattle.gsl_instr.specs.declared.enumerant.built_in.TheConstants as built_in
+use Rattle.gsl_instr.specs.Strings.{string_words}
 use Rattle.gsl_valid.specs.Instruction.{Instruction, EntryPoint, ExecutionMode, Decorate, TypeFunction, Variable, Function, read}
 use Rattle.gsl_valid.specs.Placed.{Code}
 use Rattle.gsl_valid.specs.Search.{first_broken}

@@ -2,7 +2,7 @@
 use Rattle.std.specs.Prelude.{ℕ, Bool, true, false, ◌==◌, ◌&&◌, List, [], ◌∷◌, Option, Some, None}
 use Rattle.gsl_words.specs.declared.module.Instr.{Instr}
 use Rattle.gsl_words.specs.declared.module.Module.{Module}
-use Rattle.gsl_words.specs.declared.enumerant.storage_class.TheConstants as storage_class
+use Rattle.gsl_instr.specs.declared.enumerant.storage_class.TheConstants as storage_class
 use Rattle.gsl_valid.specs.Instruction.{Instruction, TypeFunction, Variable, Function, Label, AccessChain, Load, IAdd, Store, Return, FunctionEnd, read}
 use Rattle.gsl_valid.specs.Placed.{Code, count_of_words}
 use Rattle.gsl_valid.specs.Search.{first_broken, whole, unless, ◌otherwise◌}

@@ -2,7 +2,7 @@
 use Rattle.std.specs.Prelude.{ℕ, Bool, true, false, ◌==◌, ◌&&◌, ◌||◌, List, length, Option, Some, None, if◌then◌else◌}
 use Rattle.gsl_words.specs.declared.module.Instr.{Instr}
 use Rattle.gsl_words.specs.declared.module.Module.{Module}
-use Rattle.gsl_words.specs.declared.enumerant.storage_class.TheConstants as storage_class
+use Rattle.gsl_instr.specs.declared.enumerant.storage_class.TheConstants as storage_class
 use Rattle.gsl_valid.specs.Instruction.{Instruction, Variable, read}
 use Rattle.gsl_valid.specs.Placed.{Code}
 use Rattle.gsl_valid.specs.Search.{first_broken}

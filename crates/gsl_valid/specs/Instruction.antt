@@ -1,7 +1,7 @@
 -- An instruction by the roles of its operands (SPIR-V 1.0, 3.32).
 use Rattle.std.specs.Prelude.{ℕ, ◌^◌, ◌==◌, nat_lt, List, [], ◌∷◌, drop, find, Option, Some, None, slice_index, if◌then◌else◌}
 use Rattle.gsl_words.specs.declared.module.Instr.{Instr}
-use Rattle.gsl_words.specs.declared.op.TheConstants as op
+use Rattle.gsl_instr.specs.declared.op.TheConstants as op
 
 -- An instruction that the rules know. `result` is the id that it defines, and a text is its words.
 pub data Instruction : Type 0 where

@@ -3,13 +3,13 @@ use Rattle.std.specs.Prelude.{ℕ, ◌+◌, Bool, true, false, ◌==◌, ◌&&�
 use Rattle.std.specs.List.{list_any, list_all}
 use Rattle.gsl_words.specs.declared.module.Instr.{Instr}
 use Rattle.gsl_words.specs.declared.module.Module.{Module}
-use Rattle.gsl_words.specs.declared.enumerant.capability.TheConstants as capability
-use Rattle.gsl_words.specs.declared.enumerant.memory_model.TheConstants as memory_model
-use Rattle.gsl_words.specs.declared.enumerant.execution_model.TheConstants as execution_model
-use Rattle.gsl_words.specs.declared.enumerant.execution_mode.TheConstants as execution_mode
-use Rattle.gsl_words.specs.declared.enumerant.storage_class.TheConstants as storage_class
-use Rattle.gsl_words.specs.declared.enumerant.decoration.TheConstants as decoration
-use Rattle.gsl_words.specs.declared.enumerant.built_in.TheConstants as built_in
+use Rattle.gsl_instr.specs.declared.enumerant.capability.TheConstants as capability
+use Rattle.gsl_instr.specs.declared.enumerant.memory_model.TheConstants as memory_model
+use Rattle.gsl_instr.specs.declared.enumerant.execution_model.TheConstants as execution_model
+use Rattle.gsl_instr.specs.declared.enumerant.execution_mode.TheConstants as execution_mode
+use Rattle.gsl_instr.specs.declared.enumerant.storage_class.TheConstants as storage_class
+use Rattle.gsl_instr.specs.declared.enumerant.decoration.TheConstants as decoration
+use Rattle.gsl_instr.specs.declared.enumerant.built_in.TheConstants as built_in
 use Rattle.gsl_valid.specs.Instruction.{Instruction, Capability, MemoryModel, EntryPoint, ExecutionMode, Name, MemberName, Decorate, MemberDecorate, TypeVoid, TypeInt, TypeStruct, TypePointer, TypeFunction, Constant, Variable, Function, Unknown, read}
 use Rattle.gsl_valid.specs.Placed.{Code, count_of_words, bound_place}
 use Rattle.gsl_valid.specs.Types.{in_function}

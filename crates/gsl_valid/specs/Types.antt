@@ -1,7 +1,7 @@
 -- What the types, constants and variables of a module are, found by their ids.
 use Rattle.std.specs.Prelude.{ℕ, ◌+◌, Bool, true, false, ◌==◌, List, [], ◌∷◌, Option, Some, None, max, fold, map, if◌then◌else◌}
 use Rattle.gsl_words.specs.declared.module.Module.{Module}
-use Rattle.gsl_words.specs.declared.enumerant.storage_class.TheConstants as storage_class
+use Rattle.gsl_instr.specs.declared.enumerant.storage_class.TheConstants as storage_class
 use Rattle.gsl_valid.specs.Instruction.{Instruction, TypeVoid, TypeInt, TypeStruct, TypePointer, Constant, Variable, Function, AccessChain, Load, IAdd, FunctionEnd, read}
 use Rattle.gsl_valid.specs.Placed.{Code}
 use Rattle.gsl_valid.specs.Ids.{defines, definition}

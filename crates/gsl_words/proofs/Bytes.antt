@@ -1,7 +1,7 @@
 -- Words that are put into bytes.
 use Rattle.std.proofs.Common.{◌≡◌, ◌≢◌, ℕ, zero, suc, ◌+◌, ◌/◌, ◌%◌, ◌^◌, ◌<◌, ◌≤◌, ◌⊎◌, inl, inr, List, [], ◌∷◌, length, get_or, set, ap, sym, ◌∙◌, arith}
 use Rattle.std.proofs.lemmas.List.{length-set, get_or-set_same, get_or-set_other, set-set, set_comm, set-get_or}
-use Rattle.gsl_words.specs.Strings.{word_of}
+use Rattle.gsl_instr.specs.Strings.{word_of}
 use Rattle.std.specs.List.{AllByRecursion}
 use Rattle.gsl_words.specs.Words.{word_at, put_word}
 

@@ -1,2 +1,5 @@
 pub mod Kept
 pub mod Bytes
+pub mod Flattened
+pub mod Found
+pub mod Decoded

@@ -1,6 +1,6 @@
 -- Words of 32 bits in bytes, the least byte first.
 use Rattle.std.specs.Prelude.{ℕ, ◌+◌, ◌/◌, ◌%◌, List, set, slice_index}
-use Rattle.gsl_words.specs.Strings.{word_of}
+use Rattle.gsl_instr.specs.Strings.{word_of}
 
 -- the word of the four bytes from an offset on
 unfoldable pub word_at : List ℕ → ℕ → ℕ

@@ -1,10 +1,10 @@
-ghost use Rattle.std.specs.Prelude.{◌≡◌, ◌+◌, ◌*◌, ◌^◌, ◌<◌, ◌++◌, length, take, All, OnOk, OnErr};
+ghost use Rattle.std.specs.Prelude.{◌≡◌, ◌++◌, length, take, OnOk, OnErr};
 ghost use Rattle.std.specs.List.{flat_map};
 ghost use Rattle.std.specs.Int.{w32, to_le_bytes};
-ghost use Rattle.gsl_words.specs.Instructions.{HasFile, IsInTable};
-ghost use Rattle.gsl_words.specs.Bytes.{bytes_of, header_words, instr_words};
+ghost use Rattle.gsl_words.specs.Instructions.{HasFile};
+ghost use Rattle.gsl_words.specs.Bytes.{bytes_of};
 
-use crate::module::{Instr, Module};
+use crate::module::Module;
 use byteorder::{ByteOrder, LittleEndian};
 use gsl_base::{Bytes, Memory};
 
@@ -31,36 +31,7 @@ fn put_module(module: &Module, out: &mut Bytes) -> Result<(), Memory>
     ensures kept { take (length out.old) out.new ≡ out.old }
 {
     put_words(&[MAGIC, module.version, 0, module.bound, 0], out)?;
-    put_instrs(module.instrs.as_slice(), out)
-}
-
-fn put_instrs(instrs: &[Instr], out: &mut Bytes) -> Result<(), Memory>
-    requires { All IsInTable instrs.now }
-    ensures ok { OnOk result (out.new ≡ out.old ++ flat_map (to_le_bytes w32) (flat_map instr_words instrs.now)) }
-    ensures kept { take (length out.old) out.new ≡ out.old }
-{
-    for instr in instrs {
-        put_instr(instr, out)?;
-    }
-    Ok(())
-}
-
-fn put_instr(instr: &Instr, out: &mut Bytes) -> Result<(), Memory>
-    requires { IsInTable instr.now }
-    ensures ok { OnOk result (out.new ≡ out.old ++ flat_map (to_le_bytes w32) (instr_words instr.now)) }
-    ensures kept { take (length out.old) out.new ≡ out.old }
-{
-    let args = instr.args.as_slice();
-    put_words(&[first_word(instr.op, 1 + args.len())], out)?;
-    put_words(args, out)
-}
-
-/// The word that begins an instruction of so many words.
-fn first_word(op: u16, words: usize) -> u32
-    requires { words < 2 ^ 16 }
-    ensures { result ≡ words * 65536 + op }
-{
-    words as u32 * 65536 + u32::from(op)
+    put_words(module.instrs.words(), out)
 }
 
 fn put_words(words: &[u32], out: &mut Bytes) -> Result<(), Memory>

@@ -1,20 +1,23 @@
 //! SPIR-V modules as data, and the bytes of a module's file.
 //!
-//! `specs/Instructions.antt` says which instructions the table has room for, and `specs/Bytes.antt`
-//! which bytes a module is; `encode` carries both. The table itself is `TABLE`.
+//! `specs/Instructions.antt` says which modules have a file, over the table of `gsl_instr`, and
+//! `specs/Bytes.antt` which bytes it is; `encode` writes it. `specs/Faults.antt` says what is wrong with other
+//! bytes; `decode` reads a file or answers that.
 #![tactic(auto)]
 
+mod decoding;
 mod encoding;
-pub mod enumerant;
+mod fault;
+mod instrs;
 mod module;
-pub mod op;
-mod string;
-mod table;
+mod target;
 
+pub use decoding::decode;
 pub use encoding::{MAGIC, encode};
-pub use module::{Args, Instr, Instrs, Module, VERSION_1_0};
-pub use string::push_string;
-pub use table::{Count, Operands, Row, TABLE};
+pub use fault::WordFault;
+pub use instrs::Instrs;
+pub use module::{Args, Instr, Module};
+pub use target::{Target, VERSION_1_0, VERSION_1_3};
 
 #[cfg(test)]
 mod tests;

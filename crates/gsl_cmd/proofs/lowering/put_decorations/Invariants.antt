@@ -1,7 +1,7 @@
 use Rattle.std.proofs.Common.{◌≡◌, ◌*◌, ◌++◌, [], ◌∷◌, map}
 use Rattle.std.specs.List.{range_with_len}
-use Rattle.gsl_words.specs.declared.op.TheConstants as op
-use Rattle.gsl_words.specs.declared.enumerant.decoration.TheConstants as decoration
+use Rattle.gsl_instr.specs.declared.op.TheConstants as op
+use Rattle.gsl_instr.specs.declared.enumerant.decoration.TheConstants as decoration
 use Rattle.gsl_cmd.specs.declared.lowering.id.TheConstants as id
 use Rattle.gsl_cmd.specs.Lowering.{instr}
 use Rattle.gsl_cmd.proofs.lowering.put_decorations.Given as goal

@@ -1,6 +1,6 @@
 use Rattle.std.proofs.Common.{Some, ap, sym, ◌∙◌, drop, eq-eqb, ne_eqb}
 use Rattle.std.specs.Option.{option_map}
-use Rattle.gsl_words.specs.declared.op.TheConstants as op
+use Rattle.gsl_instr.specs.declared.op.TheConstants as op
 use Rattle.gsl_cmd.specs.Sections.{has_at}
 use Rattle.gsl_slow.proofs.Searches.{passed_op, passed_test, met}
 use Rattle.gsl_slow.proofs.machine.members.Goals as goal

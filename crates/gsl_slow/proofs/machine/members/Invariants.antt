@@ -1,5 +1,5 @@
 use Rattle.std.proofs.Common.{◌≡◌, drop}
-use Rattle.gsl_words.specs.declared.op.TheConstants as op
+use Rattle.gsl_instr.specs.declared.op.TheConstants as op
 use Rattle.gsl_cmd.specs.Sections.{has_at, operands}
 use Rattle.gsl_slow.proofs.machine.members.Given as goal
 

@@ -1,0 +1,5 @@
+pub mod Ends
+pub mod Utf8
+pub mod Texts
+pub mod Fittings
+pub mod Opcodes
