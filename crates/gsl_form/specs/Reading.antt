@@ -1,5 +1,5 @@
 -- Reading the program of a unit. What is of the form is said in `Trees`; this is how the code finds it.
-use Rattle.std.specs.Prelude.{ℕ, ◌+◌, Bool, true, false, ◌==◌, ◌&&◌, nat_le, List, [], ◌∷◌, ◌++◌, length, Option, Some, None, if◌then◌else◌, codes}
+use Rattle.std.specs.Prelude.{ℕ, ◌+◌, Bool, true, false, ◌==◌, ◌&&◌, nat_le, nat_lt, ◌^◌, List, [], ◌∷◌, ◌++◌, length, Option, Some, None, if◌then◌else◌, codes}
 use Rattle.std.specs.Option.{option_map}
 use Rattle.std.specs.Str.{bytes_eq}
 use Rattle.gsl_base.specs.declared.fault.Place.{Place}
@@ -70,13 +70,19 @@ behind found terms = option_map (λ t. terms ++ t ∷ []) found
 abbrev pub with_term : Option (List Term) → Option Term → Option (List Term)
 with_term terms found = terms >>= behind found
 
+abbrev pub is_add : BinaryOp → Bool
+is_add Add = true
+is_add _ = false
+
 abbrev pub added : BinaryOp → Parts → Parts → Parts
-added Add a b = record { term = None; sum = with_term a.sum b.term }
-added _ a b = neither
+added op a b = record { term = None; sum = if is_add op then with_term a.sum b.term else None }
+
+abbrev pub literal : ℕ → Option Term
+literal n = if nat_lt n (2 ^ 32) then Some (Literal n) else None
 
 abbrev pub by_parts : List Name → Expr-F (Unit {0}) Parts (Unit {0}) → Parts
 by_parts members (Expr-F.Name p name) = alone (option_map Member (number_of members name))
-by_parts members (Expr-F.Signed p n) = alone (Some (Literal n))
+by_parts members (Expr-F.Signed p n) = alone (literal n)
 by_parts members (Expr-F.Binary p op a b) = added op a b
 by_parts members _ = neither
 

@@ -66,23 +66,33 @@ pub data Each {A B : Type 0} (Of : A → B → Type 0) : List A → List B → T
 abbrev pub valued : Place → Place → Name → ℕ → Lay
 valued p q name n = lay.Value (named p name) (expr.Signed q n)
 
+-- `layout(local_size_x = 1) in;`
+abbrev pub local_size_at : Place → Place → Place → Place → Global
+local_size_at a b c d = global.Decl (decl.Quals (qual.Layout a (valued b c (codes "local_size_x") 1 ∷ []) ∷ qual.In d ∷ []))
+
+-- the layout names `set = 0, binding = 0, std430`
+abbrev pub binding_at : Place → Place → Place → Place → Place → List Lay
+binding_at a b c d e = valued a b (codes "set") 0 ∷ valued c d (codes "binding") 0 ∷ lay.Flag (named e (codes "std430")) ∷ []
+
+-- `layout(set = 0, binding = 0, std430) buffer B { MEMBER .. };`
+abbrev pub block_at : Place → List Lay → Place → Place → List Members → Global
+block_at a lays b c members = global.Decl (decl.Block (qual.Layout a lays ∷ qual.Buffer b ∷ []) (named c (codes "B")) members None)
+
+-- `void main() { STATEMENT .. }`
+abbrev pub main_at : Place → Place → Place → List Stmt → Global
+main_at a b c statements = global.Function (record {
+  quals = [];
+  ty = typed a basic.Void;
+  name = named b (codes "main");
+  params = params.Items [];
+  body = body.Block c statements;
+})
+
 -- The unit is a local size of 1, a block of members at set 0 and binding 0, and the function `main`.
 pub data IsUnitOf : List Global → Program → Type 0 where
   unit : {members : List Members} {statements : List Stmt} {p : Program} (a b c d e f g h i j k l m n o : Place)
       → Each IsMemberOf members p.members → Each (IsStatementOf p.members) statements p.statements
-      → IsUnitOf
-      (global.Decl (decl.Quals (qual.Layout a (valued b c (codes "local_size_x") 1 ∷ []) ∷ qual.In d ∷ []))
-      ∷ global.Decl (decl.Block
-      (qual.Layout e (valued f g (codes "set") 0 ∷ valued h i (codes "binding") 0 ∷ lay.Flag (named j (codes "std430")) ∷ []) ∷ qual.Buffer k ∷ [])
-      (named l (codes "B")) members None)
-      ∷ global.Function (record {
-        quals = [];
-        ty = typed m basic.Void;
-        name = named n (codes "main");
-        params = params.Items [];
-        body = body.Block o statements;
-      }) ∷ [])
-      p
+      → IsUnitOf (local_size_at a b c d ∷ block_at e (binding_at f g h i j) k l members ∷ main_at m n o statements ∷ []) p
 
 -- The unit spells the program.
 pub record Spells (unit : List Global) (p : Program) : Type 0 where

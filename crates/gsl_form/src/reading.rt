@@ -3,7 +3,7 @@
 ghost use Rattle.std.specs.Prelude.{◌≡◌, ◌≤◌, ◌<◌, [], ◌∷◌, codes, length, IfOk, IfSome, IfNone};
 ghost use Rattle.std.specs.Option.{option_map};
 ghost use Rattle.std.specs.List.{list_any};
-ghost use Rattle.std.specs.Str.{bytes_eq};
+ghost use Rattle.std.specs.Str.{bytes_eq, all_ascii_digits};
 ghost use Rattle.gsl_form.specs.declared.program.Program.{Program};
 ghost use Rattle.gsl_form.specs.Form.{differ as names_differ};
 ghost use Rattle.gsl_form.specs.Form.{is_name as has_form};
@@ -76,6 +76,15 @@ fn with_term(terms: Option<Terms>, term: Option<Term>) -> Result<Option<Terms>, 
     Ok(Some(terms))
 }
 
+fn is_add(op: BinaryOp) -> bool
+    ensures { result ≡ spec.is_add op }
+{
+    match op {
+        BinaryOp::Add => true,
+        _ => false,
+    }
+}
+
 /// The terms that an expression adds up, if it is a sum of terms.
 #[tactic(auto, using(crate::proofs::Steps::steps))]
 fn sum(alloc: Global, members: &Names, tree: &Expr) -> Result<Option<Terms>, Memory>
@@ -83,7 +92,10 @@ fn sum(alloc: Global, members: &Names, tree: &Expr) -> Result<Option<Terms>, Mem
     ensures { IfOk result (λ found. found ≡ (spec.parts_of members.now tree.now).sum) }
 {
     match tree {
-        Expr::Binary(_, BinaryOp::Add, a, b) => {
+        Expr::Binary(_, op, a, b) => {
+            if !is_add(*op) {
+                return Ok(None);
+            }
             let terms = sum(alloc, members, a.get())?;
             with_term(terms, term(members, b.get()))
         }
@@ -304,6 +316,16 @@ fn is_void(tree: &TypeSpec) -> bool
     }
 }
 
+/// Whether each byte is a decimal digit.
+fn are_digits(bytes: &[u8]) -> bool
+    ensures { result ≡ all_ascii_digits bytes.now }
+{
+    match bytes {
+        [] => true,
+        [byte, more @ ..] => byte.is_ascii_digit() && are_digits(more),
+    }
+}
+
 /// Whether a name is a letter from a to z and at most three digits.
 fn is_name(name: &[u8]) -> bool
     ensures { result ≡ has_form name.now }
@@ -311,9 +333,7 @@ fn is_name(name: &[u8]) -> bool
     match name {
         [] => false,
         [letter, digits @ ..] => {
-            letter.is_ascii_lowercase()
-                && digits.iter().all(|digit| digit.is_ascii_digit())
-                && digits.len() <= 3
+            letter.is_ascii_lowercase() && are_digits(digits) && digits.len() <= 3
         }
     }
 }
@@ -522,13 +542,20 @@ fn program(
     }
 }
 
-/// The program that a unit spells, or `None` where it is not of the form.
-pub fn read_program(alloc: Global, unit: &Unit) -> Result<Option<Program>, Memory>
-    ensures found { IfOk result (λ found. IfSome found (λ p. Spells unit.now p)) }
-    ensures none { IfOk result (λ found. IfNone found ((p : Program) → Spells unit.now p → ⊥)) }
+/// The program of a unit, if it has three parts of the form.
+fn program_of(alloc: Global, unit: &Unit) -> Result<Option<Program>, Memory>
+    ensures { IfOk result (λ found. found ≡ spec.program_of unit.now) }
 {
     match unit.as_slice() {
         [size, block_tree, main_tree] => program(alloc, size, block_tree, main_tree),
         _ => Ok(None),
     }
+}
+
+/// The program that a unit spells, or `None` where it is not of the form.
+pub fn read_program(alloc: Global, unit: &Unit) -> Result<Option<Program>, Memory>
+    ensures found { IfOk result (λ found. IfSome found (λ p. Spells unit.now p)) }
+    ensures none { IfOk result (λ found. IfNone found ((p : Program) → Spells unit.now p → ⊥)) }
+{
+    program_of(alloc, unit)
 }
