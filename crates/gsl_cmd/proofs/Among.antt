@@ -4,11 +4,11 @@ use Rattle.std.specs.List.{list_any, position_or_len, range_with_len, flat_map, 
 use Rattle.std.proofs.lemmas.Bool.{cases_Bool, eqb-true, eqb-false}
 use Rattle.std.proofs.lemmas.List.Folds.{list_any-append}
 use Rattle.std.proofs.lemmas.List.Sums.{passes_at_first}
-use Rattle.gsl_cmd.specs.declared.program.Term.{Term}
-use Rattle.gsl_cmd.specs.declared.program.Term.TheVariants.{Member, Literal}
-use Rattle.gsl_cmd.specs.declared.program.Statement.{Statement}
-use Rattle.gsl_cmd.specs.declared.program.Program.{Program}
-use Rattle.gsl_cmd.specs.Form.{IsTerm, IsStatement, IsProgram}
+use Rattle.gsl_form.specs.declared.program.Term.{Term}
+use Rattle.gsl_form.specs.declared.program.Term.TheVariants.{Member, Literal}
+use Rattle.gsl_form.specs.declared.program.Statement.{Statement}
+use Rattle.gsl_form.specs.declared.program.Program.{Program}
+use Rattle.gsl_form.specs.Form.{IsTerm, IsStatement, IsProgram}
 use Rattle.gsl_cmd.specs.Lowering.{literals_of, values_used, with_value, constants_of}
 use Rattle.gsl_cmd.proofs.Simulation.{IsAmong, IsReady, IsReadyStatement}
 
@@ -89,7 +89,7 @@ module _ (members : ℕ) (constants : List ℕ) (numbered : (i : ℕ) → i < me
   terms_ready [] fits among = tt
   terms_ready (Member i ∷ terms) fits among = ((fits.0, numbered i fits.0), terms_ready terms fits.1 among)
   terms_ready (Literal n ∷ terms) fits among =
-      let small : n < 2 ^ 31 = fits.0 in
+      let small : n < 2 ^ 32 = fits.0 in
       ((omega arith, among n (or_left _ _ (eq-eqb n n refl))), terms_ready terms fits.1 (λ value h. among value (or_right _ _ h)))
 
   statements_ready : (statements : List Statement) → AllByRecursion (IsStatement members) statements →

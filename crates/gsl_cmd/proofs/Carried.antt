@@ -8,9 +8,9 @@ use Rattle.gsl_base.specs.declared.input.Output.{Output}
 use Rattle.gsl_base.specs.declared.input.InputRefusal.TheVariants.{TooShort}
 use Rattle.gsl_words.specs.declared.module.Module.{Module}
 use Rattle.gsl_instr.specs.declared.op.TheConstants as op
-use Rattle.gsl_cmd.specs.declared.program.Program.{Program}
+use Rattle.gsl_form.specs.declared.program.Program.{Program}
 use Rattle.gsl_cmd.specs.declared.lowering.id.TheConstants as id
-use Rattle.gsl_cmd.specs.Form.{IsProgram}
+use Rattle.gsl_form.specs.Form.{IsProgram}
 use Rattle.gsl_cmd.specs.Fits.{fits}
 use Rattle.gsl_cmd.specs.Lowering.{Code, instr, constants_of, statements_code, first_id, module_of}
 use Rattle.gsl_cmd.specs.Buffers.{bytes_at, with_bytes, word_offset, seen}

@@ -8,9 +8,9 @@ use Rattle.gsl_instr.specs.declared.enumerant.decoration.TheConstants as decorat
 use Rattle.gsl_valid.specs.Instruction.{read}
 use Rattle.gsl_valid.specs.Search.{Test, Passes}
 use Rattle.gsl_valid.specs.Decorations.{Place, On, OnMember, Decoration, decoration_of, stands_on, literals_on, literals_if}
-use Rattle.gsl_cmd.specs.declared.program.Program.{Program}
+use Rattle.gsl_form.specs.declared.program.Program.{Program}
 use Rattle.gsl_cmd.specs.declared.lowering.id.TheConstants as id
-use Rattle.gsl_cmd.specs.Form.{IsProgram}
+use Rattle.gsl_form.specs.Form.{IsProgram}
 use Rattle.gsl_cmd.specs.Lowering.{Code, code_of, constants_of, decoration_code, name_code}
 use Rattle.gsl_cmd.proofs.Parts.{member_offset, before_names, before_decorations, before_constants, before_function, from_types, in_parts, passes_parts, none_in_names, none_in_range}
 use Rattle.gsl_cmd.proofs.Quiet.{block_decoration, set_decoration, binding_decoration, names_pass, decorations_pass, constants_pass, function_pass}

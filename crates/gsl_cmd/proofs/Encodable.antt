@@ -17,14 +17,14 @@ use Rattle.gsl_words.specs.declared.module.Instr.{Instr}
 use Rattle.gsl_words.specs.declared.target.Target.TheVariants.{V10}
 use Rattle.gsl_words.specs.Instructions.{IsInTable, HasFile, word_count}
 use Rattle.gsl_instr.specs.Strings.{string_words, IsText}
-use Rattle.gsl_cmd.specs.declared.program.Term.{Term}
-use Rattle.gsl_cmd.specs.declared.program.Term.TheVariants.{Member, Literal}
-use Rattle.gsl_cmd.specs.declared.program.Statement.{Statement}
-use Rattle.gsl_cmd.specs.declared.program.Program.{Program}
+use Rattle.gsl_form.specs.declared.program.Term.{Term}
+use Rattle.gsl_form.specs.declared.program.Term.TheVariants.{Member, Literal}
+use Rattle.gsl_form.specs.declared.program.Statement.{Statement}
+use Rattle.gsl_form.specs.declared.program.Program.{Program}
 use Rattle.gsl_cmd.specs.declared.lowering.id.TheConstants as id
-use Rattle.gsl_cmd.specs.Form.{Name, name_of, is_name, IsProgram}
+use Rattle.gsl_form.specs.Form.{Name, name_of, is_name, IsProgram}
 use Rattle.gsl_cmd.specs.Lowering.{Code, instr, term_code, more_code, sum_code, statements_code, function_code, constant_code, preamble, name_code, decoration_code, type_code, variable_code, code_of, module_of, term_ids, statement_ids, constants_of}
-use Rattle.gsl_cmd.proofs.Statements.{all_at}
+use Rattle.gsl_cmd.proofs.All.{all_at}
 
 abbrev AllFit : Code → Type 0
 AllFit code = AllByRecursion IsInTable code

@@ -9,12 +9,12 @@ use Rattle.gsl_host.specs.declared.target.Target.TheVariants.{Printing}
 use Rattle.gsl_host.specs.Outside.{Files, Appends, AppendsSome, NeverFall, Rose}
 use Rattle.gsl_cmd.specs.declared.plan.Stop.{Stop}
 use Rattle.gsl_cmd.specs.declared.plan.Stop.TheVariants as stop
-use Rattle.gsl_cmd.specs.Form.{Name}
+use Rattle.gsl_form.specs.Form.{Name}
 use Rattle.gsl_cmd.specs.Job.{Job, Effect, IsJob}
 use Rattle.gsl_cmd.specs.Plan.{Plan}
 use Rattle.gsl_cmd.specs.Performs.{Performs, Prints, effect_on}
 use Rattle.gsl_cmd.specs.Command.{Ended, Reported}
-use Rattle.gsl_cmd.specs.Texts.{fault_text, host_text}
+use Rattle.gsl_cmd.specs.Texts.{told_fault, host_text}
 use Rattle.gsl_cmd.proofs.Jobs.{later_rise}
 
 appends_none : (before after : Option (List ℕ)) → after ≡ before → Appends before after []
@@ -91,7 +91,7 @@ module _ (plan : Plan) (file : Name) (before : Files) (after : Option Files) (fi
     },
   )
 
-  fault : (f : Fault) → (e : Came (Err (stop.Fault f))) → Prints then last stream.Err (printed stream.Err) (printed' stream.Err) (fault_text file f) → Done 1
+  fault : (f : Fault) → (e : Came (Err (stop.Fault f))) → Prints then last stream.Err (printed stream.Err) (printed' stream.Err) (told_fault file f) → Done 1
   fault f e said = (
     e.job,
     e.is_job,

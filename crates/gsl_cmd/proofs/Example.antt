@@ -5,9 +5,9 @@ use Rattle.gsl_base.specs.declared.input.Buffer.{Buffer}
 use Rattle.gsl_base.specs.declared.input.Input.{Input}
 use Rattle.gsl_base.specs.declared.input.Output.{Output}
 use Rattle.gsl_base.specs.declared.input.InputRefusal.TheVariants.{NoBuffer, TooShort, BadIds}
-use Rattle.gsl_cmd.specs.declared.program.Term.TheVariants.{Member, Literal}
-use Rattle.gsl_cmd.specs.declared.program.Statement.{Statement}
-use Rattle.gsl_cmd.specs.declared.program.Program.{Program}
+use Rattle.gsl_form.specs.declared.program.Term.TheVariants.{Member, Literal}
+use Rattle.gsl_form.specs.declared.program.Statement.{Statement}
+use Rattle.gsl_form.specs.declared.program.Program.{Program}
 use Rattle.gsl_cmd.specs.Lowering.{module_of}
 use Rattle.gsl_cmd.specs.Words.{word_sum}
 use Rattle.gsl_words.specs.Words.{word_at, put_word}

@@ -5,9 +5,9 @@ use Rattle.gsl_instr.specs.declared.enumerant.storage_class.TheConstants as stor
 use Rattle.gsl_valid.specs.Instruction.{TypeVoid, TypeInt, TypeStruct, TypePointer, TypeFunction, Constant, Variable, Function}
 use Rattle.gsl_valid.specs.Ids.{definition}
 use Rattle.gsl_valid.proofs.Lookups.{Has}
-use Rattle.gsl_cmd.specs.declared.program.Program.{Program}
+use Rattle.gsl_form.specs.declared.program.Program.{Program}
 use Rattle.gsl_cmd.specs.declared.lowering.id.TheConstants as id
-use Rattle.gsl_cmd.specs.Form.{IsProgram}
+use Rattle.gsl_form.specs.Form.{IsProgram}
 use Rattle.gsl_cmd.specs.Lowering.{code_of, constant_code, constant_id, constants_of}
 use Rattle.gsl_cmd.proofs.Known.{among, place, place_within, value_at_place}
 use Rattle.gsl_cmd.proofs.Parts.{constant_at, in_types, in_constants, in_variable, in_main, has_range}

@@ -14,16 +14,18 @@ use Rattle.gsl_host.specs.Outside.{Files, KeepsOthers, Sets, NeverFall, Rose}
 use Rattle.gsl_cmd.specs.declared.compiling.TheConstants.{MAX_SOURCE_BYTES}
 use Rattle.gsl_cmd.specs.declared.plan.Stop.{Stop}
 use Rattle.gsl_cmd.specs.declared.plan.Stop.TheVariants as stop
-use Rattle.gsl_cmd.specs.declared.program.Program.{Program}
-use Rattle.gsl_cmd.specs.Form.{Name, Spells}
-use Rattle.gsl_cmd.specs.Reading.{program_at}
-use Rattle.gsl_cmd.specs.Verdict.{Accepts, FirstFault, FaultWhere, Judges, fault_in, too_long_from}
+use Rattle.gsl_form.specs.declared.program.Program.{Program}
+use Rattle.gsl_form.specs.Form.{Name}
+use Rattle.gsl_form.specs.Trees.{Spells}
+use Rattle.gsl_form.specs.Reading.{program_of}
+use Rattle.gsl_form.proofs.Units.{program_is, program_gives}
+use Rattle.gsl_cmd.specs.Verdict.{Tree, AreOfForm, Accepts, FaultWhere, Judges, fault_in, trees_of}
 use Rattle.gsl_cmd.specs.Plan.{Plan}
-use Rattle.gsl_cmd.specs.Texts.{fault_text}
+use Rattle.gsl_cmd.specs.Texts.{told_fault}
 use Rattle.gsl_cmd.specs.Job.{Job, Effect, IsJob, IsCompileJob, Gathered, Sources, Absent, TooLong, gather, gather_one, reads, failed, refused, compiled}
 use Rattle.gsl_cmd.specs.Performs.{KeepsAllBut}
 use Rattle.gsl_cmd.specs.Command.{Did, Ended, ReadsSourceTold, CompilesSource}
-use Rattle.gsl_cmd.proofs.Exact.{program_is, program_gives}
+use Rattle.gsl_cmd.proofs.Verdicts.{first_same}
 
 -- The rules give some verdict.
 stage_compute : (stage : Stage) → (stage ≡ Compute) ⊎ (stage ≢ Compute)
@@ -31,38 +33,31 @@ stage_compute Vertex = inr (λ e. cc)
 stage_compute Fragment = inr (λ e. cc)
 stage_compute Compute = inl refl
 
-refuses : (stage : Stage) (sources : List (List ℕ)) → too_long_from 0 sources ≡ None → ((p : Program) → Accepts stage sources p → ⊥) → (verdict : Checked Program) × Judges stage sources verdict
-refuses stage sources short none =
-    (Err (fault_in 0 E0001), subst (FaultWhere stage sources (fault_in 0 E0001)) (sym short) (refl, none))
-
-one_of : (a b : List ℕ) (sources : List (List ℕ)) (source : List ℕ) → a ∷ b ∷ sources ≡ source ∷ [] → ⊥
-one_of a b sources source e = cc
-
-first_of_one : (a b : List ℕ) → a ∷ [] ≡ b ∷ [] → a ≡ b
-first_of_one a b e = cc
-
-judged : (stage : Stage) (sources : List (List ℕ)) → too_long_from 0 sources ≡ None → (verdict : Checked Program) × Judges stage sources verdict
-judged stage [] short = refuses stage [] short (λ p accepts. absurd (let e : [] ≡ accepts.source ∷ [] = accepts.one in cc))
-judged stage (a ∷ b ∷ sources) short = refuses stage (a ∷ b ∷ sources) short (λ p accepts. one_of a b sources accepts.source accepts.one)
-judged stage (source ∷ []) short =
-    let none : ((p : Program) → stage ≡ Compute → Spells source p → ⊥) → (verdict : Checked Program) × Judges stage (source ∷ []) verdict = λ no.
-    refuses stage (source ∷ []) short (λ p accepts.
-    no p accepts.stage_is (subst (λ s. Spells s p) (sym (first_of_one source accepts.source accepts.one)) accepts.spelled)) in
+-- the trees have a program of the form, or none
+formed : (stage : Stage) (trees : List Tree) → ((p : Program) × AreOfForm stage trees p) ⊎ ((p : Program) → AreOfForm stage trees p → ⊥)
+formed stage [] = inr (λ p are. let never : ◌≡◌ {A = List Tree} [] (are.tree ∷ []) = are.one in cc)
+formed stage (a ∷ b ∷ trees) = inr (λ p are. let never : ◌≡◌ {A = List Tree} (a ∷ b ∷ trees) (are.tree ∷ []) = are.one in cc)
+formed stage (tree ∷ []) =
     elim (stage_compute stage) [
-      | inr other ↦ none (λ p compute spelled. other compute)
+      | inr other ↦ inr (λ p are. other are.stage_is)
       | inl compute ↦
-          elim (program_at source) as (λ found. program_at source ≡ found → (verdict : Checked Program) × Judges stage (source ∷ []) verdict) [
-            | None ↦ λ e. none (λ p stage_is spelled. let there : program_at source ≡ Some p = program_gives source p spelled in cc)
-            | Some p ↦ λ e. (Ok p, record { sizes = short; stage_is = compute; source = source; one = refl; spelled = program_is source p e })
+          elim (program_of tree) as (λ found. program_of tree ≡ found → ((p : Program) × AreOfForm stage (tree ∷ []) p) ⊎ ((p : Program) → AreOfForm stage (tree ∷ []) p → ⊥)) [
+            | None ↦ λ e. inr (λ p are.
+                let there : program_of tree ≡ Some p = program_gives tree p (subst (λ t. Spells t p) (sym (first_same are.one)) are.spelled) in cc)
+            | Some p ↦ λ e. inl (p, record { stage_is = compute; tree = tree; one = refl; spelled = program_is tree p e })
           ] refl
     ]
 
+judged : (stage : Stage) (sources : List (List ℕ)) (read : Checked (List Tree)) → trees_of sources ≡ read → (verdict : Checked Program) × Judges stage sources verdict
+judged stage sources (Err first) is = (Err first, subst (FaultWhere stage first) (sym is) refl)
+judged stage sources (Ok trees) is =
+    elim (formed stage trees) [
+      | inl (p, are) ↦ (Ok p, record { trees = trees; read = is; formed = are })
+      | inr none ↦ (Err (fault_in 0 E0001), subst (FaultWhere stage (fault_in 0 E0001)) (sym is) (refl, none))
+    ]
+
 pub some_verdict : (stage : Stage) (sources : List (List ℕ)) → (verdict : Checked Program) × Judges stage sources verdict
-some_verdict stage sources =
-    elim (too_long_from 0 sources) as (λ found. too_long_from 0 sources ≡ found → (verdict : Checked Program) × Judges stage sources verdict) [
-      | Some unit ↦ λ e. (Err (fault_in unit E0900), subst (FaultWhere stage sources (fault_in unit E0900)) (sym e) refl)
-      | None ↦ λ e. judged stage sources e
-    ] refl
+some_verdict stage sources = judged stage sources (trees_of sources) refl
 
 -- There is a job of every command over all files.
 compile_job : (stage : Stage) (out : Name) (names : List Name) (targets : List Target) (gathered : Gathered) → (job : Job) × IsCompileJob stage out names targets job gathered
@@ -127,11 +122,6 @@ module _ (stage : Stage) (out file : Name) (files : Files) where
   gathers_none : (source : List ℕ) → get files file ≡ Some source → MAX_SOURCE_BYTES < length source → gather files 0 (file ∷ []) ≡ TooLong 0
   gathers_none source read long = ap (λ found. gather_one 0 found (Sources [])) read ∙ cond-true _ _ _ (lt-ltb _ _ long)
 
-  unit_zero : (source : List ℕ) (fault : Fault) → length source ≤ MAX_SOURCE_BYTES → FirstFault stage (source ∷ []) fault → fault.place.unit ≡ 0
-  unit_zero source fault short answer =
-      let none : too_long_from 0 (source ∷ []) ≡ None = cond-false _ _ _ (le-ltb _ _ short) in
-      ap (λ (f : Fault). f.place.unit) (subst (FaultWhere stage (source ∷ []) fault) none answer).0
-
   module _ (after : Option Files) (faults faults' : Target → ℕ) where
     abbrev Came : Result (Unit {0}) Stop → Type 0
     Came end = Ended plan file files after faults faults' end
@@ -149,7 +139,7 @@ module _ (stage : Stage) (out file : Name) (files : Files) where
           job = job;
           is_job = subst (IsIts job) (sym (gathers_none source read long)) refl;
           out = refl;
-          did = (refl, ap (fault_text file) (sym is), refl, same);
+          did = (refl, ap (told_fault file) (sym is), refl, same);
           kept = same;
         }
 
@@ -175,12 +165,11 @@ module _ (stage : Stage) (out file : Name) (files : Files) where
     ended_compile source stop.Host read short answer same = absurd answer
     ended_compile source (stop.Fault fault) read short answer same =
         let job = refused (file ∷ []) its_reads fault in
-        let named : get_or (file ∷ []) fault.place.unit [] ≡ file = ap (λ u. get_or (file ∷ []) u []) (unit_zero source fault short answer) in
         record {
           job = job;
           is_job = subst (IsIts job) (sym (gathers_one source read short)) (Err fault, answer, refl);
           out = refl;
-          did = (refl, ap (λ name. fault_text name fault) named, refl, same);
+          did = (refl, refl, refl, same);
           kept = same;
         }
 

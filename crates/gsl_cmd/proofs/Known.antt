@@ -5,11 +5,11 @@ use Rattle.std.specs.List.{list_any, position_or_len, range_with_len, flat_map, 
 use Rattle.std.proofs.lemmas.Bool.{cases_Bool, cond-true, cond-false, cond_both, or_left, or_right, or_cases, eq-eqb, eqb-true, not_from_true, not_from_false}
 use Rattle.std.proofs.lemmas.List.Folds.{list_any-append}
 use Rattle.std.proofs.lemmas.List.Sums.{passes_at_first}
-use Rattle.gsl_cmd.specs.declared.program.Term.{Term}
-use Rattle.gsl_cmd.specs.declared.program.Term.TheVariants.{Member, Literal}
-use Rattle.gsl_cmd.specs.declared.program.Statement.{Statement}
-use Rattle.gsl_cmd.specs.declared.program.Program.{Program}
-use Rattle.gsl_cmd.specs.Form.{IsTerm, IsStatement, IsProgram}
+use Rattle.gsl_form.specs.declared.program.Term.{Term}
+use Rattle.gsl_form.specs.declared.program.Term.TheVariants.{Member, Literal}
+use Rattle.gsl_form.specs.declared.program.Statement.{Statement}
+use Rattle.gsl_form.specs.declared.program.Program.{Program}
+use Rattle.gsl_form.specs.Form.{IsTerm, IsStatement, IsProgram}
 use Rattle.gsl_cmd.specs.Lowering.{literals_of, values_used, with_value, constants_of}
 
 -- whether a value is among some

@@ -1,9 +1,3 @@
-pub mod Steps
-pub mod Pieces
-pub mod Lists
-pub mod Statements
-pub mod Exact
-pub mod Digits
 pub mod Constants
 pub mod Encodable
 pub mod Verdicts
@@ -39,3 +33,4 @@ pub mod Simulation
 pub mod Among
 pub mod Lookups
 pub mod Carried
+pub mod All

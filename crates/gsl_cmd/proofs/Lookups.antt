@@ -10,12 +10,12 @@ use Rattle.gsl_words.specs.declared.module.Instr.{Instr}
 use Rattle.gsl_instr.specs.declared.op.TheConstants as op
 use Rattle.gsl_instr.specs.declared.enumerant.execution_mode.TheConstants as execution_mode
 use Rattle.gsl_instr.specs.declared.enumerant.decoration.TheConstants as decoration
-use Rattle.gsl_cmd.specs.declared.program.Term.{Term}
-use Rattle.gsl_cmd.specs.declared.program.Term.TheVariants.{Member, Literal}
-use Rattle.gsl_cmd.specs.declared.program.Statement.{Statement}
-use Rattle.gsl_cmd.specs.declared.program.Program.{Program}
+use Rattle.gsl_form.specs.declared.program.Term.{Term}
+use Rattle.gsl_form.specs.declared.program.Term.TheVariants.{Member, Literal}
+use Rattle.gsl_form.specs.declared.program.Statement.{Statement}
+use Rattle.gsl_form.specs.declared.program.Program.{Program}
 use Rattle.gsl_cmd.specs.declared.lowering.id.TheConstants as id
-use Rattle.gsl_cmd.specs.Form.{Name, IsProgram}
+use Rattle.gsl_form.specs.Form.{Name, IsProgram}
 use Rattle.gsl_cmd.specs.Lowering.{Code, instr, constants_of, constant_id, term_code, term_ids, more_code, sum_code, statements_code, statement_ids, first_id, function_code, constant_code, preamble, name_code, decoration_code, type_code, variable_code, code_of, module_of}
 use Rattle.gsl_cmd.specs.Buffers.{word_offset}
 use Rattle.gsl_cmd.specs.Sections.{has_at, begin_with, operands, operand, decoration_of, member_decoration_of, is_int, members_of, pointee_of, constant_of, variable_type_of}

@@ -12,9 +12,9 @@ use Rattle.gsl_instr.specs.Strings.{string_words}
 use Rattle.gsl_valid.specs.Search.{Test, passed, Passes}
 use Rattle.gsl_valid.proofs.Searching.{passes_append}
 use Rattle.gsl_valid.proofs.Lookups.{Has, has_left, has_right}
-use Rattle.gsl_cmd.specs.declared.program.Program.{Program}
+use Rattle.gsl_form.specs.declared.program.Program.{Program}
 use Rattle.gsl_cmd.specs.declared.lowering.id.TheConstants as id
-use Rattle.gsl_cmd.specs.Form.{Name, name_of}
+use Rattle.gsl_form.specs.Form.{Name, name_of}
 use Rattle.gsl_cmd.specs.Lowering.{Code, instr, function_code, constant_code, preamble, name_code, decoration_code, type_code, variable_code, code_of, constants_of}
 
 -- the instructions of sections that are made from numbers

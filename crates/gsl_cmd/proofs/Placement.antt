@@ -12,9 +12,9 @@ use Rattle.gsl_instr.specs.Strings.{string_words}
 use Rattle.gsl_valid.specs.Instruction.{Instruction, EntryPoint, ExecutionMode, Name, MemberName, MemberDecorate, Variable, read}
 use Rattle.gsl_valid.specs.Search.{Test, Passes}
 use Rattle.gsl_valid.specs.Decorations.{number_in}
-use Rattle.gsl_cmd.specs.declared.program.Program.{Program}
+use Rattle.gsl_form.specs.declared.program.Program.{Program}
 use Rattle.gsl_cmd.specs.declared.lowering.id.TheConstants as id
-use Rattle.gsl_cmd.specs.Form.{IsProgram, name_of, Name as Text}
+use Rattle.gsl_form.specs.Form.{IsProgram, name_of, Name as Text}
 use Rattle.gsl_cmd.specs.Lowering.{Code, instr, code_of, constants_of, constant_code, decoration_code, module_of, name_code, type_code, variable_code}
 use Rattle.gsl_cmd.specs.Layout.{MemberType, Int, first_multiple, offsets_from, offsets, need, block_size, member_types}
 use Rattle.gsl_cmd.specs.Places.{Places, those, is_entry, is_mode, is_variable, is_name, is_of_member, member_names, member_offsets}

@@ -11,9 +11,9 @@ use Rattle.gsl_instr.specs.declared.enumerant.storage_class.TheConstants as stor
 use Rattle.gsl_instr.specs.Strings.{string_words}
 use Rattle.gsl_valid.specs.Search.{Test, passed, Passes}
 use Rattle.gsl_valid.proofs.Searching.{passed_append, passes_append, passes_range}
-use Rattle.gsl_cmd.specs.declared.program.Program.{Program}
+use Rattle.gsl_form.specs.declared.program.Program.{Program}
 use Rattle.gsl_cmd.specs.declared.lowering.id.TheConstants as id
-use Rattle.gsl_cmd.specs.Form.{Name, IsProgram}
+use Rattle.gsl_form.specs.Form.{Name, IsProgram}
 use Rattle.gsl_cmd.specs.Lowering.{Code, instr, code_of, constants_of, constant_code, decoration_code, first_id, name_code, pointer, preamble, statements_code, type_code, variable_code}
 use Rattle.gsl_cmd.proofs.Known.{program_known}
 use Rattle.gsl_cmd.proofs.Walks.{Walk, load, add, store, statements_pass, behind_statements}

@@ -7,17 +7,17 @@ use Rattle.gsl_words.specs.declared.module.Instr.{Instr}
 use Rattle.gsl_instr.specs.declared.op.TheConstants as op
 use Rattle.gsl_words.specs.Instructions.{word_count}
 use Rattle.gsl_valid.specs.Placed.{words_from, header_size, count_of_words}
-use Rattle.gsl_cmd.specs.declared.program.Term.{Term}
-use Rattle.gsl_cmd.specs.declared.program.Term.TheVariants.{Member, Literal}
-use Rattle.gsl_cmd.specs.declared.program.Statement.{Statement}
-use Rattle.gsl_cmd.specs.declared.program.Program.{Program}
+use Rattle.gsl_form.specs.declared.program.Term.{Term}
+use Rattle.gsl_form.specs.declared.program.Term.TheVariants.{Member, Literal}
+use Rattle.gsl_form.specs.declared.program.Statement.{Statement}
+use Rattle.gsl_form.specs.declared.program.Program.{Program}
 use Rattle.gsl_cmd.specs.declared.lowering.id.TheConstants as id
-use Rattle.gsl_cmd.specs.Form.{name_of, is_name, IsProgram}
+use Rattle.gsl_form.specs.Form.{name_of, is_name, IsProgram}
 use Rattle.gsl_cmd.specs.Lowering.{Code, instr, pointer, sum_ids, sum_value, term_code, term_ids, term_value, more_code, sum_code, statement_ids, statements_code, first_id, constants_of, constant_code, decoration_code, module_of, name_code, preamble, type_code, variable_code}
 use Rattle.gsl_cmd.specs.Weight.{statements_weight, IsSmall}
 use Rattle.std.proofs.Math.Nat.{mul-suc}
 use Rattle.gsl_cmd.proofs.Encodable.{words_few, name_plain}
-use Rattle.gsl_cmd.proofs.Statements.{all_at}
+use Rattle.gsl_cmd.proofs.All.{all_at}
 use Rattle.gsl_cmd.proofs.Parts.{member_name, member_offset, constant_at, ending, the_function}
 use Rattle.gsl_cmd.proofs.Counts.{bound_few}
 use Rattle.gsl_cmd.proofs.Quiet.{set_decoration, binding_decoration}

@@ -1,42 +1,43 @@
--- Texts have one program, sources one verdict, and commands one job.
+-- Sources have one verdict, and commands one job.
 use Rattle.std.proofs.Common.{◌≡◌, ℕ, List, Option, Some, None, Ok, Err, refl, ap, sym, subst, ◌∙◌}
 use Rattle.gsl_base.specs.declared.stage.Stage.{Stage}
 use Rattle.gsl_base.specs.declared.fault.Fault.{Fault}
 use Rattle.gsl_base.specs.Checked.{Checked}
 use Rattle.gsl_host.specs.declared.target.Target.{Target}
 use Rattle.gsl_host.specs.Outside.{Files}
-use Rattle.gsl_cmd.specs.declared.program.Program.{Program}
-use Rattle.gsl_cmd.specs.Form.{Name, Spells, IsProgram, text_of}
+use Rattle.gsl_form.specs.declared.program.Program.{Program}
+use Rattle.gsl_form.specs.Form.{Name}
+use Rattle.gsl_form.specs.Trees.{Spells}
+use Rattle.gsl_form.proofs.Units.{one_program}
 use Rattle.gsl_cmd.specs.Job.{Job, IsJob, IsCompileJob, Gathered, Sources, Absent, TooLong, gather, reads, compiled}
 use Rattle.gsl_cmd.specs.Plan.{Plan}
-use Rattle.gsl_cmd.specs.Verdict.{Accepts, FirstFault, FaultWhere, Judges, too_long_from}
-use Rattle.gsl_cmd.proofs.Exact.{program_gives}
-use Rattle.gsl_cmd.proofs.Steps.{some_is}
+use Rattle.gsl_cmd.specs.Verdict.{Tree, AreOfForm, Accepts, FirstFault, FaultWhere, Judges, trees_of}
 use Rattle.gsl_cmd.proofs.Verdicts.{first_same}
 
-one_spelled : (source : List ℕ) (p q : Program) → Spells source p → Spells source q → p ≡ q
-one_spelled source p q ps qs = some_is p q (sym (program_gives source p ps) ∙ program_gives source q qs)
+one_formed : (stage : Stage) (trees : List Tree) (p q : Program) → AreOfForm stage trees p → AreOfForm stage trees q → p ≡ q
+one_formed stage trees p q ps qs =
+    let same : qs.tree ≡ ps.tree = first_same (sym qs.one ∙ ps.one) in
+    one_program ps.tree p q ps.spelled (subst (λ t. Spells t q) same qs.spelled)
 
-pub one_program_of : (p q : Program) → IsProgram p → IsProgram q → text_of p ≡ text_of q → p ≡ q
-one_program_of p q ps qs same = one_spelled (text_of p) p q (record { fits = ps; text = refl }) (record { fits = qs; text = same })
+same_trees : {xs ys : List Tree} → ◌≡◌ {A = Checked (List Tree)} (Ok xs) (Ok ys) → xs ≡ ys
+same_trees e = cc
 
 one_accepted : (stage : Stage) (sources : List (List ℕ)) (p q : Program) → Accepts stage sources p → Accepts stage sources q → p ≡ q
 one_accepted stage sources p q ps qs =
-    let same : qs.source ≡ ps.source = first_same (sym qs.one ∙ ps.one) in
-    one_spelled ps.source p q ps.spelled (subst (λ source. Spells source q) same qs.spelled)
+    one_formed stage ps.trees p q ps.formed (subst (λ trees. AreOfForm stage trees q) (same_trees (sym qs.read ∙ ps.read)) qs.formed)
 
-one_where : (stage : Stage) (sources : List (List ℕ)) (f g : Fault) (long : Option ℕ) → FaultWhere stage sources f long → FaultWhere stage sources g long → f ≡ g
-one_where stage sources f g (Some unit) fs gs = fs ∙ sym gs
-one_where stage sources f g None fs gs = fs.0 ∙ sym gs.0
+one_where : (stage : Stage) (f g : Fault) (read : Checked (List Tree)) → FaultWhere stage f read → FaultWhere stage g read → f ≡ g
+one_where stage f g (Err first) fs gs = fs ∙ sym gs
+one_where stage f g (Ok trees) fs gs = fs.0 ∙ sym gs.0
 
 never_both : (stage : Stage) (sources : List (List ℕ)) (p : Program) (f : Fault) → Accepts stage sources p → FirstFault stage sources f → ⊥
-never_both stage sources p f ps fs = (subst (FaultWhere stage sources f) ps.sizes fs).1 p ps
+never_both stage sources p f ps fs = (subst (FaultWhere stage f) ps.read fs).1 p ps.formed
 
 pub one_judged : (stage : Stage) (sources : List (List ℕ)) (v w : Checked Program) → Judges stage sources v → Judges stage sources w → v ≡ w
 one_judged stage sources (Ok p) (Ok q) ps qs = ap Ok (one_accepted stage sources p q ps qs)
 one_judged stage sources (Ok p) (Err f) ps fs = absurd (never_both stage sources p f ps fs)
 one_judged stage sources (Err f) (Ok p) fs ps = absurd (never_both stage sources p f ps fs)
-one_judged stage sources (Err f) (Err g) fs gs = ap Err (one_where stage sources f g (too_long_from 0 sources) fs gs)
+one_judged stage sources (Err f) (Err g) fs gs = ap Err (one_where stage f g (trees_of sources) fs gs)
 
 one_compile_job : (stage : Stage) (out : Name) (names : List Name) (targets : List Target) (gathered : Gathered) (j k : Job) →
     IsCompileJob stage out names targets j gathered → IsCompileJob stage out names targets k gathered → j ≡ k

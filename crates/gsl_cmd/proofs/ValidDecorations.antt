@@ -14,9 +14,9 @@ use Rattle.gsl_valid.specs.Decorations.{Place, On, OnMember, has, number_in, num
 use Rattle.gsl_valid.specs.DecorationRules.{decorated, decorates, may_stand_on, may_stand_on_member, pointee, pointee_of, is_bound_to, differ}
 use Rattle.gsl_valid.specs.LayoutRules.{laid, is_laid, is_at, end_after, need}
 use Rattle.gsl_valid.proofs.Searching.{passes_append, passes_range}
-use Rattle.gsl_cmd.specs.declared.program.Program.{Program}
+use Rattle.gsl_form.specs.declared.program.Program.{Program}
 use Rattle.gsl_cmd.specs.declared.lowering.id.TheConstants as id
-use Rattle.gsl_cmd.specs.Form.{IsProgram}
+use Rattle.gsl_form.specs.Form.{IsProgram}
 use Rattle.gsl_cmd.specs.Lowering.{Code, instr, code_of, constants_of, module_of}
 use Rattle.gsl_cmd.proofs.Parts.{member_offset, before_names, before_decorations, before_types, before_constants, before_variable, before_function, passes_parts, none_before_decorations, none_before_variable, none_before_types, none_in_decorations}
 use Rattle.gsl_cmd.proofs.Facts.{Facts, facts}

@@ -11,9 +11,9 @@ use Rattle.gsl_valid.specs.Ids.{definition}
 use Rattle.std.specs.List.{cons_option}
 use Rattle.gsl_valid.specs.Types.{void_type}
 use Rattle.gsl_valid.specs.EntryRules.{entry_kept, Mode, mode_of, modes_of, interface_variable, interface_of, is_main, is_main_type, lists_each, are_modes}
-use Rattle.gsl_cmd.specs.declared.program.Program.{Program}
+use Rattle.gsl_form.specs.declared.program.Program.{Program}
 use Rattle.gsl_cmd.specs.declared.lowering.id.TheConstants as id
-use Rattle.gsl_cmd.specs.Form.{IsProgram}
+use Rattle.gsl_form.specs.Form.{IsProgram}
 use Rattle.gsl_cmd.specs.Lowering.{Code, code_of, constants_of, module_of}
 use Rattle.gsl_cmd.proofs.Parts.{before_names, before_decorations, before_constants, before_function, from_names, in_parts, passes_parts, passes_from_names}
 use Rattle.gsl_cmd.proofs.Facts.{Facts, facts}

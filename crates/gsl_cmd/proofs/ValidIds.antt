@@ -10,8 +10,8 @@ use Rattle.std.specs.Prelude.{Some}
 use Rattle.gsl_valid.specs.IdsDefinedOnce.{defines_once, is_new}
 use Rattle.gsl_valid.proofs.Searching.{passes_append, passes_range}
 use Rattle.gsl_valid.proofs.Lookups.{Has, definition_is}
-use Rattle.gsl_cmd.specs.declared.program.Program.{Program}
-use Rattle.gsl_cmd.specs.Form.{IsProgram}
+use Rattle.gsl_form.specs.declared.program.Program.{Program}
+use Rattle.gsl_form.specs.Form.{IsProgram}
 use Rattle.gsl_cmd.specs.Lowering.{Code, code_of, constants_of, constant_code, first_id, statements_ids}
 use Rattle.gsl_cmd.proofs.Known.{program_known}
 use Rattle.gsl_cmd.proofs.Walks.{Walk, statements_pass}

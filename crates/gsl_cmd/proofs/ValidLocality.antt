@@ -8,9 +8,9 @@ use Rattle.gsl_instr.specs.declared.enumerant.memory_model.TheConstants as memor
 use Rattle.gsl_valid.specs.Search.{passed, Passes}
 use Rattle.gsl_valid.specs.Ids.{defined, definition}
 use Rattle.gsl_valid.specs.LocalityRules.{uses_near, is_near, near_as, of_block, back_to, bounds_block, bounds_function}
-use Rattle.gsl_cmd.specs.declared.program.Program.{Program}
+use Rattle.gsl_form.specs.declared.program.Program.{Program}
 use Rattle.gsl_cmd.specs.declared.lowering.id.TheConstants as id
-use Rattle.gsl_cmd.specs.Form.{IsProgram}
+use Rattle.gsl_form.specs.Form.{IsProgram}
 use Rattle.gsl_cmd.specs.Lowering.{Code, code_of, constants_of, constant_id, first_id, instr, module_of, pointer}
 use Rattle.gsl_cmd.proofs.Known.{among, member_known, program_known}
 use Rattle.gsl_cmd.proofs.Walks.{Walk, load, statements_pass}

@@ -15,9 +15,9 @@ use Rattle.gsl_valid.specs.Decorations.{has, member_has}
 use Rattle.gsl_valid.specs.OperandRules.{typed}
 use Rattle.gsl_valid.specs.MemoryRules.{memory_kept, member_at, target, target_at, value_of, part_by, part_at, is_part, leads_to, is_variable, passes_one, index_of, target_type, leads_through, is_in_buffer, block_of, may_load, may_store}
 use Rattle.gsl_valid.proofs.Lookups.{Has}
-use Rattle.gsl_cmd.specs.declared.program.Program.{Program}
+use Rattle.gsl_form.specs.declared.program.Program.{Program}
 use Rattle.gsl_cmd.specs.declared.lowering.id.TheConstants as id
-use Rattle.gsl_cmd.specs.Form.{IsProgram}
+use Rattle.gsl_form.specs.Form.{IsProgram}
 use Rattle.gsl_cmd.specs.Lowering.{code_of, constants_of, constant_id, first_id, module_of, pointer}
 use Rattle.gsl_cmd.proofs.Known.{among, member_known, program_known}
 use Rattle.gsl_cmd.proofs.Walks.{Walk, load, add, statements_pass}

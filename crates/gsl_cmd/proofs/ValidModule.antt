@@ -4,8 +4,8 @@ use Rattle.gsl_valid.specs.Search.{Test, Passes}
 use Rattle.gsl_valid.specs.Valid.{Valid, rules}
 use Rattle.gsl_valid.proofs.Searching.{none_broken}
 use Rattle.gsl_valid.proofs.Rules.{none_of}
-use Rattle.gsl_cmd.specs.declared.program.Program.{Program}
-use Rattle.gsl_cmd.specs.Form.{IsProgram}
+use Rattle.gsl_form.specs.declared.program.Program.{Program}
+use Rattle.gsl_form.specs.Form.{IsProgram}
 use Rattle.gsl_cmd.specs.Lowering.{code_of, module_of}
 use Rattle.gsl_cmd.proofs.Encodable.{module_has_file}
 use Rattle.gsl_cmd.proofs.ValidSections.{sections_none}

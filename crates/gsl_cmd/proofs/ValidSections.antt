@@ -10,8 +10,8 @@ use Rattle.gsl_valid.specs.Placed.{count_of_words, bound_place}
 use Rattle.gsl_valid.specs.Search.{passed, unless, Passes, ◌otherwise◌, first_broken}
 use Rattle.gsl_valid.specs.Sections.{sections, in_section, reached, may_come, is_complete, most_bound, functions, globals, decorations, names, entry_points}
 use Rattle.gsl_valid.proofs.Searching.{passes_append, passes_range, passed_append, none_broken}
-use Rattle.gsl_cmd.specs.declared.program.Program.{Program}
-use Rattle.gsl_cmd.specs.Form.{IsProgram}
+use Rattle.gsl_form.specs.declared.program.Program.{Program}
+use Rattle.gsl_form.specs.Form.{IsProgram}
 use Rattle.gsl_cmd.specs.Lowering.{Code, code_of, constants_of, constant_code, first_id, module_of}
 use Rattle.gsl_cmd.proofs.Known.{program_known}
 use Rattle.gsl_cmd.proofs.Walks.{Walk, statements_pass}

@@ -12,9 +12,9 @@ use Rattle.gsl_valid.specs.FunctionRules.{function_shape, in_shape, standing, Ou
 use Rattle.gsl_valid.specs.StructureRules.{structure, no_run, is_run, blocks, blocks_with}
 use Rattle.gsl_valid.specs.ReturnRules.{returns_kept, function_at, gives_void}
 use Rattle.gsl_valid.proofs.Searching.{passed_append, passes_append, passes_range, none_broken}
-use Rattle.gsl_cmd.specs.declared.program.Program.{Program}
+use Rattle.gsl_form.specs.declared.program.Program.{Program}
 use Rattle.gsl_cmd.specs.declared.lowering.id.TheConstants as id
-use Rattle.gsl_cmd.specs.Form.{IsProgram}
+use Rattle.gsl_form.specs.Form.{IsProgram}
 use Rattle.gsl_cmd.specs.Lowering.{Code, code_of, constants_of, constant_code, decoration_code, first_id, module_of, name_code, preamble, type_code, variable_code}
 use Rattle.gsl_cmd.proofs.Known.{program_known}
 use Rattle.gsl_cmd.proofs.Walks.{Walk, statements_pass}

@@ -10,9 +10,9 @@ use Rattle.gsl_valid.specs.TypeRules.{type_made, same_type}
 use Rattle.gsl_valid.specs.ConstantRules.{constant_typed}
 use Rattle.gsl_valid.specs.GlobalRules.{global_kept, is_global_of}
 use Rattle.gsl_valid.specs.LimitRules.{within_limits, most_members, most_height}
-use Rattle.gsl_cmd.specs.declared.program.Program.{Program}
+use Rattle.gsl_form.specs.declared.program.Program.{Program}
 use Rattle.gsl_cmd.specs.declared.lowering.id.TheConstants as id
-use Rattle.gsl_cmd.specs.Form.{IsProgram}
+use Rattle.gsl_form.specs.Form.{IsProgram}
 use Rattle.gsl_cmd.specs.Lowering.{code_of, constants_of, module_of}
 use Rattle.gsl_cmd.proofs.Parts.{before_names, before_decorations, before_types, before_constants, before_function, passes_parts, none_before_types, none_in_decorations}
 use Rattle.gsl_cmd.proofs.Facts.{Facts, facts}

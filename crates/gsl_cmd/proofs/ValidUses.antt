@@ -9,9 +9,9 @@ use Rattle.gsl_valid.specs.Ids.{defines, defined}
 use Rattle.gsl_valid.specs.DefinedBeforeUse.{uses_defined}
 use Rattle.gsl_valid.proofs.Searching.{passes_range}
 use Rattle.gsl_valid.proofs.Lookups.{has_defined, has_behind, defined_behind}
-use Rattle.gsl_cmd.specs.declared.program.Program.{Program}
+use Rattle.gsl_form.specs.declared.program.Program.{Program}
 use Rattle.gsl_cmd.specs.declared.lowering.id.TheConstants as id
-use Rattle.gsl_cmd.specs.Form.{IsProgram}
+use Rattle.gsl_form.specs.Form.{IsProgram}
 use Rattle.gsl_cmd.specs.Lowering.{Code, code_of, constants_of, constant_code, constant_id, first_id, module_of, pointer}
 use Rattle.gsl_cmd.proofs.Known.{among, program_known, member_known}
 use Rattle.gsl_cmd.proofs.Walks.{Walk, load, add, statements_pass}

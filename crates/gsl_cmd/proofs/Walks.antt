@@ -6,9 +6,9 @@ use Rattle.gsl_words.specs.declared.module.Instr.{Instr}
 use Rattle.gsl_instr.specs.declared.op.TheConstants as op
 use Rattle.gsl_valid.specs.Search.{Test, passed, Passes}
 use Rattle.gsl_valid.proofs.Lookups.{Has}
-use Rattle.gsl_cmd.specs.declared.program.Term.{Term}
-use Rattle.gsl_cmd.specs.declared.program.Term.TheVariants.{Member, Literal}
-use Rattle.gsl_cmd.specs.declared.program.Statement.{Statement}
+use Rattle.gsl_form.specs.declared.program.Term.{Term}
+use Rattle.gsl_form.specs.declared.program.Term.TheVariants.{Member, Literal}
+use Rattle.gsl_form.specs.declared.program.Statement.{Statement}
 use Rattle.gsl_cmd.specs.declared.lowering.id.TheConstants as id
 use Rattle.gsl_cmd.specs.Lowering.{Code, instr, constant_id, pointer, term_code, term_ids, term_value, more_code, more_ids, more_value, sum_code, sum_ids, sum_value, statement_ids, statements_code, statements_ids}
 use Rattle.gsl_cmd.proofs.Known.{among, Known, KnownStatement}

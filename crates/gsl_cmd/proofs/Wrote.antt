@@ -3,7 +3,7 @@ use Rattle.std.proofs.Common.{◌≡◌, ◌≢◌, ℕ, List, Option, Some, Ok,
 use Rattle.gsl_host.specs.Outside.{Files}
 use Rattle.gsl_host.specs.declared.target.Stream.{Stream}
 use Rattle.gsl_host.specs.declared.target.Target.{Target}
-use Rattle.gsl_cmd.specs.Form.{Name}
+use Rattle.gsl_form.specs.Form.{Name}
 use Rattle.gsl_cmd.specs.Job.{Job, IsJob, IsCompileJob, Gathered, Sources, Absent, TooLong, gather, reads}
 use Rattle.gsl_cmd.specs.Lowering.{module_of}
 use Rattle.gsl_cmd.specs.Performs.{Performs, effect_on}

@@ -4,7 +4,7 @@ use Rattle.gsl_base.specs.declared.input.Input.{Input}
 use Rattle.gsl_base.specs.declared.input.Output.{Output}
 use Rattle.gsl_words.specs.declared.module.Module.{Module}
 use Rattle.gsl_valid.specs.Valid.{Valid}
-use Rattle.gsl_cmd.specs.declared.program.Program.{Program}
+use Rattle.gsl_form.specs.declared.program.Program.{Program}
 use Rattle.gsl_cmd.specs.Places.{Places}
 use Rattle.gsl_base.specs.Proper.{IsProper}
 use Rattle.gsl_base.specs.Ranges.{FitsTypes}

@@ -7,11 +7,11 @@ use Rattle.gsl_cmd.specs.declared.plan.Command.{Command}
 use Rattle.gsl_cmd.specs.declared.plan.Command.TheVariants as command
 use Rattle.gsl_cmd.specs.declared.plan.Stop.{Stop}
 use Rattle.gsl_cmd.specs.declared.plan.Stop.TheVariants as stop
-use Rattle.gsl_cmd.specs.Form.{Name}
+use Rattle.gsl_form.specs.Form.{Name}
 use Rattle.gsl_cmd.specs.Job.{Job, IsJob, Effect}
 use Rattle.gsl_cmd.specs.Performs.{effect_on, KeepsAllBut, Prints}
 use Rattle.gsl_cmd.specs.Plan.{Plan}
-use Rattle.gsl_cmd.specs.Texts.{fault_text, host_text}
+use Rattle.gsl_cmd.specs.Texts.{told_fault, host_text}
 use Rattle.gsl_cmd.specs.declared.compiling.TheConstants.{MAX_SOURCE_BYTES}
 use Rattle.gsl_cmd.specs.Verdict.{fault_in, Compiles, FirstFault}
 use Rattle.gsl_base.specs.declared.stage.Stage.{Stage}
@@ -27,7 +27,7 @@ plan_in (command.Compile stage out file) = Some (Plan.Compile stage out.now (fil
 abbrev pub Did : Name → Job → Files → Option Files → (Target → ℕ) → (Target → ℕ) → Result (Unit {0}) Stop → Type 0
 Did file job before after faults faults' (Ok done) = (job.status ≡ 0) × (job.err ≡ []) × (after ≡ Some (effect_on job.effect before))
 Did file job before after faults faults' (Err (stop.Fault fault)) =
-    (job.status ≡ 1) × (job.err ≡ fault_text file fault) × (job.effect ≡ Effect.Keeps) × (after ≡ Some before)
+    (job.status ≡ 1) × (job.err ≡ told_fault file fault) × (job.effect ≡ Effect.Keeps) × (after ≡ Some before)
 Did file job before after faults faults' (Err stop.Host) = (target : Target) × Contains job.targets target × Rose faults faults' target
 Did file job before after faults faults' (Err stop.Memory) = Unit {0}
 
@@ -49,7 +49,7 @@ abbrev pub Reported : Name → Stop → (Target → ℕ) → (Target → ℕ) �
 Reported file stop.Memory faults faults' before after result = (result ≡ 4) × (after ≡ before)
 Reported file stop.Host faults faults' before after result = Said faults faults' before after host_text 3 result
 Reported file (stop.Fault fault) faults faults' before after result =
-    Said faults faults' before after (fault_text file fault) 1 result ⊎ ((result ≡ 4) × (after ≡ before))
+    Said faults faults' before after (told_fault file fault) 1 result ⊎ ((result ≡ 4) × (after ≡ before))
 
 -- What reading a source file answers where the files are told.
 abbrev pub ReadsSourceTold : Files → Name → Result (List ℕ) Stop → Type 0

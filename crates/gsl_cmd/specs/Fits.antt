@@ -8,7 +8,7 @@ use Rattle.gsl_instr.specs.declared.enumerant.execution_model.TheConstants as ex
 use Rattle.gsl_instr.specs.declared.enumerant.execution_mode.TheConstants as execution_mode
 use Rattle.gsl_instr.specs.declared.enumerant.storage_class.TheConstants as storage_class
 use Rattle.gsl_instr.specs.declared.enumerant.decoration.TheConstants as decoration
-use Rattle.gsl_cmd.specs.declared.program.Program.{Program}
+use Rattle.gsl_form.specs.declared.program.Program.{Program}
 use Rattle.gsl_cmd.specs.Lowering.{Code}
 use Rattle.gsl_cmd.specs.Buffers.{word_offset}
 use Rattle.gsl_cmd.specs.Needs.{Block, Needs, Met, meets}

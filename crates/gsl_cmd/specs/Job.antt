@@ -11,8 +11,8 @@ use Rattle.gsl_host.specs.declared.target.Target.TheVariants.{Reading, Writing}
 use Rattle.gsl_host.specs.Outside.{Files}
 use Rattle.gsl_words.specs.Bytes.{bytes_of}
 use Rattle.gsl_cmd.specs.declared.compiling.TheConstants.{MAX_SOURCE_BYTES}
-use Rattle.gsl_cmd.specs.declared.program.Program.{Program}
-use Rattle.gsl_cmd.specs.Form.{Name}
+use Rattle.gsl_form.specs.declared.program.Program.{Program}
+use Rattle.gsl_form.specs.Form.{Name}
 use Rattle.gsl_cmd.specs.Lowering.{module_of}
 use Rattle.gsl_cmd.specs.Plan.{Plan}
 use Rattle.gsl_cmd.specs.Texts.{fault_text, host_text}

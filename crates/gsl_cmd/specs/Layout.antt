@@ -1,6 +1,6 @@
 -- The layout std430 of a block's members (GLSL 4.50, 4.4.5; OpenGL 4.5, 7.6.2.2).
 use Rattle.std.specs.Prelude.{ℕ, ◌+◌, ◌-◌, ◌*◌, ◌/◌, List, [], ◌∷◌, map, fold, max}
-use Rattle.gsl_cmd.specs.declared.program.Program.{Program}
+use Rattle.gsl_form.specs.declared.program.Program.{Program}
 
 -- The types that members have.
 pub data MemberType : Type 0 where

@@ -1,5 +1,3 @@
-pub mod Form
-pub mod Reading
 pub mod Lowering
 pub mod Verdict
 pub mod Texts

@@ -12,12 +12,12 @@ use Rattle.gsl_instr.specs.declared.enumerant.execution_mode.TheConstants as exe
 use Rattle.gsl_instr.specs.declared.enumerant.storage_class.TheConstants as storage_class
 use Rattle.gsl_instr.specs.declared.enumerant.decoration.TheConstants as decoration
 use Rattle.gsl_instr.specs.Strings.{string_words}
-use Rattle.gsl_cmd.specs.declared.program.Term.{Term}
-use Rattle.gsl_cmd.specs.declared.program.Term.TheVariants.{Member, Literal}
-use Rattle.gsl_cmd.specs.declared.program.Statement.{Statement}
-use Rattle.gsl_cmd.specs.declared.program.Program.{Program}
+use Rattle.gsl_form.specs.declared.program.Term.{Term}
+use Rattle.gsl_form.specs.declared.program.Term.TheVariants.{Member, Literal}
+use Rattle.gsl_form.specs.declared.program.Statement.{Statement}
+use Rattle.gsl_form.specs.declared.program.Program.{Program}
 use Rattle.gsl_cmd.specs.declared.lowering.id.TheConstants as id
-use Rattle.gsl_cmd.specs.Form.{Name, name_of}
+use Rattle.gsl_form.specs.Form.{Name, name_of}
 
 abbrev pub Code : Type 0
 Code = List Instr

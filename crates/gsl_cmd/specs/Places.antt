@@ -10,8 +10,8 @@ use Rattle.gsl_valid.specs.Instruction.{Instruction, EntryPoint, ExecutionMode, 
 use Rattle.gsl_valid.specs.Placed.{Code}
 use Rattle.gsl_valid.specs.Types.{defined_as}
 use Rattle.gsl_valid.specs.Decorations.{On, literals_on, number_on}
-use Rattle.gsl_cmd.specs.declared.program.Program.{Program}
-use Rattle.gsl_cmd.specs.Form.{Name as Text}
+use Rattle.gsl_form.specs.declared.program.Program.{Program}
+use Rattle.gsl_form.specs.Form.{Name as Text}
 use Rattle.gsl_cmd.specs.Layout.{offsets, member_types}
 
 -- the instructions of a class

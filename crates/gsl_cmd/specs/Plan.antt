@@ -5,7 +5,7 @@ use Rattle.gsl_base.specs.declared.stage.Stage.{Stage}
 use Rattle.gsl_base.specs.declared.stage.Stage.TheVariants.{Compute}
 use Rattle.gsl_host.specs.declared.target.Target.{Target}
 use Rattle.gsl_host.specs.declared.target.Target.TheVariants.{Reading, Writing}
-use Rattle.gsl_cmd.specs.Form.{Name}
+use Rattle.gsl_form.specs.Form.{Name}
 
 -- A command with its arguments.
 pub data Plan : Type 0 where

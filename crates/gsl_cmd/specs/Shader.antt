@@ -3,10 +3,10 @@
 use Rattle.std.specs.Prelude.{ℕ, Bool, true, false, List, [], ◌∷◌, length, set, slice_index, unwrap_or}
 use Rattle.gsl_base.specs.declared.input.Input.{Input}
 use Rattle.gsl_base.specs.declared.input.Output.{Output}
-use Rattle.gsl_cmd.specs.declared.program.Term.{Term}
-use Rattle.gsl_cmd.specs.declared.program.Term.TheVariants.{Member, Literal}
-use Rattle.gsl_cmd.specs.declared.program.Statement.{Statement}
-use Rattle.gsl_cmd.specs.declared.program.Program.{Program}
+use Rattle.gsl_form.specs.declared.program.Term.{Term}
+use Rattle.gsl_form.specs.declared.program.Term.TheVariants.{Member, Literal}
+use Rattle.gsl_form.specs.declared.program.Statement.{Statement}
+use Rattle.gsl_form.specs.declared.program.Program.{Program}
 use Rattle.gsl_cmd.specs.Words.{word_sum}
 use Rattle.gsl_cmd.specs.Buffers.{bytes_at, with_bytes, seen, put_words}
 

@@ -7,14 +7,22 @@ use Rattle.gsl_base.specs.declared.fault.Code.TheVariants.{E0001, E0900}
 use Rattle.gsl_base.specs.declared.fault.Fault.{Fault}
 use Rattle.gsl_base.specs.declared.fault.Refusal.{Refusal}
 use Rattle.gsl_base.specs.declared.fault.Refusal.TheVariants as refusal
-use Rattle.gsl_base.specs.Checked.{Checked}
+use Rattle.gsl_base.specs.Checked.{Checked, ◌>>=◌}
+use Rattle.gsl_lex.specs.Raws.{raws_of}
+use Rattle.gsl_parse.specs.Judged.{unit_of}
+use Rattle.gsl_pp.specs.Unit.{preprocessed}
+use Rattle.gsl_syntax.specs.declared.statement.Global.{Global}
 use Rattle.gsl_words.specs.Bytes.{bytes_of}
 use Rattle.gsl_cmd.specs.declared.compiling.TheConstants.{MAX_SOURCE_BYTES}
-use Rattle.gsl_cmd.specs.declared.program.Program.{Program}
-use Rattle.gsl_cmd.specs.Form.{Spells}
+use Rattle.gsl_form.specs.declared.program.Program.{Program}
+use Rattle.gsl_form.specs.Trees.{Spells}
 use Rattle.gsl_cmd.specs.Lowering.{module_of}
 use Rattle.gsl_cmd.specs.Carries.{Carries}
 use Rattle.gsl_cmd.specs.Weight.{IsSmall}
+
+-- the tree of a unit
+abbrev pub Tree : Type 0
+Tree = List Global
 
 -- the fault of this code at the first line of a unit
 abbrev pub fault_in : ℕ → Code → Fault
@@ -25,22 +33,45 @@ abbrev pub too_long_from : ℕ → List (List ℕ) → Option ℕ
 too_long_from unit [] = None
 too_long_from unit (source ∷ sources) = if nat_lt MAX_SOURCE_BYTES (length source) then Some unit else too_long_from (unit + 1) sources
 
+-- the tree of the source file of this number, or its first fault: its raw tokens, those of them that are live, and the unit
+-- that these spell
+unfoldable pub tree_of : ℕ → List ℕ → Checked Tree
+tree_of unit source = raws_of unit source >>= λ raws. preprocessed unit raws >>= unit_of
+
+-- the trees of sources that are numbered from this one on, or the first fault
+abbrev pub trees_from : ℕ → List (List ℕ) → Checked (List Tree)
+trees_from unit [] = Ok []
+trees_from unit (source ∷ sources) = tree_of unit source >>= λ tree. trees_from (unit + 1) sources >>= λ trees. Ok (tree ∷ trees)
+
+abbrev pub sized : {A : Type 0} → Option ℕ → Checked A → Checked A
+sized (Some unit) trees = Err (fault_in unit E0900)
+sized None trees = trees
+
+-- the trees of the sources, or their first fault: that of the first one that is too long, and else the first one in their order
+abbrev pub trees_of : List (List ℕ) → Checked (List Tree)
+trees_of sources = sized (too_long_from 0 sources) (trees_from 0 sources)
+
+-- The trees are of the form that is built so far: one tree, which spells the program.
+pub record AreOfForm (stage : Stage) (trees : List Tree) (p : Program) : Type 0 where
+  pub stage_is : stage ≡ Compute
+  pub tree : Tree
+  pub one : trees ≡ tree ∷ []
+  pub spelled : Spells tree p
+
 -- The sources give this program.
 pub record Accepts (stage : Stage) (sources : List (List ℕ)) (p : Program) : Type 0 where
-  pub sizes : too_long_from 0 sources ≡ None
-  pub stage_is : stage ≡ Compute
-  pub source : List ℕ
-  pub one : sources ≡ source ∷ []
-  pub spelled : Spells source p
+  pub trees : List Tree
+  pub read : trees_of sources ≡ Ok trees
+  pub formed : AreOfForm stage trees p
 
--- The fault is that of the first unit that is too long; where none is, the sources are not of the form.
-abbrev pub FaultWhere : Stage → List (List ℕ) → Fault → Option ℕ → Type 0
-FaultWhere stage sources fault (Some unit) = fault ≡ fault_in unit E0900
-FaultWhere stage sources fault None = (fault ≡ fault_in 0 E0001) × ((p : Program) → Accepts stage sources p → ⊥)
+-- The fault is the first one of the sources; where they have none, they are not of the form.
+abbrev pub FaultWhere : Stage → Fault → Checked (List Tree) → Type 0
+FaultWhere stage fault (Err first) = fault ≡ first
+FaultWhere stage fault (Ok trees) = (fault ≡ fault_in 0 E0001) × ((p : Program) → AreOfForm stage trees p → ⊥)
 
 -- The sources have this first fault.
 abbrev pub FirstFault : Stage → List (List ℕ) → Fault → Type 0
-FirstFault stage sources fault = FaultWhere stage sources fault (too_long_from 0 sources)
+FirstFault stage sources fault = FaultWhere stage fault (trees_of sources)
 
 -- The rules give this program, or this first fault.
 abbrev pub Judges : Stage → List (List ℕ) → Checked Program → Type 0

@@ -4,7 +4,7 @@ use Rattle.std.specs.FinMap.{insert}
 use Rattle.gsl_host.specs.Outside.{Files}
 use Rattle.gsl_words.specs.Bytes.{bytes_of}
 use Rattle.gsl_words.specs.declared.module.Module.{Module}
-use Rattle.gsl_cmd.specs.declared.program.Program.{Program}
+use Rattle.gsl_form.specs.declared.program.Program.{Program}
 use Rattle.gsl_cmd.specs.Job.{gather, Sources}
 use Rattle.gsl_cmd.specs.Carries.{Carries}
 use Rattle.gsl_cmd.specs.Plan.{Plan}

@@ -16,7 +16,7 @@ ghost use Rattle.gsl_cmd.specs.Written.{Written};
 
 use crate::compiling::{MAX_SOURCE_BYTES, compile, fault_in};
 use crate::plan::{Command, Stop};
-use crate::text::{HOST_TEXT, USAGE_TEXT, fault_text};
+use crate::text::{HOST_TEXT, USAGE_TEXT, told_fault};
 use gsl_base::{Bytes, Code, Fault, Refusal, Sources, Stage, Text, Words};
 use gsl_host::{Host, HostRefusal, ReadRefusal, Stream};
 use std::alloc::Global;
@@ -78,7 +78,7 @@ fn report<H: Host>(alloc: Global, file: &Text, stop: Stop, host: &mut H) -> u8
     match stop {
         Stop::Memory => 4,
         Stop::Host => say(alloc, HOST_TEXT, 3, host),
-        Stop::Fault(fault) => match fault_text(alloc, file, &fault) {
+        Stop::Fault(fault) => match told_fault(alloc, file, &fault) {
             Ok(text) => say(alloc, text.as_slice(), 1, host),
             Err(_) => 4,
         },

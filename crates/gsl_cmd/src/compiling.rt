@@ -1,16 +1,21 @@
 //! Compiling: from the sources of a stage to the bytes of a module.
 
-ghost use Rattle.std.specs.Prelude.{◌≡◌, length, IfOk, IfSome, IfNone};
+ghost use Rattle.std.specs.Prelude.{◌≡◌, ◌<◌, ◌^◌, length, IfOk, IfSome, IfNone};
+ghost use Rattle.gsl_base.specs.Checked.{Gives};
 ghost use Rattle.gsl_words.specs.Bytes.{bytes_of};
-ghost use Rattle.gsl_cmd.specs.declared.program.Program.{Program};
-ghost use Rattle.gsl_cmd.specs.Form.{IsProgram, Spells};
+ghost use Rattle.gsl_form.specs.declared.program.Program.{Program};
+ghost use Rattle.gsl_form.specs.Form.{IsProgram};
+ghost use Rattle.gsl_form.specs.Trees.{Spells};
 ghost use Rattle.gsl_cmd.specs.Lowering.{module_of};
-ghost use Rattle.gsl_cmd.specs.Verdict.{Compiles, fault_in as first_line};
+ghost use Rattle.gsl_cmd.specs.Verdict.{Compiles, tree_of, fault_in as first_line};
 
 use crate::lowering::lower;
-use crate::program::Program;
-use crate::reading::read_program;
 use gsl_base::{Bytes, Code, Fault, Memory, Place, Refusal, Sources, Stage};
+use gsl_form::{Program, read_program};
+use gsl_lex::lex;
+use gsl_parse::parse;
+use gsl_pp::preprocess;
+use gsl_syntax::Unit;
 use gsl_words::encode;
 use std::alloc::Global;
 
@@ -23,8 +28,9 @@ pub const MAX_SOURCE_BYTES: usize = 1_048_576;
 /// `specs/Places.antt` says, and is no larger than `specs/Weight.antt` says.
 ///
 /// One source is taken so far. `Refusal::Source` comes exactly where the sources have a fault: `E0900`
-/// where one is longer than `MAX_SOURCE_BYTES`, and else `E0001` where it is not of the form that
-/// `docs/LANGUAGE.md` describes.
+/// where one is longer than `MAX_SOURCE_BYTES`, else the first fault of the lexer, the preprocessor, the
+/// limit on nesting or the parser, else `E0001` where it is not of the form that `docs/LANGUAGE.md`
+/// describes.
 pub fn compile(alloc: Global, stage: Stage, sources: &Sources) -> Result<Bytes, Refusal>
     requires { length sources.now ≡ 1 }
     ensures { Compiles stage sources.now result }
@@ -33,19 +39,31 @@ pub fn compile(alloc: Global, stage: Stage, sources: &Sources) -> Result<Bytes, 
     if source.len() > MAX_SOURCE_BYTES {
         return Err(Refusal::Source(fault_in(0, Code::E0900)));
     }
-    match accepted(alloc, stage, source)? {
+    let tree = tree(alloc, 0, source)?;
+    match accepted(alloc, stage, &tree)? {
         None => Err(Refusal::Source(fault_in(0, Code::E0001))),
         Some(program) => Ok(file_of(alloc, &program)?),
     }
 }
 
-/// The program of a source, or `None` where it has no program of this stage.
-fn accepted(alloc: Global, stage: Stage, source: &[u8]) -> Result<Option<Program>, Memory>
-    ensures found { IfOk result (λ found. IfSome found (λ p. (stage ≡ Stage.Compute) × Spells source.now p)) }
-    ensures none { IfOk result (λ found. IfNone found ((p : Program) → stage ≡ Stage.Compute → Spells source.now p → ⊥)) }
+/// The tree of the source file of this number, or its first fault.
+#[tactic(auto, unfolding(crate::specs::Verdict::tree_of))]
+fn tree(alloc: Global, number: u32, source: &[u8]) -> Result<Unit, Refusal>
+    requires { length source.now < 2 ^ 32 }
+    ensures { Gives result (tree_of number source.now) }
+{
+    let raws = lex(alloc, number, source)?;
+    let tokens = preprocess(alloc, number, &raws)?;
+    parse(alloc, &tokens)
+}
+
+/// The program of a tree, or `None` where it has no program of this stage.
+fn accepted(alloc: Global, stage: Stage, tree: &Unit) -> Result<Option<Program>, Memory>
+    ensures found { IfOk result (λ found. IfSome found (λ p. (stage ≡ Stage.Compute) × Spells tree.now p)) }
+    ensures none { IfOk result (λ found. IfNone found ((p : Program) → stage ≡ Stage.Compute → Spells tree.now p → ⊥)) }
 {
     match stage {
-        Stage::Compute => read_program(alloc, source),
+        Stage::Compute => read_program(alloc, tree),
         Stage::Vertex | Stage::Fragment => Ok(None),
     }
 }

@@ -5,16 +5,10 @@ ghost use Rattle.gsl_base.specs.declared.fault.Fault.{Fault};
 ghost use Rattle.gsl_base.specs.declared.stage.Stage.{Stage};
 ghost use Rattle.gsl_base.specs.Checked.{Checked};
 ghost use Rattle.gsl_host.specs.Outside.{Files};
-ghost use Rattle.gsl_cmd.specs.declared.program.Program.{Program};
-ghost use Rattle.gsl_cmd.specs.Form.{IsProgram, text_of};
+ghost use Rattle.gsl_form.specs.declared.program.Program.{Program};
 ghost use Rattle.gsl_cmd.specs.Job.{Job, IsJob};
 ghost use Rattle.gsl_cmd.specs.Plan.{Plan};
 ghost use Rattle.gsl_cmd.specs.Verdict.{Accepts, FirstFault, Judges};
-
-/// Programs of one text are one program.
-pub fn one_program()
-    ensures { (p q : Program) → IsProgram p → IsProgram q → text_of p ≡ text_of q → p ≡ q }
-{}
 
 /// The rules give one program or one first fault, whatever the sources are.
 pub fn one_verdict()

@@ -2,9 +2,9 @@
 //! a status.
 //!
 //! `glsl_main` carries what a run does, against the job of its words and files (`specs/Job.antt`,
-//! `specs/Performs.antt`), and `compile` what a source compiles to (`specs/Verdict.antt`). The sources
-//! that are taken so far are those of `specs/Form.antt`, and `specs/Lowering.antt` has the module of each,
-//! which carries it as `specs/Carries.antt` says and is small as `specs/Weight.antt` says. The law `headline`
+//! `specs/Performs.antt`), and `compile` what a source compiles to (`specs/Verdict.antt`): the lexer, the
+//! preprocessor and the parser come first, and then the form that is built so far is asked of the tree
+//! (`gsl_form`). `specs/Lowering.antt` has the module of each program, which carries it as `specs/Carries.antt` says and is small as `specs/Weight.antt` says. The law `headline`
 //! says what that comes to.
 #![tactic(auto)]
 
@@ -15,8 +15,6 @@ mod laws;
 mod lowering;
 mod meaning;
 mod plan;
-mod program;
-mod reading;
 mod text;
 mod validity;
 
@@ -25,11 +23,7 @@ pub use compiling::{MAX_SOURCE_BYTES, compile};
 pub use gsl_manifest::{
     BufferLine, BufferLines, Manifest, ManifestRefusal, PushLine, listing, read_manifest,
 };
-pub use laws::{one_job, one_program, one_verdict};
+pub use laws::{one_job, one_verdict};
 pub use lowering::lower;
 pub use meaning::{headline, module_runs};
-pub use program::{
-    MAX_MEMBERS, MAX_STATEMENTS, MAX_TERMS, Names, Program, Statement, Statements, Term, Terms,
-};
-pub use reading::read_program;
 pub use validity::{module_is_placed, module_is_small, module_is_valid};

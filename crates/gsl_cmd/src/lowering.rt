@@ -5,11 +5,11 @@ ghost use Rattle.std.specs.List.{position};
 ghost use Rattle.gsl_words.specs.declared.module.Instr.{Instr};
 ghost use Rattle.gsl_instr.specs.declared.op.TheConstants as op;
 ghost use Rattle.gsl_cmd.specs.declared.lowering.id.TheConstants as id;
-ghost use Rattle.gsl_cmd.specs.Form.{IsProgram};
+ghost use Rattle.gsl_form.specs.Form.{IsProgram};
 ghost use Rattle.gsl_cmd.specs.Lowering as spec;
 
 use crate::code::Code;
-use crate::program::{Names, Program, Statement, Term};
+use gsl_form::{Names, Program, Statement, Term};
 use gsl_base::{List, Memory};
 use gsl_instr::enumerant::{
     capability, decoration, execution_mode, execution_model, memory_model, storage_class,

@@ -1,8 +1,8 @@
 //! What holds of the module of each program: calls that do nothing, whose contracts are the laws.
 
 ghost use Rattle.gsl_valid.specs.Valid.{Valid};
-ghost use Rattle.gsl_cmd.specs.declared.program.Program.{Program};
-ghost use Rattle.gsl_cmd.specs.Form.{IsProgram};
+ghost use Rattle.gsl_form.specs.declared.program.Program.{Program};
+ghost use Rattle.gsl_form.specs.Form.{IsProgram};
 ghost use Rattle.gsl_cmd.specs.Lowering.{module_of};
 ghost use Rattle.gsl_cmd.specs.Places.{Places};
 ghost use Rattle.gsl_cmd.specs.Weight.{IsSmall};

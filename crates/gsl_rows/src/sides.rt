@@ -1,7 +1,7 @@
 //! A shader and its module, run side by side by the slow programs.
 
 ghost use Rattle.std.specs.Prelude.{◌≡◌, [], IfOk};
-ghost use Rattle.gsl_cmd.specs.Form.{IsProgram};
+ghost use Rattle.gsl_form.specs.Form.{IsProgram};
 
 use crate::outline::{Done, Outline};
 use crate::running::dump;

@@ -9,7 +9,7 @@ use Rattle.gsl_base.specs.declared.input.Buffer.{Buffer}
 use Rattle.gsl_base.specs.declared.input.Input.{Input}
 use Rattle.gsl_base.specs.declared.input.Located.{Located}
 use Rattle.gsl_base.specs.declared.input.Output.{Output}
-use Rattle.gsl_cmd.specs.declared.program.Program.{Program}
+use Rattle.gsl_form.specs.declared.program.Program.{Program}
 use Rattle.gsl_cmd.specs.Buffers.{is_at, bytes_at, with_bytes, seen, put_words}
 use Rattle.gsl_cmd.specs.Fits.{fits}
 use Rattle.gsl_cmd.specs.Shader.{Got, Normal, SET, BINDING, block_bytes, run_statements, outcome_of}

@@ -1,7 +1,7 @@
 -- What the slow program of a shader does to the buffer of its block.
 use Rattle.std.specs.Prelude.{◌≡◌, ℕ, List, length}
 use Rattle.gsl_base.specs.declared.input.Buffer.{Buffer}
-use Rattle.gsl_cmd.specs.declared.program.Program.{Program}
+use Rattle.gsl_form.specs.declared.program.Program.{Program}
 use Rattle.gsl_cmd.specs.Buffers.{seen, put_words}
 use Rattle.gsl_cmd.specs.Shader.{Got, Normal, run_statements}
 

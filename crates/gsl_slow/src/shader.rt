@@ -2,7 +2,7 @@
 
 ghost use Rattle.std.specs.Prelude.{◌≡◌, ◌+◌, ◌*◌, ◌^◌, ◌<◌, ◌≤◌, List, ℕ, length, set, slice_index, IfOk, OnOk, Ok, position};
 ghost use Rattle.std.specs.List.{AllByRecursion};
-ghost use Rattle.gsl_cmd.specs.Form.{IsTerm, IsStatement, IsProgram};
+ghost use Rattle.gsl_form.specs.Form.{IsTerm, IsStatement, IsProgram};
 ghost use Rattle.gsl_cmd.specs.Words as sums;
 ghost use Rattle.gsl_words.specs.Words as spec;
 ghost use Rattle.gsl_cmd.specs.Buffers.{is_at, bytes_at, word_offset, seen, put_words};
@@ -13,7 +13,7 @@ ghost use Rattle.gsl_cmd.specs.Shader.{Got, Normal};
 ghost use Rattle.gsl_cmd.specs.Shader as shader;
 
 use gsl_base::{Buffer, Bytes, Comps, Input, InputRefusal, List, Memory, Output, Outs};
-use gsl_cmd::{Program, Statement, Term};
+use gsl_form::{Program, Statement, Term};
 use std::alloc::Global;
 use std::mem;
 

@@ -1,6 +1,6 @@
 use Rattle.std.proofs.Common.{◌≡◌, ◌≤◌, ◌+◌, ◌*◌, [], length, fold, take}
 use Rattle.std.specs.List.{range_with_len, flat_map}
-use Rattle.gsl_cmd.specs.declared.program.Statement.{Statement}
+use Rattle.gsl_form.specs.declared.program.Statement.{Statement}
 use Rattle.gsl_cmd.specs.Lowering.{with_value, literals_of}
 use Rattle.gsl_cmd.proofs.lowering.constants.Given as goal
 

@@ -3,7 +3,7 @@ use Rattle.std.specs.List.{range_with_len}
 use Rattle.gsl_instr.specs.declared.op.TheConstants as op
 use Rattle.gsl_instr.specs.Strings.{string_words}
 use Rattle.gsl_cmd.specs.declared.lowering.id.TheConstants as id
-use Rattle.gsl_cmd.specs.Form.{name_of}
+use Rattle.gsl_form.specs.Form.{name_of}
 use Rattle.gsl_cmd.specs.Lowering.{instr}
 use Rattle.gsl_cmd.proofs.lowering.put_names.Given as goal
 
