@@ -1,0 +1,4 @@
+pub mod Operators
+pub mod Values
+pub mod Reading
+pub mod Conditions

@@ -1,0 +1,19 @@
+//! Replacement of macros (GLSL 4.50, 3.3): which tokens does a list of tokens give, with a table of macros?
+#![tactic(auto)]
+
+mod expand;
+mod hides;
+mod moves;
+mod spelled;
+mod stream;
+mod table;
+
+pub use expand::fault;
+pub use hides::Hides;
+pub use moves::{MAX_DEPTH, all, next};
+pub use spelled::{Mark, Spelled};
+pub use stream::{Hid, Stream};
+pub use table::{Body, Macro, Macros, Shift, Table};
+
+#[cfg(test)]
+mod tests;

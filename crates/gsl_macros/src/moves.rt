@@ -1,0 +1,172 @@
+//! The moves: each gives out the first token or replaces it.
+
+ghost use Rattle.std.specs.Prelude.{◌≡◌, ◌<◌, ◌+◌, [], ◌∷◌, ◌++◌, length, Some};
+ghost use Rattle.std.specs.Option.{option_map};
+ghost use Rattle.gsl_macros.specs.Expanding as spec;
+ghost use Rattle.gsl_macros.specs.Steps as steps;
+
+use crate::expand::{arguments, count, fault, fits, put, put_number, used};
+use crate::hides::Hides;
+use crate::stream::{Hid, Stream, copied};
+use crate::table::{Body, Macro, Macros};
+use gsl_base::{Code, List, Refusal, Text};
+use std::alloc::Global;
+
+/// How deep the uses of function macros nest in one another's arguments.
+pub const MAX_DEPTH: u32 = 256;
+
+/// The next token that is given out, where arguments may nest so deep.
+#[cycle(moves)]
+pub fn next<'a>(
+    alloc: Global,
+    macros: &Macros<'a>,
+    depth: u32,
+    stream: &mut Stream<'a>,
+    left: &mut u32,
+) -> Result<Option<Hid<'a>>, Refusal>
+    ensures drawn { steps.Draws result (spec.traced macros.now depth stream.old left.old) (spec.traced macros.now depth stream.new left.new) left.new }
+    ensures less { steps.Less result (left.new + length stream.new) (left.old + length stream.old) }
+{
+    while let Some(token) = stream.take() {
+        count(&token, left)?;
+        let Some((number, found)) = used(&macros.table, &token, stream) else {
+            return Ok(Some(token));
+        };
+        replace(alloc, macros, depth, &token, number, found, stream, left)?;
+    }
+    Ok(None)
+}
+
+/// Replaces a token that names a macro.
+#[cycle(moves)]
+#[tactic(auto, unfolding(crate::specs::Expanding::replaced))]
+fn replace<'a>(
+    alloc: Global,
+    macros: &Macros<'a>,
+    depth: u32,
+    token: &Hid<'a>,
+    number: usize,
+    found: &Macro<'a>,
+    stream: &mut Stream<'a>,
+    left: &mut u32,
+) -> Result<(), Refusal>
+    ensures { steps.Leaves result (λ _. (stream.new, left.new)) (spec.replaced (spec.expander macros.now depth) macros.now token.now (number, found.now) stream.old left.old) }
+{
+    if let Macro::Function(params, body) = found {
+        return call(
+            alloc,
+            macros,
+            depth,
+            token,
+            number,
+            params.as_slice(),
+            body,
+            stream,
+            left,
+        );
+    }
+    let more = Hides::with(alloc, number, &token.hides)?;
+    let place = token.place;
+    match found {
+        Macro::Line => put_number(place, more, macros.shift.shown(place.line), stream, left),
+        Macro::File => put_number(place, more, macros.shift.file, stream, left),
+        Macro::Number(value) => put_number(place, more, *value, stream, left),
+        Macro::Object(body) => put(alloc, &[], &[], place, &more, body, stream, left),
+        Macro::Function(_, _) => unreachable!(),
+    }
+}
+
+/// Replaces the use of a function macro.
+#[cycle(moves)]
+fn call<'a>(
+    alloc: Global,
+    macros: &Macros<'a>,
+    depth: u32,
+    token: &Hid<'a>,
+    number: usize,
+    params: &[Text],
+    body: &Body<'a>,
+    stream: &mut Stream<'a>,
+    left: &mut u32,
+) -> Result<(), Refusal>
+    ensures { steps.Leaves result (λ _. (stream.new, left.new)) (spec.called (spec.expander macros.now depth) token.now number params.now body.now (spec.arguments stream.old left.old)) }
+{
+    let Some(parts) = arguments(alloc, stream, left)? else {
+        return Err(fault(token.place, Code::E0208));
+    };
+    if !fits(params, parts.args.as_slice()) {
+        return Err(fault(token.place, Code::E0207));
+    }
+    let args = each(alloc, macros, depth, token, parts.args.as_slice(), left)?;
+    let more = Hides::common(alloc, number, &token.hides, &parts.hides)?;
+    put(
+        alloc,
+        params,
+        args.as_slice(),
+        token.place,
+        &more,
+        body,
+        stream,
+        left,
+    )
+}
+
+/// Expands the arguments of a use from left to right.
+#[cycle(moves)]
+#[tactic(auto, unfolding(crate::specs::Expanding::each))]
+fn each<'a>(
+    alloc: Global,
+    macros: &Macros<'a>,
+    depth: u32,
+    token: &Hid<'a>,
+    args: &[List<Hid<'a>>],
+    left: &mut u32,
+) -> Result<List<List<Hid<'a>>>, Refusal>
+    ensures { steps.Leaves result (λ list. (list, left.new)) (spec.each (spec.expander macros.now depth) token.now.place args.now left.old) }
+{
+    let mut list = List::new(alloc);
+    let mut rest = args;
+    while let [arg, more @ ..] = rest {
+        list.push(expand(alloc, macros, depth, token, arg.as_slice(), left)?)?;
+        rest = more;
+    }
+    Ok(list)
+}
+
+/// Expands an argument of a use alone.
+#[cycle(moves)]
+#[tactic(auto, using(crate::proofs::Drawn::expander_below), unfolding(crate::specs::Expanding::expander))]
+fn expand<'a>(
+    alloc: Global,
+    macros: &Macros<'a>,
+    depth: u32,
+    token: &Hid<'a>,
+    tokens: &[Hid<'a>],
+    left: &mut u32,
+) -> Result<List<Hid<'a>>, Refusal>
+    ensures { steps.Leaves result (λ list. (list, left.new)) (spec.expander macros.now depth token.now.place tokens.now left.old) }
+{
+    if depth == 0 {
+        return Err(fault(token.place, Code::E0902));
+    }
+    let mut stream = Stream::of(alloc, copied(alloc, tokens)?)?;
+    all(alloc, macros, depth - 1, &mut stream, left)
+}
+
+/// All tokens that are given out.
+#[cycle(moves)]
+pub fn all<'a>(
+    alloc: Global,
+    macros: &Macros<'a>,
+    depth: u32,
+    stream: &mut Stream<'a>,
+    left: &mut u32,
+) -> Result<List<Hid<'a>>, Refusal>
+    ensures { steps.Leaves result (λ list. (list, left.new)) (spec.whole (spec.traced macros.now depth stream.old left.old)) }
+{
+    let mut list = List::new(alloc);
+    while let Some(token) = next(alloc, macros, depth, stream, left)? {
+        list.push(token)?;
+    }
+    Ok(list)
+}

@@ -1,0 +1,13 @@
+use Rattle.std.proofs.Common.{ap, sym, ◌∙◌}
+use Rattle.gsl_pp.specs.Feeding.{goes_on}
+use Rattle.gsl_pp.specs.Unit.{unit_from, at_end}
+use Rattle.gsl_pp.specs.Directives.{outermost}
+use Rattle.gsl_pp.proofs.Fed.{draws_same, unit_none}
+use Rattle.gsl_pp.proofs.feed.Feed.draw.Goals as goal
+
+pub returns-in_default-first_of-clause-drawn : goal.returns-in_default-first_of-clause-drawn
+returns-in_default-first_of-clause-drawn c =
+    let now = c.draw_here.new.self.state in
+    draws_same c.end.result (goes_on c.args.self.now) (at_end now (outermost now.groups)) (goes_on c.draw_here.new.self) now.left
+    (sym c.loop-token.invariant.0 ∙ (rw c.in_default.is at c.in_ok-token.ensures.drawn) ∙ ap (λ raws. unit_from raws 0 now) c.in_default-first_of.ensures ∙ unit_none now)
+    c.end.ensures

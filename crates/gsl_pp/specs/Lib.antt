@@ -1,0 +1,5 @@
+pub mod Words
+pub mod Definitions
+pub mod Directives
+pub mod Unit
+pub mod Feeding
