@@ -9,8 +9,8 @@ ghost use Rattle.gsl_form.specs.Form.{IsProgram};
 ghost use Rattle.gsl_cmd.specs.Lowering as spec;
 
 use crate::code::Code;
-use gsl_form::{Names, Program, Statement, Term};
 use gsl_base::{List, Memory};
+use gsl_form::{Names, Program, Statement, Term};
 use gsl_instr::enumerant::{
     capability, decoration, execution_mode, execution_model, memory_model, storage_class,
 };

@@ -12,6 +12,8 @@ pub enum Kind {
     Tree,
     /// A text is parsed, and what came is told.
     Parsed,
+    /// The live tokens of a text are printed.
+    Tokens,
     /// A text is compiled for each stage.
     Stages,
     /// A shader and its module run on a buffer, side by side.

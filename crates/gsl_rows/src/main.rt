@@ -10,6 +10,7 @@ mod outline;
 mod reader;
 mod running;
 mod sides;
+mod sources;
 mod spelling;
 mod statements;
 mod text;

@@ -77,6 +77,7 @@ fn take(
         }
         "tree" => case.kind = Kind::Tree,
         "parsed" => case.kind = Kind::Parsed,
+        "tokens" => case.kind = Kind::Tokens,
         "stages" => case.kind = Kind::Stages,
         "sides" => case.kind = Kind::Sides,
         "show" => case.shown.push(String::from_str(alloc, rest)?)?,

@@ -3,14 +3,11 @@
 use crate::case::{Case, Kind};
 use crate::outline::{Done, Outline};
 use crate::sides::sides;
-use crate::statements::unit;
+use crate::sources::{stages, tokens, tree};
 use crate::text::{bytes_of, filled};
-use gsl_base::{Bytes, Fault, Memory, Refusal, Sources, Stage, Text, Tokens, Words};
-use gsl_cmd::{compile, glsl_main};
+use gsl_base::{Bytes, Memory, Text, Words};
+use gsl_cmd::glsl_main;
 use gsl_host::MemHost;
-use gsl_lex::{cook, lex};
-use gsl_parse::parse;
-use gsl_syntax::Unit;
 use std::alloc::Global;
 
 /// Runs a case, once for each of its alternatives, and prints what came.
@@ -35,6 +32,7 @@ fn run_one(alloc: Global, out: &mut Outline, case: &Case, each: &str) -> Done {
         Kind::Run => run_words(alloc, out, case, each),
         Kind::Tree => tree(alloc, out, source(alloc, case, each)?.as_slice(), true),
         Kind::Parsed => tree(alloc, out, source(alloc, case, each)?.as_slice(), false),
+        Kind::Tokens => tokens(alloc, out, source(alloc, case, each)?.as_slice()),
         Kind::Stages => stages(alloc, out, source(alloc, case, each)?.as_slice()),
         Kind::Sides => {
             let text = source(alloc, case, each)?;
@@ -172,56 +170,6 @@ pub fn dump(out: &mut Outline, bytes: &[u8]) -> Done {
             out.hex_byte(*byte)?;
         }
         out.end_line()?;
-    }
-    Ok(())
-}
-
-/// The tree of a text: its raw tokens, made live one by one, and parsed.
-fn parsed(alloc: Global, source: &[u8]) -> Result<Unit, Refusal> {
-    if source.len() > 16_777_216 {
-        return Err(Refusal::Memory);
-    }
-    let raws = lex(alloc, 0, source)?;
-    let mut tokens = Tokens::new(alloc);
-    for raw in raws.as_slice() {
-        tokens.push(cook(alloc, raw)?)?;
-    }
-    parse(alloc, &tokens)
-}
-
-/// Prints the tree of a text, or that it has one; or its first fault with its line.
-fn tree(alloc: Global, out: &mut Outline, source: &[u8], whole: bool) -> Done {
-    match parsed(alloc, source) {
-        Ok(tree) if whole => unit(out, &tree),
-        Ok(_) => out.put("parsed\n"),
-        Err(Refusal::Source(fault)) => faulty(out, &fault),
-        Err(Refusal::Memory) => Err(Memory),
-    }
-}
-
-/// A fault's code and line.
-fn faulty(out: &mut Outline, fault: &Fault) -> Done {
-    out.code(fault.code)?;
-    out.put(" line ")?;
-    out.number(u64::from(fault.place.line))?;
-    out.end_line()
-}
-
-/// Prints for each stage whether a text compiles.
-fn stages(alloc: Global, out: &mut Outline, source: &[u8]) -> Done {
-    for (name, stage) in [
-        ("vert ", Stage::Vertex),
-        ("frag ", Stage::Fragment),
-        ("comp ", Stage::Compute),
-    ] {
-        let mut sources = Sources::new(alloc);
-        sources.push(Bytes::from_slice(alloc, source)?)?;
-        out.put(name)?;
-        match compile(alloc, stage, &sources) {
-            Ok(_) => out.put("compiled\n")?,
-            Err(Refusal::Source(fault)) => faulty(out, &fault)?,
-            Err(Refusal::Memory) => return Err(Memory),
-        }
     }
     Ok(())
 }

@@ -1,12 +1,16 @@
 //! A shader and its module, run side by side by the slow programs.
 
-ghost use Rattle.std.specs.Prelude.{◌≡◌, [], IfOk};
+ghost use Rattle.std.specs.Prelude.{◌≡◌, [], IfOk, IfSome};
 ghost use Rattle.gsl_form.specs.Form.{IsProgram};
 
 use crate::outline::{Done, Outline};
 use crate::running::dump;
-use gsl_base::{Buffer, Buffers, Bytes, Choices32, Input, InputRefusal, Ins, Memory, Output};
-use gsl_cmd::{Program, lower, read_program};
+use crate::sources::source_tree;
+use gsl_base::{
+    Buffer, Buffers, Bytes, Choices32, Input, InputRefusal, Ins, Memory, Output, Refusal,
+};
+use gsl_cmd::lower;
+use gsl_form::{Program, read_program};
 use gsl_slow::{SlowRun, fits_shader, run_module, run_shader};
 use std::alloc::Global;
 
@@ -38,6 +42,17 @@ fn input(alloc: Global, buffer: &Option<(u32, Bytes)>) -> Result<Input, Memory>
     })
 }
 
+/// The program of a source, if it has one.
+fn program(alloc: Global, source: &[u8]) -> Result<Option<Program>, Memory>
+    ensures { IfOk result (λ found. IfSome found IsProgram) }
+{
+    match source_tree(alloc, source) {
+        Ok(tree) => read_program(alloc, &tree),
+        Err(Refusal::Source(_)) => Ok(None),
+        Err(Refusal::Memory) => Err(Memory),
+    }
+}
+
 /// Prints what a shader does on a buffer, and what its module does.
 pub fn sides(
     alloc: Global,
@@ -45,7 +60,7 @@ pub fn sides(
     source: &[u8],
     buffer: &Option<(u32, Bytes)>,
 ) -> Done {
-    match read_program(alloc, source)? {
+    match program(alloc, source)? {
         None => out.put("no program\n"),
         Some(program) => {
             let input = input(alloc, buffer)?;

@@ -1,0 +1,124 @@
+//! Texts: their live tokens, their trees, and what they compile to.
+
+use crate::outline::{Done, Outline};
+use crate::spelling::{key_word, punct};
+use crate::statements::unit;
+use gsl_base::{Bytes, Fault, Kind, Memory, Refusal, Sources, Stage, Token, Tokens};
+use gsl_cmd::compile;
+use gsl_lex::{cook, lex};
+use gsl_parse::parse;
+use gsl_pp::preprocess;
+use gsl_syntax::Unit;
+use std::alloc::Global;
+
+/// The longest text that is looked at.
+const MAX_BYTES: usize = 16_777_216;
+
+/// The tree of a text: its raw tokens, made live one by one, and parsed.
+fn parsed(alloc: Global, source: &[u8]) -> Result<Unit, Refusal> {
+    if source.len() > MAX_BYTES {
+        return Err(Refusal::Memory);
+    }
+    let raws = lex(alloc, 0, source)?;
+    let mut tokens = Tokens::new(alloc);
+    for raw in raws.as_slice() {
+        tokens.push(cook(alloc, raw)?)?;
+    }
+    parse(alloc, &tokens)
+}
+
+/// The live tokens of a text.
+fn live(alloc: Global, source: &[u8]) -> Result<Tokens, Refusal> {
+    if source.len() > MAX_BYTES {
+        return Err(Refusal::Memory);
+    }
+    let raws = lex(alloc, 0, source)?;
+    preprocess(alloc, 0, &raws)
+}
+
+/// The tree of a source.
+pub fn source_tree(alloc: Global, source: &[u8]) -> Result<Unit, Refusal> {
+    let tokens = live(alloc, source)?;
+    parse(alloc, &tokens)
+}
+
+/// Prints the live tokens of a text with their lines, those of a line together; or its first fault.
+pub fn tokens(alloc: Global, out: &mut Outline, source: &[u8]) -> Done {
+    match live(alloc, source) {
+        Ok(tokens) => token_lines(out, tokens.as_slice()),
+        Err(Refusal::Source(fault)) => faulty(out, &fault),
+        Err(Refusal::Memory) => Err(Memory),
+    }
+}
+
+fn token_lines(out: &mut Outline, tokens: &[Token]) -> Done {
+    let mut line = 0;
+    for token in tokens {
+        if token.place.line != line {
+            if line != 0 {
+                out.end_line()?;
+            }
+            line = token.place.line;
+            out.put("line ")?;
+            out.number(u64::from(line))?;
+            out.put(":")?;
+        }
+        out.put(" ")?;
+        kind(out, &token.kind)?;
+    }
+    if line == 0 {
+        out.put("no token\n")
+    } else {
+        out.end_line()
+    }
+}
+
+fn kind(out: &mut Outline, kind: &Kind) -> Done {
+    match kind {
+        Kind::Name(name) => out.put(name.as_str()),
+        Kind::Key(key) => out.put(key_word(*key)),
+        Kind::Signed(word) => out.number(u64::from(*word)),
+        Kind::Unsigned(word) => {
+            out.number(u64::from(*word))?;
+            out.put("u")
+        }
+        Kind::Punct(mark) => out.put(punct(*mark)),
+    }
+}
+
+/// Prints the tree of a text, or that it has one; or its first fault with its line.
+pub fn tree(alloc: Global, out: &mut Outline, source: &[u8], whole: bool) -> Done {
+    match parsed(alloc, source) {
+        Ok(tree) if whole => unit(out, &tree),
+        Ok(_) => out.put("parsed\n"),
+        Err(Refusal::Source(fault)) => faulty(out, &fault),
+        Err(Refusal::Memory) => Err(Memory),
+    }
+}
+
+/// A fault's code and line.
+pub fn faulty(out: &mut Outline, fault: &Fault) -> Done {
+    out.code(fault.code)?;
+    out.put(" line ")?;
+    out.number(u64::from(fault.place.line))?;
+    out.end_line()
+}
+
+/// Prints for each stage whether a text compiles.
+pub fn stages(alloc: Global, out: &mut Outline, source: &[u8]) -> Done {
+    for (name, stage) in [
+        ("vert ", Stage::Vertex),
+        ("frag ", Stage::Fragment),
+        ("comp ", Stage::Compute),
+    ] {
+        let mut sources = Sources::new(alloc);
+        sources.push(Bytes::from_slice(alloc, source)?)?;
+        out.put(name)?;
+        match compile(alloc, stage, &sources) {
+            Ok(_) => out.put("compiled\n")?,
+            Err(Refusal::Source(fault)) => faulty(out, &fault)?,
+            Err(Refusal::Memory) => return Err(Memory),
+        }
+    }
+    Ok(())
+}
