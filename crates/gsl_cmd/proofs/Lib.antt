@@ -34,3 +34,4 @@ pub mod Among
 pub mod Lookups
 pub mod Carried
 pub mod All
+pub mod Compiled

@@ -78,6 +78,12 @@ abbrev pub Judges : Stage → List (List ℕ) → Checked Program → Type 0
 Judges stage sources (Ok p) = Accepts stage sources p
 Judges stage sources (Err fault) = FirstFault stage sources fault
 
+-- What compiling a tree answers: the file of the module of its program, or that it is not of the form.
+abbrev pub CompilesTree : Stage → Tree → Result (List ℕ) Refusal → Type 0
+CompilesTree stage tree (Ok bytes) = (p : Program) × (stage ≡ Compute) × Spells tree p × (bytes ≡ bytes_of (module_of p))
+CompilesTree stage tree (Err (refusal.Source fault)) = (fault ≡ fault_in 0 E0001) × ((p : Program) → stage ≡ Compute → Spells tree p → ⊥)
+CompilesTree stage tree (Err refusal.Memory) = Unit {0}
+
 -- What compiling the sources answers: the file of the program's module, which carries the program and is small for it,
 -- or the sources' first fault.
 abbrev pub Compiles : Stage → List (List ℕ) → Result (List ℕ) Refusal → Type 0

@@ -7,7 +7,7 @@ ghost use Rattle.gsl_form.specs.declared.program.Program.{Program};
 ghost use Rattle.gsl_form.specs.Form.{IsProgram};
 ghost use Rattle.gsl_form.specs.Trees.{Spells};
 ghost use Rattle.gsl_cmd.specs.Lowering.{module_of};
-ghost use Rattle.gsl_cmd.specs.Verdict.{Compiles, tree_of, fault_in as first_line};
+ghost use Rattle.gsl_cmd.specs.Verdict.{Compiles, CompilesTree, tree_of, fault_in as first_line};
 
 use crate::lowering::lower;
 use gsl_base::{Bytes, Code, Fault, Memory, Place, Refusal, Sources, Stage};
@@ -39,10 +39,9 @@ pub fn compile(alloc: Global, stage: Stage, sources: &Sources) -> Result<Bytes, 
     if source.len() > MAX_SOURCE_BYTES {
         return Err(Refusal::Source(fault_in(0, Code::E0900)));
     }
-    let tree = tree(alloc, 0, source)?;
-    match accepted(alloc, stage, &tree)? {
-        None => Err(Refusal::Source(fault_in(0, Code::E0001))),
-        Some(program) => Ok(file_of(alloc, &program)?),
+    match tree(alloc, 0, source) {
+        Ok(tree) => compile_tree(alloc, stage, &tree),
+        Err(refusal) => Err(refusal),
     }
 }
 
@@ -55,6 +54,16 @@ fn tree(alloc: Global, number: u32, source: &[u8]) -> Result<Unit, Refusal>
     let raws = lex(alloc, number, source)?;
     let tokens = preprocess(alloc, number, &raws)?;
     parse(alloc, &tokens)
+}
+
+/// The bytes of the module of a tree, or `E0001` where it is not of the form.
+fn compile_tree(alloc: Global, stage: Stage, tree: &Unit) -> Result<Bytes, Refusal>
+    ensures { CompilesTree stage tree.now result }
+{
+    match accepted(alloc, stage, tree)? {
+        None => Err(Refusal::Source(fault_in(0, Code::E0001))),
+        Some(program) => Ok(file_of(alloc, &program)?),
+    }
 }
 
 /// The program of a tree, or `None` where it has no program of this stage.

@@ -14,6 +14,8 @@ pub enum Kind {
     Parsed,
     /// The live tokens of a text are printed.
     Tokens,
+    /// The same, with their lines.
+    Places,
     /// A text is compiled for each stage.
     Stages,
     /// A shader and its module run on a buffer, side by side.

@@ -78,6 +78,7 @@ fn take(
         "tree" => case.kind = Kind::Tree,
         "parsed" => case.kind = Kind::Parsed,
         "tokens" => case.kind = Kind::Tokens,
+        "places" => case.kind = Kind::Places,
         "stages" => case.kind = Kind::Stages,
         "sides" => case.kind = Kind::Sides,
         "show" => case.shown.push(String::from_str(alloc, rest)?)?,

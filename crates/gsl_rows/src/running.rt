@@ -3,7 +3,7 @@
 use crate::case::{Case, Kind};
 use crate::outline::{Done, Outline};
 use crate::sides::sides;
-use crate::sources::{stages, tokens, tree};
+use crate::sources::{places, stages, tokens, tree};
 use crate::text::{bytes_of, filled};
 use gsl_base::{Bytes, Memory, Text, Words};
 use gsl_cmd::glsl_main;
@@ -33,6 +33,7 @@ fn run_one(alloc: Global, out: &mut Outline, case: &Case, each: &str) -> Done {
         Kind::Tree => tree(alloc, out, source(alloc, case, each)?.as_slice(), true),
         Kind::Parsed => tree(alloc, out, source(alloc, case, each)?.as_slice(), false),
         Kind::Tokens => tokens(alloc, out, source(alloc, case, each)?.as_slice()),
+        Kind::Places => places(alloc, out, source(alloc, case, each)?.as_slice()),
         Kind::Stages => stages(alloc, out, source(alloc, case, each)?.as_slice()),
         Kind::Sides => {
             let text = source(alloc, case, each)?;

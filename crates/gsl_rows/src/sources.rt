@@ -42,35 +42,46 @@ pub fn source_tree(alloc: Global, source: &[u8]) -> Result<Unit, Refusal> {
     parse(alloc, &tokens)
 }
 
-/// Prints the live tokens of a text with their lines, those of a line together; or its first fault.
+/// Prints the live tokens of a text in one line, or its first fault.
 pub fn tokens(alloc: Global, out: &mut Outline, source: &[u8]) -> Done {
     match live(alloc, source) {
-        Ok(tokens) => token_lines(out, tokens.as_slice()),
+        Ok(tokens) => token_line(out, tokens.as_slice()),
         Err(Refusal::Source(fault)) => faulty(out, &fault),
         Err(Refusal::Memory) => Err(Memory),
     }
 }
 
-fn token_lines(out: &mut Outline, tokens: &[Token]) -> Done {
-    let mut line = 0;
+fn token_line(out: &mut Outline, tokens: &[Token]) -> Done {
+    if tokens.is_empty() {
+        return out.put("no token\n");
+    }
+    let mut separator = "";
     for token in tokens {
-        if token.place.line != line {
-            if line != 0 {
-                out.end_line()?;
-            }
-            line = token.place.line;
-            out.put("line ")?;
-            out.number(u64::from(line))?;
-            out.put(":")?;
-        }
-        out.put(" ")?;
+        out.put(separator)?;
+        separator = " ";
         kind(out, &token.kind)?;
     }
-    if line == 0 {
-        out.put("no token\n")
-    } else {
-        out.end_line()
+    out.end_line()
+}
+
+/// Prints the live tokens of a text, each with its line behind a colon, or its first fault.
+pub fn places(alloc: Global, out: &mut Outline, source: &[u8]) -> Done {
+    match live(alloc, source) {
+        Ok(tokens) => placed_line(out, tokens.as_slice()),
+        Err(Refusal::Source(fault)) => faulty(out, &fault),
+        Err(Refusal::Memory) => Err(Memory),
     }
+}
+
+fn placed_line(out: &mut Outline, tokens: &[Token]) -> Done {
+    let mut separator = "";
+    for token in tokens {
+        out.put(separator)?;
+        separator = " ";
+        kind(out, &token.kind)?;
+        out.node("", token.place)?;
+    }
+    out.end_line()
 }
 
 fn kind(out: &mut Outline, kind: &Kind) -> Done {
