@@ -194,12 +194,18 @@ fn a_block_has_at_most_16777216_bytes(rt: HostRuntime) -> Result<(), std::test::
         array(rt.alloc(), Ty::One(Scalar::Int), 4_194_304)?,
     )?;
     assert_eq!(rt; alone(rt.alloc(), &Std430, &most)?.size(), 16_777_216);
-    assert_eq!(rt; alone(rt.alloc(), &Std140, &most).err(), Some(LayRefusal::TooLarge));
+    assert_eq!(rt;
+        alone(rt.alloc(), &Std140, &most).err(),
+        Some(LayRefusal::TooLarge)
+    );
     let more = one(
         rt.alloc(),
         array(rt.alloc(), Ty::One(Scalar::Int), 4_194_305)?,
     )?;
-    assert_eq!(rt; alone(rt.alloc(), &Std430, &more).err(), Some(LayRefusal::TooLarge));
+    assert_eq!(rt;
+        alone(rt.alloc(), &Std430, &more).err(),
+        Some(LayRefusal::TooLarge)
+    );
     let most = one(
         rt.alloc(),
         array(rt.alloc(), Ty::One(Scalar::Int), 1_048_576)?,
@@ -215,7 +221,10 @@ fn a_stride_has_at_most_16777216_bytes(rt: HostRuntime) -> Result<(), std::test:
     assert_eq!(rt; alone(rt.alloc(), &Std430, &members)?.size(), 0);
     let more = array(rt.alloc(), Ty::One(Scalar::Int), 4_194_305)?;
     let members = one(rt.alloc(), runtime(rt.alloc(), more)?)?;
-    assert_eq!(rt; alone(rt.alloc(), &Std430, &members).err(), Some(LayRefusal::TooLarge));
+    assert_eq!(rt;
+        alone(rt.alloc(), &Std430, &members).err(),
+        Some(LayRefusal::TooLarge)
+    );
     Ok(())
 }
 
