@@ -27,8 +27,8 @@ module _ (stage : Stage) (out : Name) (names : List Name) (before : Files) (afte
     e,
     right,
     files ∙ ap Some (ap (λ (j : Job). effect_on j.effect before) is),
-    program_carries p right.spelled.fits,
-    module_small p right.spelled.fits,
+    program_carries p right.formed.spelled.fits,
+    module_small p right.formed.spelled.fits,
   )
 
 pub job_written : (plan : Plan) (before : Files) (after : Option Files) (job : Job) → IsJob plan before job → job.status ≡ 0 →
