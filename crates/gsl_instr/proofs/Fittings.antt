@@ -126,7 +126,7 @@ further w words text more large small full (Some r) there e =
     (nonzero_cons (w / 256 % 256) (w / 65536 % 256 ∷ w / 16777216 % 256 ∷ r.0) parts.1
     (nonzero_cons (w / 65536 % 256) (w / 16777216 % 256 ∷ r.0) parts.2 (nonzero_cons (w / 16777216 % 256) r.0 last rest.1))) in (
       ap (λ n. n ∷ words) (sym (word_full w small)) ∙ ap (λ l. word_of (w % 256) (w / 256 % 256) (w / 65536 % 256) (w / 16777216 % 256) ∷ l) rest.0
-      ∙ ap (λ l. string_words l ++ r.1) t ∙ ap (λ l. string_words text ++ l) k,
+          ∙ ap (λ l. string_words l ++ r.1) t ∙ ap (λ l. string_words text ++ l) k,
       subst Nonzero t all,
     )
 

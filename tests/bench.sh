@@ -1,0 +1,69 @@
+#!/usr/bin/env bash
+# Times the program beside Khronos' compiler, in one run: seconds, peak memory in KiB, and their ratio; then the program's
+# instructions as inputs double. What is not installed is left out. It is no part of the gate.
+set -eu
+top=$(cd "$(dirname "${BASH_SOURCE[0]}")/.." && pwd)
+program=$top/crates/gsl/out/gsl
+if [ ! -x "$program" ]; then
+  echo "bench: the program is not built; ./gsl --prove builds it" >&2
+  exit 1
+fi
+made=$(mktemp -d)
+trap 'rm -rf "$made"' EXIT
+
+source_of() { python3 "$top/tests/generate.py" "$1" "$2"; }
+
+# Seconds and peak memory of a command, the best of three runs.
+measure() {
+  local best=none seconds memory
+  for _ in 1 2 3; do
+    /usr/bin/time -f '%e %M' -o "$made/time" "$@" >"$made/out" 2>&1 || true
+    read -r seconds memory < <(tail -1 "$made/time")
+    if [ "$best" = none ] || [ "$(echo "$seconds < ${best% *}" | bc)" = 1 ]; then best="$seconds $memory"; fi
+  done
+  echo "$best"
+}
+
+beside() {
+  local ours theirs
+  source_of "$2" "$3" >"$made/a.comp"
+  ours=$(measure "$program" compile comp "$made/a.spv" "$made/a.comp")
+  if command -v glslangValidator >/dev/null; then
+    theirs=$(measure glslangValidator -V -S comp -o "$made/b.spv" "$made/a.comp")
+  else
+    theirs="- -"
+  fi
+  awk -v name="$1" -v bytes="$(stat -c %s "$made/a.comp")" -v ours="$ours" -v theirs="$theirs" 'BEGIN {
+    split(ours, o, " "); split(theirs, t, " ");
+    ratio = t[1] == "-" || o[1] == 0 ? "-" : sprintf("%.1f", t[1] / o[1]);
+    printf "%-24s %9d bytes   ours %6.2f s %8d KiB   glslang %6s s %8s KiB   times as fast %s\n", name, bytes, o[1], o[2], t[1], t[2], ratio }'
+}
+
+instructions() {
+  valgrind --tool=callgrind --callgrind-out-file="$made/callgrind" "$program" compile comp "$made/a.spv" "$made/a.comp" 2>&1 |
+    awk '/Collected/ { print $4 }'
+}
+
+doubling() {
+  local one two
+  source_of "$2" "$3" >"$made/a.comp"
+  one=$(instructions)
+  source_of "$2" "$((2 * $3))" >"$made/a.comp"
+  two=$(instructions)
+  awk -v name="$1" -v one="$one" -v two="$two" 'BEGIN { printf "%-24s %13d, doubled %13d instructions: %.2f times\n", name, one, two, two / one }'
+}
+
+beside "1 function" functions 1
+beside "100 functions" functions 100
+beside "1,000 functions" functions 1000
+beside "1 MiB of dense tokens" tokens 1048000
+beside "a chain of 10,000 macros" macros 10000
+if command -v valgrind >/dev/null; then
+  doubling "tokens" tokens 100000
+  doubling "macros defined" directives 2000
+  doubling "macro uses" uses 2000
+  doubling "a chain of macros" macros 1000
+  doubling "nested conditions" conditions 2000
+else
+  echo "valgrind is not installed: no instructions counted"
+fi

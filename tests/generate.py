@@ -1,0 +1,64 @@
+#!/usr/bin/env python3
+"""Writes sources to measure on, to standard output.
+
+generate.py functions N     a compute shader of N functions that main calls one behind the other
+generate.py tokens BYTES    dense tokens: statements of one function, about so many bytes
+generate.py macros N        N object macros, each defined as the one before it, and a use of the last
+generate.py uses N          N uses of a function macro in one another's results
+generate.py directives N    N definitions of macros
+generate.py conditions N    N conditions, one in another
+"""
+import sys
+
+
+def functions(count):
+    yield "#version 450\nlayout(local_size_x = 1) in;\nlayout(set = 0, binding = 0, std430) buffer B { uint s; };\n"
+    for k in range(count):
+        yield f"uint f{k}(uint x) {{ x = x * 1664525u + {k}u; return x ^ (x >> 3); }}\n"
+    yield "void main() {\n"
+    for k in range(count):
+        yield f"s = f{k}(s);\n"
+    yield "}\n"
+
+
+def tokens(size):
+    yield "#version 450\nlayout(local_size_x = 1) in;\nvoid main() {\nint a;\n"
+    line = "a=a+1;a=a+2;a=a+3;a=a+4;a=a+5;a=a+6;a=a+7;a=a+8;\n"
+    for _ in range(size // len(line)):
+        yield line
+    yield "}\n"
+
+
+def macros(count):
+    yield "#version 450\n#define M0 1\n"
+    for k in range(1, count):
+        yield f"#define M{k} M{k - 1}\n"
+    yield f"int a = M{count - 1};\n"
+
+
+def uses(count):
+    yield "#version 450\n#define f(x) x + g(x)\n#define g(x) x\n"
+    for _ in range(count):
+        yield "int a = f(1 2 3);\n"
+
+
+def directives(count):
+    yield "#version 450\n"
+    for k in range(count):
+        yield f"#define M{k} {k}\n#undef M{k}\n"
+
+
+def conditions(count):
+    yield "#version 450\n"
+    for _ in range(count):
+        yield "#if 1 + 1 == 2\n"
+    yield "int a;\n"
+    for _ in range(count):
+        yield "#endif\n"
+
+
+KINDS = {f.__name__: f for f in (functions, tokens, macros, uses, directives, conditions)}
+
+if len(sys.argv) != 3 or sys.argv[1] not in KINDS or not sys.argv[2].isdigit():
+    sys.exit(__doc__)
+sys.stdout.writelines(KINDS[sys.argv[1]](int(sys.argv[2])))
