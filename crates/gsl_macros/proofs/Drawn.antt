@@ -6,7 +6,7 @@ use Rattle.gsl_base.specs.declared.fault.Refusal.{Refusal}
 use Rattle.gsl_base.specs.declared.fault.Refusal.TheVariants.{Source, Memory}
 use Rattle.gsl_macros.specs.declared.stream.Hid.{Hid}
 use Rattle.gsl_macros.specs.declared.table.Macros.{Macros}
-use Rattle.gsl_macros.specs.Expanding.{Seen, Numbered, Trace, taken, traced, expander, replaced, use_of, whole}
+use Rattle.gsl_macros.specs.Expanding.{Numbered, Seen, Trace, expander, replaced, taken, traced, use_of, whole}
 use Rattle.gsl_macros.specs.Steps.{Draws}
 use Rattle.gsl_macros.proofs.Fuel.{traced_uncounted, traced_faults, expander_is}
 

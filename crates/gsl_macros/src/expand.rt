@@ -4,6 +4,7 @@ ghost use Rattle.std.specs.Prelude.{◌≡◌, ℕ, ◌<◌, ◌≤◌, ◌+◌,
 ghost use Rattle.std.specs.Option.{option_map};
 ghost use Rattle.gsl_base.specs.Checked.{Gives};
 ghost use Rattle.gsl_macros.specs.Expanding as spec;
+ghost use Rattle.gsl_macros.specs.Hiding.{shared};
 ghost use Rattle.gsl_macros.specs.Spelling.{number, word_of};
 ghost use Rattle.gsl_macros.specs.Steps as steps;
 
@@ -209,6 +210,24 @@ pub(crate) fn put<'a>(
     take_from(left, tokens.len());
     stream.put(tokens)?;
     Ok(())
+}
+
+/// Puts the body of a function macro for a use with these arguments, whose closing parenthesis has these hides.
+pub(crate) fn put_call<'a>(
+    alloc: Global,
+    params: &[Text],
+    args: &[List<Hid<'a>>],
+    token: &Hid<'a>,
+    number: usize,
+    close: &Hides,
+    body: &Body<'a>,
+    stream: &mut Stream<'a>,
+    left: &mut u32,
+) -> Result<(), Refusal>
+    ensures { steps.Leaves result (λ _. (stream.new, left.new)) (spec.put token.now.place (spec.filled params.now args.now token.now.place (number ∷ shared token.now.hides close.now) body.now) stream.old left.old) }
+{
+    let more = Hides::common(alloc, number, &token.hides, close)?;
+    put(alloc, params, args, token.place, &more, body, stream, left)
 }
 
 /// Puts a number that is made in front of what is looked at.

@@ -1,6 +1,7 @@
 //! Replacement of macros (GLSL 4.50, 3.3): which tokens does a list of tokens give, with a table of macros?
 #![tactic(auto)]
 
+mod chunk;
 mod expand;
 mod hides;
 mod moves;

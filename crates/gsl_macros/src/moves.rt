@@ -5,7 +5,7 @@ ghost use Rattle.std.specs.Option.{option_map};
 ghost use Rattle.gsl_macros.specs.Expanding as spec;
 ghost use Rattle.gsl_macros.specs.Steps as steps;
 
-use crate::expand::{arguments, count, fault, fits, put, put_number, used};
+use crate::expand::{arguments, count, fault, fits, put, put_call, put_number, used};
 use crate::hides::Hides;
 use crate::stream::{Hid, Stream, copied};
 use crate::table::{Body, Macro, Macros};
@@ -98,13 +98,13 @@ fn call<'a>(
         return Err(fault(token.place, Code::E0207));
     }
     let args = each(alloc, macros, depth, token, parts.args.as_slice(), left)?;
-    let more = Hides::common(alloc, number, &token.hides, &parts.hides)?;
-    put(
+    put_call(
         alloc,
         params,
         args.as_slice(),
-        token.place,
-        &more,
+        token,
+        number,
+        &parts.hides,
         body,
         stream,
         left,
