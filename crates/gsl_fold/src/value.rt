@@ -1,0 +1,156 @@
+//! What a constant expression gives.
+
+ghost use Rattle.std.specs.Prelude.{◌≡◌};
+ghost use Rattle.gsl_tree.specs.Constants as spec;
+ghost use Rattle.gsl_tree.specs.Operations as operations;
+ghost use Rattle.gsl_tree.specs.Drawing.{checked};
+ghost use Rattle.gsl_tree.specs.Values.{word_in as word_of};
+ghost use Rattle.gsl_fold.specs.Answers.{Answers};
+
+use crate::stop::Stop;
+use gsl_base::List;
+use gsl_compute::{
+    binary_value, build_value, builtin_value, copy_value, decides, index_value, is_signed,
+    length_of, logic_word, member_value, swizzle_value, unary_value, word_in,
+};
+use gsl_tree::{Consts, Expr, ExprKind, Exprs, Folded, Foldeds};
+use gsl_types::Ty;
+use gsl_values::{Choices, Value, Values};
+use std::alloc::Global;
+
+/// The value of a variable.
+fn variable(
+    alloc: Global,
+    foldeds: &Foldeds,
+    number: u32,
+    choices: &mut Choices,
+) -> Result<Value, Stop>
+    ensures { Answers result choices.new (spec.folded_value (spec.known_at foldeds.now number) choices.old) }
+{
+    if number as usize >= foldeds.len() {
+        return Err(Stop::Strays);
+    }
+    folded(alloc, &foldeds[number as usize], choices)
+}
+
+fn folded(alloc: Global, folded: &Folded, _choices: &mut Choices) -> Result<Value, Stop>
+    ensures { Answers result _choices.new (spec.folded_value folded.now _choices.old) }
+{
+    match folded {
+        Folded::Known(v) => Ok(copy_value(alloc, v)?),
+        Folded::NotConstant | Folded::Free => Err(Stop::Strays),
+    }
+}
+
+/// The part of a value at an index.
+fn part(alloc: Global, v: &Value, index: u32, _choices: &mut Choices) -> Result<Value, Stop>
+    ensures { Answers result _choices.new (checked (operations.index_value v.now index) _choices.old) }
+{
+    match index_value(alloc, v, index)? {
+        Some(part) => Ok(part),
+        None => Err(Stop::Strays),
+    }
+}
+
+/// Whether the first of some expressions is an `int` or a vector of them.
+fn signed_first(es: &Exprs) -> bool
+    ensures { result ≡ spec.signed_first es.now }
+{
+    !es.is_empty() && is_signed(&es[0].ty)
+}
+
+/// What an expression gives.
+#[cycle(value)]
+#[tactic(auto, using(gsl_tree::proofs::Steps::gives_step))]
+pub fn value(alloc: Global, consts: &Consts, e: &Expr, choices: &mut Choices) -> Result<Value, Stop>
+    ensures { Answers result choices.new (spec.gives consts.now e.now choices.old) }
+{
+    of_kind(alloc, consts, &e.kind, &e.ty, choices)
+}
+
+#[cycle(value)]
+#[tactic(auto, using(gsl_tree::proofs::Steps::gives_step))]
+fn of_kind(
+    alloc: Global,
+    consts: &Consts,
+    kind: &ExprKind,
+    ty: &Ty,
+    choices: &mut Choices,
+) -> Result<Value, Stop>
+    ensures { Answers result choices.new (spec.kind_gives consts.now kind.now ty.now choices.old) }
+{
+    match kind {
+        ExprKind::Const(v) => Ok(copy_value(alloc, v)?),
+        ExprKind::Local(number) => variable(alloc, &consts.locals, *number, choices),
+        ExprKind::Global(number) => variable(alloc, &consts.globals, *number, choices),
+        ExprKind::Member(a, number) => {
+            let v = value(alloc, consts, a.get(), choices)?;
+            Ok(member_value(alloc, &v, *number)?)
+        }
+        ExprKind::Index(a, i) => {
+            let v = value(alloc, consts, a.get(), choices)?;
+            let index = value(alloc, consts, i.get(), choices)?;
+            part(alloc, &v, word_in(&index), choices)
+        }
+        ExprKind::Swizzle(a, lanes) => {
+            let v = value(alloc, consts, a.get(), choices)?;
+            Ok(swizzle_value(alloc, &v, lanes)?)
+        }
+        ExprKind::Length(a) => Ok(Value::Word(length_of(&a.get().ty))),
+        ExprKind::Unary(op, a) => {
+            let v = value(alloc, consts, a.get(), choices)?;
+            Ok(unary_value(alloc, *op, &v)?)
+        }
+        ExprKind::Binary(op, a, b) => {
+            let x = value(alloc, consts, a.get(), choices)?;
+            let y = value(alloc, consts, b.get(), choices)?;
+            Ok(binary_value(alloc, *op, is_signed(&a.get().ty), &x, &y, choices)?)
+        }
+        ExprKind::Logic(op, a, b) => {
+            let x = value(alloc, consts, a.get(), choices)?;
+            if decides(*op, word_in(&x)) {
+                return Ok(x);
+            }
+            let y = value(alloc, consts, b.get(), choices)?;
+            Ok(Value::Word(logic_word(*op, word_in(&x), word_in(&y))))
+        }
+        ExprKind::Choose(test, a, b) => {
+            let x = value(alloc, consts, test.get(), choices)?;
+            if word_in(&x) == 0 {
+                value(alloc, consts, b.get(), choices)
+            } else {
+                value(alloc, consts, a.get(), choices)
+            }
+        }
+        ExprKind::Built(which, args) => {
+            let vs = values(alloc, consts, args, choices)?;
+            Ok(builtin_value(alloc, *which, signed_first(args), &vs, choices)?)
+        }
+        ExprKind::Build(args) => {
+            let vs = values(alloc, consts, args, choices)?;
+            Ok(build_value(alloc, ty, vs)?)
+        }
+        ExprKind::Convert(a) => value(alloc, consts, a.get(), choices),
+        ExprKind::Param(_)
+        | ExprKind::BlockMember(_, _)
+        | ExprKind::Stage(_)
+        | ExprKind::Interface(_)
+        | ExprKind::Assign(_, _)
+        | ExprKind::Update(_, _, _)
+        | ExprKind::Step(_, _)
+        | ExprKind::Call(_, _)
+        | ExprKind::Comma(_) => Err(Stop::Strays),
+    }
+}
+
+/// What several expressions give in their order.
+#[cycle(value)]
+fn values(alloc: Global, consts: &Consts, es: &Exprs, choices: &mut Choices) -> Result<Values, Stop>
+    ensures { Answers result choices.new (spec.gives_all consts.now es.now choices.old) }
+{
+    let mut given = List::new(alloc);
+    for k in 0..es.len() {
+        given.push(value(alloc, consts, &es[k], choices)?)?;
+    }
+    Ok(given)
+}

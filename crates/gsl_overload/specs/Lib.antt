@@ -1,0 +1,3 @@
+pub mod Identity
+pub mod Best
+pub mod Favourite

@@ -1,0 +1,5 @@
+pub mod Folds
+pub mod StmtFolds
+pub mod Steps
+pub mod Nodes
+pub mod Example

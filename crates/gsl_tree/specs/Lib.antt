@@ -1,0 +1,12 @@
+pub mod Values
+pub mod Operations
+pub mod Drawing
+pub mod Constants
+pub mod Trees
+pub mod Shapes
+pub mod Around
+pub mod Paths
+pub mod Weights
+pub mod Expressions
+pub mod Statements
+pub mod WellTyped
