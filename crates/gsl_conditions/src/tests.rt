@@ -38,7 +38,13 @@ fn judged(alloc: Global, text: &str) -> Result<bool, Refusal> {
         },
     };
     let mut left = 30u32;
-    holds(alloc, &macros, Place { unit: 0, line: 9 }, raws.as_slice(), &mut left)
+    holds(
+        alloc,
+        &macros,
+        Place { unit: 0, line: 9 },
+        raws.as_slice(),
+        &mut left,
+    )
 }
 
 #[test]
@@ -55,7 +61,10 @@ fn faults_come_in_order(rt: HostRuntime) -> Result<(), Fail> {
     let alloc = rt.alloc();
     assert_eq!(rt; fault_of(judged(alloc, "B + 1 / 0 +")), at(9, Code::E0205));
     assert_eq!(rt; fault_of(judged(alloc, "B + 1 / 0")), at(1, Code::E0204));
-    assert_eq!(rt; fault_of(judged(alloc, "1 / \\\n0 + B")), at(1, Code::E0206));
+    assert_eq!(rt;
+        fault_of(judged(alloc, "1 / \\\n0 + B")),
+        at(1, Code::E0206)
+    );
     let many = "1 1 1 1 1 1 1 1 1 1 1 1 1 1 1 1 1 1 1 1 1 1 1 1 1 1 1 1 1 1 \\\n1";
     assert_eq!(rt; fault_of(judged(alloc, many)), at(2, Code::E0901));
     Ok(())

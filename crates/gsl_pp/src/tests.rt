@@ -30,12 +30,17 @@ fn at(line: u32, code: Code) -> Option<Fault> {
 #[test]
 fn live_tokens(rt: HostRuntime) -> Result<(), Fail> {
     let alloc = rt.alloc();
-    let raws = raws(alloc, "#version 450\n#define f(x) x __FILE__\n#if VULKAN\nf(\na)\n#endif\n")?;
+    let raws = raws(
+        alloc,
+        "#version 450\n#define f(x) x __FILE__\n#if VULKAN\nf(\na)\n#endif\n",
+    )?;
     let tokens = preprocess(alloc, 4, &raws)?;
     let place = Place { unit: 4, line: 4 };
     let name = Kind::Name(Text::from_str(alloc, "a")?);
     let file = Kind::Signed(4);
-    assert!(rt; tokens.as_slice() == [Token { place, kind: name }, Token { place, kind: file }].as_slice());
+    assert!(rt;
+        tokens.as_slice() == [Token { place, kind: name }, Token { place, kind: file }].as_slice()
+    );
     Ok(())
 }
 

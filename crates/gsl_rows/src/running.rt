@@ -76,8 +76,8 @@ fn run_words(alloc: Global, out: &mut Outline, case: &Case, each: &str) -> Done 
     out.put("status ")?;
     out.number(u64::from(status))?;
     out.end_line()?;
-    stream(out, "out ", host.out())?;
-    stream(out, "err ", host.err())?;
+    stream(out, "out | ", host.out())?;
+    stream(out, "err | ", host.err())?;
     if host.faults() > 0 {
         out.put("faults ")?;
         out.number(host.faults())?;
@@ -87,38 +87,30 @@ fn run_words(alloc: Global, out: &mut Outline, case: &Case, each: &str) -> Done 
     shown(alloc, out, case, &host)
 }
 
-/// The lines of a stream, each behind its name; `>` for `|` where the last line has no end.
+/// The lines of a stream, each behind its name.
 fn stream(out: &mut Outline, name: &str, bytes: &[u8]) -> Done {
-    let mut rest = bytes;
-    while !rest.is_empty() {
-        let len = rest
-            .iter()
-            .position(|byte| *byte == b'\n')
-            .unwrap_or(rest.len());
-        out.put(name)?;
-        out.put(if len < rest.len() { "| " } else { "> " })?;
-        printable(out, &rest[..len])?;
-        out.end_line()?;
-        rest = if len < rest.len() {
-            &rest[len + 1..]
-        } else {
-            &[]
-        };
+    let mut in_line = false;
+    for byte in bytes {
+        if !in_line {
+            out.put(name)?;
+        }
+        in_line = *byte != b'\n';
+        stream_byte(out, *byte)?;
     }
-    Ok(())
+    if in_line {
+        out.put(" (no line end)\n")
+    } else {
+        Ok(())
+    }
 }
 
-/// Bytes as text, those that are no plain character in hexadecimal digits.
-fn printable(out: &mut Outline, bytes: &[u8]) -> Done {
-    for byte in bytes {
-        if *byte >= b' ' && *byte <= b'~' {
-            out.put_bytes(&[*byte])?;
-        } else {
-            out.put("\\x")?;
-            out.hex_byte(*byte)?;
-        }
+/// A byte as text: one that is no plain character in hexadecimal digits, but for a line end.
+fn stream_byte(out: &mut Outline, byte: u8) -> Done {
+    if byte == b'\n' || (byte >= b' ' && byte <= b'~') {
+        return out.put_bytes(&[byte]);
     }
-    Ok(())
+    out.put("\\x")?;
+    out.hex_byte(byte)
 }
 
 /// Tells of each file of the case that is no longer as it was.
@@ -153,24 +145,40 @@ fn shown(alloc: Global, out: &mut Outline, case: &Case, host: &MemHost) -> Done 
 
 /// Bytes as words, least byte first, eight to a line, and those left over.
 pub fn dump(out: &mut Outline, bytes: &[u8]) -> Done {
-    let mut rest = bytes;
-    let mut before = 0u64;
-    while let [a, b, c, d, behind @ ..] = rest {
-        out.put(if before.is_multiple_of(8) { "  " } else { " " })?;
-        out.hex_word(u32::from_le_bytes([*a, *b, *c, *d]))?;
-        before = before.saturating_add(1);
-        if before.is_multiple_of(8) || behind.len() < 4 {
-            out.end_line()?;
+    let mut held = [0u8; 4];
+    let mut count = 0u64;
+    for byte in bytes {
+        held[(count % 4) as usize] = *byte;
+        count = count.saturating_add(1);
+        if count % 4 == 0 {
+            word(out, u32::from_le_bytes(held), count / 4)?;
         }
-        rest = behind;
     }
-    if !rest.is_empty() {
-        out.put("  bytes")?;
-        for byte in rest {
-            out.put(" ")?;
-            out.hex_byte(*byte)?;
-        }
+    if count / 4 % 8 != 0 {
         out.end_line()?;
     }
-    Ok(())
+    left_over(out, &held[..(count % 4) as usize])
+}
+
+/// The word of this number, counted from 1.
+fn word(out: &mut Outline, word: u32, number: u64) -> Done {
+    out.put(if number % 8 == 1 { "  " } else { " " })?;
+    out.hex_word(word)?;
+    if number % 8 == 0 {
+        out.end_line()
+    } else {
+        Ok(())
+    }
+}
+
+fn left_over(out: &mut Outline, bytes: &[u8]) -> Done {
+    if bytes.is_empty() {
+        return Ok(());
+    }
+    out.put("  bytes")?;
+    for byte in bytes {
+        out.put(" ")?;
+        out.hex_byte(*byte)?;
+    }
+    out.end_line()
 }
