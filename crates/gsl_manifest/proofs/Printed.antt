@@ -15,55 +15,16 @@ use Rattle.gsl_manifest.specs.declared.meaning.Keyword.TheVariants as word
 use Rattle.gsl_manifest.specs.declared.meaning.Meaning.{Meaning}
 use Rattle.gsl_manifest.specs.declared.meaning.Meaning.TheVariants.{Nothing, Buffer, Push, In, Group, Local, Groups, Vertex, Instance, Choice, Steps}
 use Rattle.gsl_manifest.specs.Listing.{AreWords}
-use Rattle.gsl_manifest.specs.Numbers.{◌>>=◌, are_digits, natural, unsigned, number}
+use Rattle.gsl_text.specs.Numbers.{◌>>=◌, unsigned}
+use Rattle.gsl_text.proofs.Decimals.{IsDigits, decimal_digits, digit_above, unsigned_digits}
+use Rattle.gsl_manifest.specs.Numbers.{number}
 use Rattle.gsl_manifest.specs.Fields.{gap_len, field_len, field_at, behind_gap, next_field, number_at, unsigned_at, last, three_at, numbers_at, some_numbers_at, path_at}
 use Rattle.gsl_manifest.specs.Meanings.{keyword_of, fields_say, buffer_at, in_at, choice_at, steps_at, sentence, meaning_of, most_steps}
 use Rattle.gsl_manifest.specs.Printing.{field_text, line_text, IsPath, AreSome, IsWritable}
 
--- Digits of a number, as a field.
-pub record IsDigits (n : ℕ) (ds : List ℕ) : Type 0 where
-  pub some : 0 < length ds
-  pub all : AllDigits 10 ds
-  pub value : digits_value 10 ds ≡ n
-
-pub decimal_digits : (n : ℕ) → n < 2 ^ 32 → IsDigits n (decimal n)
-decimal_digits n small = let d = decimal_is_IsNumeral n (omega arith) in record { some = d.0.0; all = d.0.1; value = d.1 }
-
-are_digits_from : (ds : List ℕ) → AllDigits 10 ds → are_digits 10 ds ≡ true
-are_digits_from [] all = refl
-are_digits_from (d ∷ ds) all = and_from _ _ (lt-ltb _ _ all.0) (are_digits_from ds all.1)
-
-natural_digits : (n : ℕ) (ds : List ℕ) → n < 2 ^ 32 → IsDigits n ds → natural 10 ds ≡ Some n
-unfolding natural
-natural_digits n ds small d =
-    let fits : ltb (digits_value 10 ds) (2 ^ 32) ≡ true = ap (λ k. ltb k (2 ^ 32)) d.value ∙ lt-ltb _ _ small in
-    cond-true _ _ _ (and_from _ _ (and_from _ _ (lt-ltb _ _ d.some) (are_digits_from ds d.all)) fits) ∙ ap Some d.value
-
-digit_not : (c x : ℕ) → digit_value c < 10 → (57 < x) → eqb c x ≡ false
-digit_not c x d high = ne_eqb c x (λ e. omega (arith, (digit_from_value c d).1))
-
-pub digit_above : (c x : ℕ) → digit_value c < 10 → (x < 48) → eqb c x ≡ false
-digit_above c x d low = ne_eqb c x (λ e. omega (arith, (digit_from_value c d).0))
-
-no_0x : (ds : List ℕ) → AllDigits 10 ds → bytes_eq (take 2 ds) (codes "0x") ≡ false
-no_0x [] all = refl
-no_0x (a ∷ []) all = and_right_false (eqb a 48)
-  where
-    and_right_false : (b : Bool) → (b && false) ≡ false
-    and_right_false true = refl
-    and_right_false false = refl
-no_0x (a ∷ b ∷ ds) all = two (eqb a 48) (eqb b 120) (digit_not b 120 all.1.0 (omega arith))
-  where
-    two : (x y : Bool) → y ≡ false → (x && (y && true)) ≡ false
-    two true y e = ap (λ z. z && true) e
-    two false y e = refl
-
 no_minus : (ds : List ℕ) → AllDigits 10 ds → bytes_eq (take 1 ds) (codes "-") ≡ false
 no_minus [] all = refl
 no_minus (a ∷ ds) all = ap (λ z. z && true) (digit_above a 45 all.0 (omega arith))
-
-unsigned_digits : (n : ℕ) (ds : List ℕ) → n < 2 ^ 32 → IsDigits n ds → unsigned ds ≡ Some n
-unsigned_digits n ds small d = cond-false _ _ _ (no_0x ds d.all) ∙ natural_digits n ds small d
 
 number_digits : (n : ℕ) (ds : List ℕ) → n < 2 ^ 32 → IsDigits n ds → number ds ≡ Some n
 number_digits n ds small d = cond-false _ _ _ (no_minus ds d.all) ∙ unsigned_digits n ds small d

@@ -7,33 +7,14 @@ use Rattle.std.specs.Fmt.{decimal}
 use Rattle.std.specs.Str.Parse.{AllDigits}
 use Rattle.gsl_manifest.specs.declared.meaning.Meaning.{Meaning}
 use Rattle.gsl_manifest.specs.declared.meaning.Meaning.TheVariants.{Nothing, Buffer, Push, In, Group, Local, Groups, Vertex, Instance, Choice, Steps}
-use Rattle.gsl_manifest.specs.Lines.{onto, pieces, without_cr, ended, lines_of}
+use Rattle.gsl_text.specs.Lines.{without_cr, lines_of}
 use Rattle.gsl_manifest.specs.Listing.{AreWords}
 use Rattle.gsl_manifest.specs.Meanings.{meaning_of}
 use Rattle.gsl_manifest.specs.Manifests.{StandOnce, AreManifest, manifest_of}
 use Rattle.gsl_manifest.specs.Printing.{field_text, line_text, printed, IsPath, IsWritable}
-use Rattle.gsl_manifest.proofs.Splitting.{some_pieces, ended_more}
-use Rattle.gsl_manifest.proofs.Printed.{decimal_digits, digit_above, one_fits, line_read}
-
--- no LF is among the bytes
-abbrev NoLf : List ℕ → Type 0
-NoLf bytes = list_any (λ b. eqb b 10) bytes ≡ false
-
--- no CR is at their end
-abbrev NoCr : List ℕ → Type 0
-NoCr bytes = without_cr bytes ≡ bytes
-
-pieces_line : (line rest : List ℕ) → NoLf line → pieces (line ++ 10 ∷ rest) ≡ line ∷ pieces rest
-pieces_line [] rest none = refl
-pieces_line (b ∷ line) rest none =
-    let parts = or_parts (eqb b 10) _ none in
-    cond-false _ _ _ parts.0 ∙ ap (onto b) (pieces_line line rest parts.1)
-
-lines_line : (line rest : List ℕ) → NoLf line → NoCr line → lines_of (line ++ 10 ∷ rest) ≡ line ∷ lines_of rest
-unfolding lines_of
-lines_line line rest none end =
-    let next = some_pieces rest in
-    ap ended (pieces_line line rest none) ∙ ended_more line (pieces rest) next.one next.others next.are ∙ ap (λ l. l ∷ ended (pieces rest)) end
+use Rattle.gsl_text.proofs.Splitting.{NoLf, NoCr, lines_line}
+use Rattle.gsl_text.proofs.Decimals.{decimal_digits, digit_above}
+use Rattle.gsl_manifest.proofs.Printed.{one_fits, line_read}
 
 no_lf_append : (a b : List ℕ) → NoLf a → NoLf b → NoLf (a ++ b)
 no_lf_append a b e f = list_any-append (λ c. eqb c 10) a b ∙ or_from _ _ e f

@@ -7,34 +7,8 @@ ghost use Rattle.gsl_manifest.specs.Numbers as numbers;
 ghost use Rattle.gsl_manifest.specs.Fields as spec;
 
 use gsl_base::{List, Memory, Text};
+use gsl_text::{natural, unsigned};
 use std::alloc::Global;
-
-/// The number that one digit or more write in the base, if a word holds it.
-fn natural(base: u32, digits: &[u8]) -> Option<u32>
-    requires low { 2 ≤ base }
-    requires high { base ≤ 16 }
-    ensures { result ≡ numbers.natural base digits.now }
-{
-    if digits.is_empty() {
-        return None;
-    }
-    let mut value: u32 = 0;
-    for byte in digits {
-        let digit = char::from(*byte).to_digit(base)?;
-        value = value.checked_mul(base)?.checked_add(digit)?;
-    }
-    Some(value)
-}
-
-/// A number without sign: decimal, or hexadecimal behind `0x`.
-fn unsigned(field: &[u8]) -> Option<u32>
-    ensures { result ≡ numbers.unsigned field.now }
-{
-    match field.strip_prefix(b"0x") {
-        Some(digits) => natural(16, digits),
-        None => natural(10, field),
-    }
-}
 
 /// The word of a number below zero, down to -2^31.
 fn below_zero(magnitude: u32) -> Option<u32>

@@ -1,7 +1,7 @@
 //! What goes into a run and what is printed of it: the manifest and the listing.
 //!
-//! `specs/Manifests.antt` says which lines are a manifest and what it says, over `Lines.antt`,
-//! `Numbers.antt`, `Fields.antt` and `Meanings.antt`; `read_manifest` carries it.
+//! `specs/Manifests.antt` says which lines are a manifest and what it says, over the lines of
+//! `gsl_text`, `Numbers.antt`, `Fields.antt` and `Meanings.antt`; `read_manifest` carries it.
 //! `specs/Listing.antt` says which text shows an output, and `listing` carries it.
 #![tactic(auto)]
 
@@ -9,7 +9,6 @@ mod draft;
 mod fields;
 mod input;
 mod laws;
-mod lines;
 mod manifest;
 mod meaning;
 mod output;
