@@ -1,5 +1,6 @@
 -- The words of a line from its front.
 use Rattle.std.proofs.Common.{◌≡◌, ℕ, zero, suc, ◌+◌, ◌-◌, ◌<◌, ◌≤◌, Bool, true, false, cond, ◌||◌, eqb, List, [], ◌∷◌, length, get_or, take, drop, Option, Some, None, refl, ap, sym, ◌∙◌, arith}
+use Rattle.std.specs.Option.{is_some}
 use Rattle.std.proofs.lemmas.Bool.{cond-true, cond-false, eq-eqb, eqb-true, ne_eqb}
 use Rattle.std.proofs.lemmas.List.{take_all, take_rest}
 use Rattle.gsl_asm.specs.declared.word.Word.{Word}
@@ -70,3 +71,15 @@ no_bytes bytes t is e = eqb-true _ _ (sym is ∙ e)
 pub some_bytes : (bytes : List ℕ) (t : Bool) → t ≡ eqb (length bytes) 0 → t ≡ false → 0 < length bytes
 some_bytes [] t is e = absurd (let f : true ≡ false = sym is ∙ e in cc)
 some_bytes (b ∷ bytes) t is e = omega arith
+
+pub fewer : (bytes : List ℕ) (most : ℕ) → length bytes ≤ most → length (take (length bytes - 1) (drop 1 bytes)) ≤ most
+fewer [] most few = few
+fewer (b ∷ bytes) most few =
+    let n : length (b ∷ bytes) - 1 ≡ length bytes = omega arith in
+    let e : length (take (length (b ∷ bytes) - 1) bytes) ≡ length bytes = ap (λ k. length (take k bytes)) n ∙ ap length (take_all (length bytes) bytes (omega arith)) in
+    omega arith
+
+-- words in front of words that are some
+pub onto_some : (word : Word) (found : Option (List Word)) → is_some (onto word found) ≡ is_some found
+onto_some word None = refl
+onto_some word (Some words) = refl

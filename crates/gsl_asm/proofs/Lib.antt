@@ -1,3 +1,4 @@
 pub mod Quotes
 pub mod Cutting
 pub mod Strings
+pub mod Taking

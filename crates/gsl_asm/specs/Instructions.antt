@@ -1,5 +1,5 @@
 -- What a line with words says: the version and the bound, or an instruction.
-use Rattle.std.specs.Prelude.{◌≡◌, ℕ, ◌+◌, ◌^◌, ◌<◌, Bool, true, false, not, List, [], ◌∷◌, ◌++◌, length, Option, Some, None, codes}
+use Rattle.std.specs.Prelude.{◌≡◌, ℕ, ◌+◌, ◌^◌, ◌<◌, Bool, true, false, not, List, [], ◌∷◌, ◌++◌, length, slice_index, Option, Some, None, codes}
 use Rattle.gsl_instr.specs.declared.form.Form.{Form}
 use Rattle.gsl_instr.specs.declared.slot.Slot.{Slot}
 use Rattle.gsl_instr.specs.declared.slot.Slot.TheVariants.{Result, Id, Forward, Number, Named, OfDecoration, Text}
@@ -16,19 +16,23 @@ use Rattle.gsl_asm.specs.declared.place.Place.TheVariants.{Nowhere, First, Secon
 use Rattle.gsl_asm.specs.Operands.{IsOperand}
 use Rattle.gsl_asm.specs.Names.{opcode_of}
 
--- the word that an operand leaves for the one behind it: its own, if it is no text
+-- the word that an operand leaves for the one behind it: its first
 abbrev pub last_of : List ℕ → ℕ
-last_of [] = 0
-last_of (word ∷ words) = word
+last_of args = slice_index args 0
 
--- Words of a text stand for operand words: those that every instruction of a form has, and then as many as
--- may follow. `count` is how many of these stand before, and `second` whether they end with the first of a pair.
-pub data AreOperands (target : Target) (rest : Rest) : List Slot → Bool → ℕ → ℕ → List Word → List ℕ → Type 0 where
-  end : (second : Bool) (count last : ℕ) → allows rest count ≡ true → AreOperands target rest [] second count last [] []
+-- Words of a text stand for the operands that follow those of every instruction of a form; `second` says whether they
+-- begin with the second of a pair.
+pub data AreMore (target : Target) (rest : Rest) : Bool → ℕ → List Word → List ℕ → Type 0 where
+  end : (second : Bool) (last : ℕ) → AreMore target rest second last [] []
+  more : (second : Bool) (last : ℕ) (word : Word) (words : List Word) (args more all : List ℕ) → IsOperand target last (next_of rest second) word args →
+      AreMore target rest (not second) (last_of args) words more → all ≡ args ++ more → AreMore target rest second last (word ∷ words) all
+
+-- Words of a text stand for the operands of an instruction: those that every one of a form has, and then as many as may
+-- follow.
+pub data AreOperands (target : Target) (rest : Rest) : List Slot → ℕ → List Word → List ℕ → Type 0 where
+  behind : (last : ℕ) (words : List Word) (args : List ℕ) → AreMore target rest false last words args → allows rest (length args) ≡ true → AreOperands target rest [] last words args
   fixed : (slot : Slot) (slots : List Slot) (last : ℕ) (word : Word) (words : List Word) (args more all : List ℕ) → IsOperand target last slot word args →
-      AreOperands target rest slots false 0 (last_of args) words more → all ≡ args ++ more → AreOperands target rest (slot ∷ slots) false 0 last (word ∷ words) all
-  more : (second : Bool) (count last : ℕ) (word : Word) (words : List Word) (args more all : List ℕ) → IsOperand target last (next_of rest second) word args →
-      AreOperands target rest [] (not second) (count + 1) (last_of args) words more → all ≡ args ++ more → AreOperands target rest [] second count last (word ∷ words) all
+      AreOperands target rest slots (last_of args) words more → all ≡ args ++ more → AreOperands target rest (slot ∷ slots) last (word ∷ words) all
 
 -- whether an operand is the result
 abbrev pub is_result : Slot → Bool
@@ -66,7 +70,7 @@ pub record IsInstr (target : Target) (words : List Word) (instr : Instr) : Type 
   pub opcode : opcode_of name ≡ Some instr.op
   pub found : form_of instr.op ≡ Some form
   pub line : IsLine (place_of (slots form)) words name operands
-  pub args : AreOperands target (rest form) (slots form) false 0 0 operands instr.args
+  pub args : AreOperands target (rest form) (slots form) 0 operands instr.args
   pub short : 1 + length instr.args < 2 ^ 16
 
 -- the names of the versions

@@ -1,6 +1,5 @@
 -- The operands of a line in the order in which a module has them.
-use Rattle.std.specs.Prelude.{ℕ, List, [], ◌∷◌, Option, Some, None}
-use Rattle.std.specs.Option.{option_map}
+use Rattle.std.specs.Prelude.{ℕ, List, [], ◌∷◌}
 use Rattle.gsl_asm.specs.declared.place.Place.{Place}
 use Rattle.gsl_asm.specs.declared.place.Place.TheVariants.{Nowhere, First, Second}
 use Rattle.gsl_asm.specs.declared.word.Word.{Word}
@@ -12,7 +11,3 @@ inserted Nowhere result words = words
 inserted First result words = Plain result ∷ words
 inserted Second result [] = []
 inserted Second result (word ∷ words) = word ∷ Plain result ∷ words
-
--- the same of a line's words, if it has some
-unfoldable pub ordered : Place → List ℕ → Option (List Word) → Option (List Word)
-ordered place result words = option_map (inserted place result) words

@@ -26,6 +26,7 @@ use Rattle.gsl_asm.specs.declared.word.Word.TheVariants.{Plain, Quoted}
 use Rattle.gsl_asm.specs.Names.{opcode_of}
 use Rattle.gsl_asm.specs.Splitting.{words_of}
 use Rattle.gsl_asm.specs.Operands.{id_of, enumerant_of}
+use Rattle.gsl_asm.specs.Ordered.{inserted}
 use Rattle.gsl_asm.specs.Instructions.{last_of, place_of}
 
 -- one operand word
@@ -65,30 +66,53 @@ operand_of target last slot (Quoted bytes) = quoted_operand slot bytes
 abbrev pub before : List ℕ → Option (List ℕ) → Option (List ℕ)
 before args found = option_map (λ more. args ++ more) found
 
--- The operand words that words stand for: those that every instruction of a form has, and what may follow.
-unfoldable pub args_of : Target → Rest → List Slot → Bool → ℕ → ℕ → List Word → Option (List ℕ)
-args_of target rest [] second count last [] = if allows rest count then Some [] else None
-args_of target rest (slot ∷ slots) second count last [] = None
-args_of target rest [] second count last (word ∷ words) =
-    operand_of target last (next_of rest second) word >>= λ args. before args (args_of target rest [] (not second) (count + 1) (last_of args) words)
-args_of target rest (slot ∷ slots) second count last (word ∷ words) =
-    operand_of target last slot word >>= λ args. before args (args_of target rest slots false 0 (last_of args) words)
+-- what the operands that every instruction of a form has leave: their words, the last of these, and the words behind
+abbrev pub Fixed : Type 0
+Fixed = List ℕ × ℕ × List Word
+
+abbrev pub ahead : List ℕ → Option Fixed → Option Fixed
+ahead args found = option_map {U = Fixed} (λ fixed. (args ++ fixed.0, fixed.1, fixed.2)) found
+
+-- the operands that every instruction of a form has
+unfoldable pub fixed_of : Target → List Slot → ℕ → List Word → Option Fixed
+fixed_of target [] last words = Some ([], last, words)
+fixed_of target (slot ∷ slots) last [] = None
+fixed_of target (slot ∷ slots) last (word ∷ words) = operand_of target last slot word >>= λ args. ahead args (fixed_of target slots (last_of args) words)
+
+-- what follows them
+unfoldable pub more_of : Target → Rest → Bool → ℕ → List Word → Option (List ℕ)
+more_of target rest second last [] = Some []
+more_of target rest second last (word ∷ words) =
+    operand_of target last (next_of rest second) word >>= λ args. before args (more_of target rest (not second) (last_of args) words)
+
+-- operands behind others, if so many may follow
+abbrev pub counted : Rest → List ℕ → List ℕ → Option (List ℕ)
+counted rest args more = if allows rest (length more) then Some (args ++ more) else None
+
+-- what follows these
+abbrev pub behind_fixed : Target → Rest → Fixed → Option (List ℕ)
+behind_fixed target rest fixed = more_of target rest false fixed.1 fixed.2 >>= counted rest fixed.0
+
+-- the operands of an instruction of a form
+unfoldable pub args_of : Target → Form → List Word → Option (List ℕ)
+args_of target form words = fixed_of target (slots form) 0 words >>= behind_fixed target (rest form)
 
 -- the operands with the result among them, if it stands where its form has it
 abbrev pub placed : Place → Option (List ℕ) → List Word → Option (List Word)
 placed Nowhere None operands = Some operands
 placed Nowhere (Some result) operands = None
 placed First None operands = None
-placed First (Some result) operands = Some (Plain result ∷ operands)
+placed First (Some result) operands = Some (inserted First result operands)
 placed Second None operands = None
-placed Second (Some result) [] = None
-placed Second (Some result) (type ∷ operands) = Some (type ∷ Plain result ∷ operands)
+placed Second (Some result) operands = Some (inserted Second result operands)
+
+-- an instruction, if it is short enough
+abbrev pub instr_with : ℕ → List ℕ → Option Instr
+instr_with op args = if nat_lt (1 + length args) (2 ^ 16) then Some (record { op = op; args = args }) else None
 
 -- the instruction of a form with these operands
 abbrev pub formed : Target → ℕ → Option (List ℕ) → List Word → Form → Option Instr
-formed target op result operands form =
-    placed (place_of (slots form)) result operands >>= λ words. args_of target (rest form) (slots form) false 0 0 words
-    >>= λ args. if nat_lt (1 + length args) (2 ^ 16) then Some (record { op = op; args = args }) else None
+formed target op result operands form = placed (place_of (slots form)) result operands >>= λ words. args_of target form words >>= instr_with op
 
 -- the instruction of a name, a result and operands
 abbrev pub named : Target → Option (List ℕ) → List ℕ → List Word → Option Instr
@@ -187,3 +211,11 @@ Added good old new found = MatchOption found (good ≡ false) (λ args. (good �
 -- Instructions were added, or those that were wanted are none.
 abbrev pub Put : Bool → List Instr → List Instr → Option (List Instr) → Type 0
 Put good old new found = MatchOption found (good ≡ false) (λ code. (good ≡ true) × (new ≡ old ++ code))
+
+-- The operands that every instruction of a form has were added, or they are none.
+abbrev pub Took : Option ℕ → List ℕ → List ℕ → List Word → Option Fixed → Type 0
+Took last old new left found = MatchOption found (last ≡ None) (λ fixed. (last ≡ Some fixed.1) × (new ≡ old ++ fixed.0) × (left ≡ fixed.2))
+
+-- one instruction
+abbrev pub single : Option Instr → Option (List Instr)
+single found = option_map (λ instr. instr ∷ []) found

@@ -44,3 +44,8 @@ words_from zero (byte ∷ bytes) =
 -- the words of a line
 abbrev pub words_of : List ℕ → Option (List Word)
 words_of bytes = words_from 0 bytes
+
+-- words, none where there are none
+abbrev pub words_in : Option (List Word) → List Word
+words_in None = []
+words_in (Some words) = words

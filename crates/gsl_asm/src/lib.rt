@@ -3,6 +3,7 @@
 
 mod chars;
 mod fault;
+mod instruction;
 mod line;
 mod names;
 mod operand;

@@ -1,57 +1,85 @@
 //! The words of a line, one by one.
 
-ghost use Rattle.std.specs.Prelude.{◌≡◌, ◌≤◌, ◌<◌, false, length, drop, slice_index, IfSome};
+ghost use Rattle.std.specs.Prelude.{◌≡◌, ◌≤◌, ◌<◌, false, length, drop, slice_index, is_some, IfSome};
 ghost use Rattle.std.specs.List.{prefix_len};
 ghost use Rattle.gsl_asm.specs.Words as spec;
 ghost use Rattle.gsl_asm.specs.Escapes as escapes;
 ghost use Rattle.gsl_asm.specs.Splitting as splitting;
-ghost use Rattle.gsl_asm.specs.Nexts.{NextIs};
+ghost use Rattle.gsl_asm.specs.Nexts.{NextIs, IsShorter};
 
 use crate::chars::{Chars, Raw, raw_len};
 use crate::word::{Next, Word};
 use std::marker::Model;
 
-/// The words of a line that are still to come. Contracts see the list of them, or `None` where the rest of the line
-/// does not spell words.
+/// The words of a line that are still to come. Contracts see the list of them.
 #[derive(Drop)]
 pub struct Line<'a> {
     rest: &'a [u8],
 }
 
 impl<'a> Model for Line<'a> {
-    ghost use Rattle.std.specs.Prelude.{List, Option};
+    ghost use Rattle.std.specs.Prelude.{List, IsSome};
     ghost use Rattle.gsl_asm.specs.declared.word.Word.{Word as OneWord};
 
-    ghost Value = { Option (List OneWord) };
+    ghost Value = { List OneWord };
 
-    ghost use Rattle.gsl_asm.specs.Splitting.{words_of};
+    ghost use Rattle.gsl_asm.specs.Splitting.{words_of, words_in};
 
-    ghost view = { λ line. words_of line.rest.now };
+    ghost view = { λ line. words_in (words_of line.rest.now) };
+
+    ghost invariant = { λ line. IsSome (words_of line.rest.now) };
 }
 
 impl<'a> Line<'a> {
+    ghost use Rattle.std.specs.Prelude.{[], ◌∷◌, MatchOption};
+    ghost use Rattle.std.specs.Option.{option_map};
     ghost use Rattle.gsl_asm.specs.Splitting.{words_of};
 
-    /// The words of a line.
-    pub fn new(rest: &'a [u8]) -> Line<'a>
+    /// The words of a line, if it spells some.
+    pub fn new(rest: &'a [u8]) -> Option<Line<'a>>
         ensures { result ≡ words_of rest.now }
     {
-        Line { rest }
+        if !are_words(rest) {
+            return None;
+        }
+        Some(Line { rest })
     }
 
     /// Takes the next word.
-    pub fn next(&mut self) -> Next<'a>
-        ensures { NextIs self.old result self.new }
+    pub fn next(&mut self) -> Option<Word<'a>>
+        ensures { MatchOption result (self.old ≡ []) (λ word. self.old ≡ word ∷ self.new) }
     {
         let (next, rest) = next_of(skip_blanks(self.rest));
-        self.rest = rest;
-        next
+        match next {
+            Next::Word(word) => {
+                self.rest = rest;
+                Some(word)
+            }
+            Next::End => None,
+            Next::Bad => None,
+        }
+    }
+}
+
+/// Whether bytes spell words.
+fn are_words(bytes: &[u8]) -> bool
+    ensures { result ≡ is_some (splitting.words_of bytes.now) }
+{
+    let mut rest = bytes;
+    loop {
+        let (next, more) = next_of(skip_blanks(rest));
+        match next {
+            Next::End => return true,
+            Next::Bad => return false,
+            Next::Word(_) => rest = more,
+        }
     }
 }
 
 /// Bytes without the blanks that they begin with.
 fn skip_blanks(bytes: &[u8]) -> &[u8]
     ensures words { splitting.words_of result.now ≡ splitting.words_of bytes.now }
+    ensures fewer { length result.now ≤ length bytes.now }
     ensures first { spec.is_blank (slice_index result.now 0) ≡ false }
 {
     let mut rest = bytes;
@@ -67,7 +95,8 @@ fn skip_blanks(bytes: &[u8]) -> &[u8]
 /// The word that bytes begin with, and what stands behind it. They begin with no blank.
 fn next_of(bytes: &[u8]) -> (Next<'_>, &[u8])
     requires { spec.is_blank (slice_index bytes.now 0) ≡ false }
-    ensures { NextIs (splitting.words_of bytes.now) result.0 (splitting.words_of result.1.now) }
+    ensures next { NextIs (splitting.words_of bytes.now) result.0 (splitting.words_of result.1.now) }
+    ensures shorter { IsShorter result.0 (length result.1.now) (length bytes.now) }
 {
     if bytes.is_empty() {
         return (Next::End, bytes);
