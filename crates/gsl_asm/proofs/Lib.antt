@@ -2,3 +2,4 @@ pub mod Quotes
 pub mod Cutting
 pub mod Strings
 pub mod Taking
+pub mod Shows

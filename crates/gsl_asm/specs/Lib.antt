@@ -8,3 +8,5 @@ pub mod Operands
 pub mod Instructions
 pub mod Texts
 pub mod Reading
+pub mod Heads
+pub mod Shown

@@ -156,21 +156,28 @@ target_of word = if bytes_eq word (codes "1.0") then Some V10 else if bytes_eq w
 abbrev pub head_by : List ℕ → List ℕ → Option (Target × ℕ)
 head_by version bound = target_of version >>= λ target. unsigned bound >>= λ n. Some (target, n)
 
--- the version and the bound that words say
-abbrev pub head_of : List Word → Option (Target × ℕ)
-head_of [] = None
-head_of (Quoted a ∷ words) = None
-head_of (Plain a ∷ []) = None
-head_of (Plain a ∷ Quoted b ∷ words) = None
-head_of (Plain a ∷ Plain b ∷ []) = None
-head_of (Plain a ∷ Plain b ∷ Quoted c ∷ words) = None
-head_of (Plain a ∷ Plain b ∷ Plain c ∷ []) = if bytes_eq a (codes "spirv") then head_by b c else None
-head_of (Plain a ∷ Plain b ∷ Plain c ∷ word ∷ words) = None
+-- the version and the bound that plain words say behind the first
+abbrev pub head_behind : List ℕ → List Word → Option (Target × ℕ)
+head_behind spirv [] = None
+head_behind spirv (Quoted b ∷ words) = None
+head_behind spirv (Plain b ∷ []) = None
+head_behind spirv (Plain b ∷ Quoted c ∷ words) = None
+head_behind spirv (Plain b ∷ Plain c ∷ []) = if bytes_eq spirv (codes "spirv") then head_by b c else None
+head_behind spirv (Plain b ∷ Plain c ∷ word ∷ words) = None
 
--- what a line says before any instruction: nothing, or the version and the bound
+-- the version and the bound that words say, of which this is the first
+abbrev pub head_of : Word → List Word → Option (Target × ℕ)
+head_of (Quoted a) words = None
+head_of (Plain a) words = head_behind a words
+
+-- what words say before any instruction: nothing, or the version and the bound
 abbrev pub line_head : List Word → Option (Option (Target × ℕ))
 line_head [] = Some None
-line_head (word ∷ words) = option_map (λ head. Some head) (head_of (word ∷ words))
+line_head (word ∷ words) = option_map {U = Option (Target × ℕ)} (λ head. Some head) (head_of word words)
+
+-- and a line
+abbrev pub first_head : List ℕ → Option (Option (Target × ℕ))
+first_head line = line_words line >>= line_head
 
 -- instructions in front of others
 abbrev pub code_before : List Instr → Result (List Instr) ℕ → Result (List Instr) ℕ
@@ -196,7 +203,7 @@ behind_head (Some (Some head)) n later code = with_head head (code head.0)
 -- the module of lines, of which the first is line n, or the line that is wrong; line 1 where none has a word
 abbrev pub module_from : ℕ → List (List ℕ) → Result Module ℕ
 module_from n [] = Err 1
-module_from n (line ∷ lines) = behind_head (line_words line >>= line_head) n (module_from (n + 1) lines) (λ target. body target (n + 1) lines)
+module_from n (line ∷ lines) = behind_head (first_head line) n (module_from (n + 1) lines) (λ target. body target (n + 1) lines)
 
 -- Unless memory was wanting, what was given is the answer.
 abbrev pub Gives : {A : Type 0} → Result A AsmFault → Result A ℕ → Type 0
