@@ -3,3 +3,4 @@ pub mod Cutting
 pub mod Strings
 pub mod Taking
 pub mod Shows
+pub mod Filed

@@ -1,7 +1,8 @@
 //! Reading a module from its text, line by line.
 
-ghost use Rattle.std.specs.Prelude.{◌≡◌, ◌+◌, ◌≤◌, ◌<◌, ◌^◌, length};
+ghost use Rattle.std.specs.Prelude.{◌≡◌, ◌+◌, ◌<◌, ◌^◌, length, IfOk};
 ghost use Rattle.gsl_text.specs.Lines.{lines_of};
+ghost use Rattle.gsl_words.specs.Instructions.{HasFile};
 ghost use Rattle.gsl_asm.specs.Reading as spec;
 ghost use Rattle.gsl_asm.specs.Reading.{Gives};
 ghost use Rattle.gsl_asm.specs.Heads.{HeadGives};
@@ -16,7 +17,8 @@ use std::alloc::Global;
 /// The module of a text.
 pub fn assemble(alloc: Global, text: &[u8]) -> Result<Module, AsmFault>
     requires { length text.now < 2 ^ 32 }
-    ensures { Gives result (spec.module_from 1 (lines_of text.now)) }
+    ensures answer { Gives result (spec.module_from 1 (lines_of text.now)) }
+    ensures file { IfOk result HasFile }
 {
     let head = read_head(text)?;
     let instrs = read_body(alloc, head.target, head.rest, head.line)?;
