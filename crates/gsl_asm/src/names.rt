@@ -4,10 +4,10 @@ ghost use Rattle.std.specs.Prelude.{◌≡◌, map};
 ghost use Rattle.std.specs.Option.{option_map};
 ghost use Rattle.gsl_asm.specs.Names as spec;
 
+use gsl_instr::Enumeration;
 use gsl_instr::enumerant::{
     built_in, capability, decoration, execution_mode, execution_model, memory_model, storage_class,
 };
-use gsl_instr::Enumeration;
 use gsl_words::Target;
 
 /// The first half of the opcodes.
@@ -104,17 +104,11 @@ pub const OPCODES_B: [(&[u8], u16); 43] = [
     (b"OpReturnValue", 254),
 ];
 
-pub const CAPABILITIES: [(&[u8], u32); 1] = [
-    (b"Shader", capability::SHADER),
-];
+pub const CAPABILITIES: [(&[u8], u32); 1] = [(b"Shader", capability::SHADER)];
 
-pub const ADDRESSINGS: [(&[u8], u32); 1] = [
-    (b"Logical", memory_model::LOGICAL),
-];
+pub const ADDRESSINGS: [(&[u8], u32); 1] = [(b"Logical", memory_model::LOGICAL)];
 
-pub const MEMORIES: [(&[u8], u32); 1] = [
-    (b"GLSL450", memory_model::GLSL450),
-];
+pub const MEMORIES: [(&[u8], u32); 1] = [(b"GLSL450", memory_model::GLSL450)];
 
 pub const MODELS: [(&[u8], u32); 3] = [
     (b"Vertex", execution_model::VERTEX),
@@ -182,11 +176,7 @@ pub fn number_of(target: Target, enumeration: Enumeration, name: &[u8]) -> Optio
 
 /// The name of an enumerant, if its number has one.
 #[tactic(auto, unfolding(crate::specs::Names::name_of))]
-pub fn name_of(
-    target: Target,
-    enumeration: Enumeration,
-    number: u32,
-) -> Option<&'static [u8]>
+pub fn name_of(target: Target, enumeration: Enumeration, number: u32) -> Option<&'static [u8]>
     ensures { option_map (λ name. name.now) result ≡ spec.name_of target enumeration number }
 {
     name_in(table_of(target, enumeration), number)

@@ -99,12 +99,7 @@ fn enumerant_of(target: Target, enumeration: Enumeration, word: &[u8]) -> Option
     }
 }
 
-fn put_quoted(
-    alloc: Global,
-    slot: Slot,
-    raw: Raw<'_>,
-    args: &mut List<u32>,
-) -> Result<bool, Memory>
+fn put_quoted(alloc: Global, slot: Slot, raw: Raw<'_>, args: &mut List<u32>) -> Result<bool, Memory>
     ensures { IfOk result (λ good. Added good args.old args.new (spec.quoted_operand slot raw.entry)) }
 {
     match slot {

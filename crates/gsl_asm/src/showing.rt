@@ -51,17 +51,18 @@ fn version_name(target: Target) -> &'static [u8]
     }
 }
 
-fn put_instrs(
-    alloc: Global,
-    target: Target,
-    instrs: &Instrs,
-    out: &mut Bytes,
-) -> Result<(), Memory>
+fn put_instrs(alloc: Global, target: Target, instrs: &Instrs, out: &mut Bytes) -> Result<(), Memory>
     requires { length instrs.now < 2 ^ 32 }
     ensures { OnOk result (out.new ≡ out.old ++ flat_map (spec.instr_text target) instrs.now) }
 {
     for i in 0..instrs.len() {
-        put_instr(alloc, target, instrs.op(i as u32), instrs.args(i as u32), out)?;
+        put_instr(
+            alloc,
+            target,
+            instrs.op(i as u32),
+            instrs.args(i as u32),
+            out,
+        )?;
     }
     Ok(())
 }
@@ -85,12 +86,7 @@ fn put_instr(
     out.extend_from_slice(b"\n")
 }
 
-fn put_result(
-    alloc: Global,
-    place: Place,
-    args: &[u32],
-    out: &mut Bytes,
-) -> Result<(), Memory>
+fn put_result(alloc: Global, place: Place, args: &[u32], out: &mut Bytes) -> Result<(), Memory>
     ensures { OnOk result (out.new ≡ out.old ++ spec.result_text place args.now) }
 {
     match place {

@@ -33,11 +33,7 @@ impl<'a> Source<'a> {
     pub fn new(place: Place, id: Chars<'a>, line: Line<'a>) -> Source<'a>
         ensures { result ≡ inserted place id.entry line.entry }
     {
-        Source {
-            place,
-            id,
-            line,
-        }
+        Source { place, id, line }
     }
 
     /// Takes the next operand.

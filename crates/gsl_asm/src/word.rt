@@ -20,4 +20,3 @@ pub enum Next<'a> {
     Bad,
     Word(Word<'a>),
 }
-

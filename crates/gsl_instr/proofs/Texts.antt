@@ -1,5 +1,5 @@
 -- Texts read from words.
-use Rattle.std.proofs.Common.{◌≡◌, ℕ, ◌-◌, ◌^◌, ◌<◌, ◌≤◌, Bool, true, false, not, cond, ltb, List, [], ◌∷◌, ◌++◌, length, get_or, take, drop, Option, Some, None, refl, ap, sym, ◌∙◌, arith, append_assoc}
+use Rattle.std.proofs.Common.{◌≡◌, ℕ, ◌-◌, ◌^◌, ◌<◌, ◌≤◌, true, false, cond, ltb, List, [], ◌∷◌, ◌++◌, length, get_or, take, drop, Option, Some, None, refl, ap, sym, ◌∙◌, arith, append_assoc}
 use Rattle.std.proofs.lemmas.List.{take_all}
 use Rattle.std.proofs.lemmas.Bool.{lt-ltb, le-ltb, cond-true, cond-false}
 use Rattle.std.specs.Option.{option_map}
@@ -66,4 +66,3 @@ first_and (w ∷ rest) some =
 pub opened : (front rest : List ℕ) (whole : Option (List ℕ × List ℕ)) → 1 ≤ length rest → onto front (text_at rest) ≡ whole →
     onto front (text_at (get_or rest 0 0 ∷ take (length rest - 1) (drop 1 rest))) ≡ whole
 opened front rest whole some e = ap (λ l. onto front (text_at l)) (sym (first_and rest some)) ∙ e
-

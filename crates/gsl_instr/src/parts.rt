@@ -122,12 +122,6 @@ pub fn next_of(rest: Rest, second: bool) -> Slot
         Rest::Many(slot, _, _) => slot,
         Rest::Any(slot, _) => slot,
         Rest::NoneOrThree => Slot::Number,
-        Rest::Pairs => {
-            if second {
-                Slot::Forward
-            } else {
-                Slot::Number
-            }
-        }
+        Rest::Pairs => { if second { Slot::Forward } else { Slot::Number } }
     }
 }

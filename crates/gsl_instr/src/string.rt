@@ -1,7 +1,6 @@
 ghost use Rattle.std.specs.Prelude.{◌≡◌, ◌<◌, [], ◌∷◌, ◌++◌, length, OnOk};
 ghost use Rattle.gsl_instr.specs.Strings.{string_words, word_of};
 
-
 use gsl_base::{List, Memory};
 
 /// Adds the words of a text at the end of the operands (SPIR-V 1.0, 2.2.1). After `Memory` they have

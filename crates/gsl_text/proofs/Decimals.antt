@@ -1,5 +1,5 @@
 -- The digits of a number that is printed are read as that number.
-use Rattle.std.proofs.Common.{◌≡◌, ℕ, ◌+◌, ◌<◌, ◌^◌, Bool, true, false, ◌&&◌, List, [], ◌∷◌, length, take, drop, Some, refl, ap, ◌∙◌, arith, eqb, ltb, codes}
+use Rattle.std.proofs.Common.{◌≡◌, ℕ, ◌<◌, ◌^◌, Bool, true, false, ◌&&◌, List, [], ◌∷◌, length, take, Some, refl, ap, ◌∙◌, arith, eqb, ltb, codes}
 use Rattle.std.proofs.lemmas.Bool.{and_from, lt-ltb, ne_eqb, cond-true, cond-false}
 use Rattle.std.proofs.lemmas.Fmt.{decimal_is_IsNumeral}
 use Rattle.std.proofs.lemmas.Str.Parse.{digit_from_value}

@@ -13,7 +13,10 @@ fn instructions_are_read_as_they_were_put(rt: HostRuntime) -> Result<(), Fail> {
     assert_eq!(rt; instrs.op(0), op::LABEL);
     assert_eq!(rt; instrs.args(0), [4].as_slice());
     assert_eq!(rt; instrs.args(1), [3, 5, 7].as_slice());
-    assert_eq!(rt; instrs.words(), [0x0002_00f8, 4, 0x0004_003d, 3, 5, 7].as_slice());
+    assert_eq!(rt;
+        instrs.words(),
+        [0x0002_00f8, 4, 0x0004_003d, 3, 5, 7].as_slice()
+    );
     Ok(())
 }
 
