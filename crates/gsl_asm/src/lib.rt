@@ -22,3 +22,6 @@ mod word;
 pub use assembling::assemble;
 pub use fault::AsmFault;
 pub use showing::show;
+
+#[cfg(test)]
+mod tests;
