@@ -1,12 +1,11 @@
 -- What the test of operand words finds is what the table has room for.
-use Rattle.std.proofs.Common.{◌⊎◌, inl, inr, ⊎_elim, ◌≡◌, ◌≢◌, ℕ, zero, suc, ◌+◌, ◌*◌, ◌/◌, ◌%◌, ◌-◌, ◌^◌, ◌<◌, ◌≤◌, Bool, true, false, not, cond, ◌&&◌, ◌||◌, eqb, ltb, leb, IsTrue, List, [], ◌∷◌, ◌++◌, length, get_or, take, drop, Option, Some, None, refl, ap, sym, subst, ◌∙◌, arith, append_assoc, append-nil, length-append, length-drop, lit<}
+use Rattle.std.proofs.Common.{◌⊎◌, inl, inr, ⊎_elim, ◌≡◌, ◌≢◌, ℕ, zero, suc, ◌+◌, ◌/◌, ◌%◌, ◌-◌, ◌^◌, ◌<◌, ◌≤◌, Bool, true, false, not, cond, ◌&&◌, ◌||◌, eqb, ltb, leb, IsTrue, List, [], ◌∷◌, ◌++◌, length, take, drop, Option, Some, None, refl, ap, sym, subst, ◌∙◌, arith, length-append, length-drop, lit<}
 use Rattle.std.proofs.lemmas.Bool.{true≢false, and_parts, and_from, or_from, lt-ltb, le-ltb, leb-true, le-leb, ltb-true, ltb-false, cond-true, cond-false, ne_eqb, eq-eqb, eqb-true}
-use Rattle.std.proofs.lemmas.List.{take_at, drop_at}
 use Rattle.std.proofs.lemmas.List.Elements.{All-nil, All-cons, All-head, All-tail}
 use Rattle.std.proofs.lemmas.Str.{IsUtf8-from_is_utf8, is_utf8-from_IsUtf8}
 use Rattle.std.specs.Prelude.{All, find}
 use Rattle.std.specs.Option.{option_map}
-use Rattle.std.specs.Str.{IsUtf8, is_utf8}
+use Rattle.std.specs.Str.{is_utf8}
 use Rattle.gsl_base.specs.Ranges.{AreWords, AreBytes}
 use Rattle.gsl_instr.specs.declared.slot.Slot.{Slot}
 use Rattle.gsl_instr.specs.declared.slot.Slot.TheVariants.{Result, Id, Forward, Number, Named, OfDecoration, Text}
@@ -15,9 +14,9 @@ use Rattle.gsl_instr.specs.declared.slot.Enumeration.TheVariants.{Model}
 use Rattle.gsl_instr.specs.declared.form.Form.TheVariants as form
 use Rattle.gsl_instr.specs.declared.form.TheConstants.{TABLE}
 use Rattle.gsl_instr.specs.Strings.{word_of, string_words, IsText}
-use Rattle.gsl_instr.specs.Texts.{bytes_of, is_full, last_len, ends_with, onto, text_at}
+use Rattle.gsl_instr.specs.Texts.{bytes_of, is_full, last_len, onto, text_at}
 use Rattle.gsl_instr.specs.Forms.{form_of, slots, rest, allows, is_text, has_text, allows_words}
-use Rattle.gsl_instr.specs.Fitting.{TakesWord, TakesText, Takes, Fill, Fits, is_text_of, fits_text}
+use Rattle.gsl_instr.specs.Fitting.{TakesWord, Takes, Fill, Fits, is_text_of, fits_text}
 use Rattle.gsl_instr.proofs.Utf8.{utf8_bytes}
 
 -- no byte is zero

@@ -1,16 +1,14 @@
 -- The operands of each form of instructions (SPIR-V 1.0, 3.32), and how many of them there may be.
-use Rattle.std.specs.Prelude.{ℕ, ◌+◌, ◌-◌, ◌%◌, Bool, true, false, ◌==◌, ◌&&◌, ◌||◌, nat_le, List, [], ◌∷◌, length, find, Option}
+use Rattle.std.specs.Prelude.{ℕ, ◌-◌, ◌%◌, Bool, true, false, ◌==◌, ◌&&◌, ◌||◌, nat_le, List, [], ◌∷◌, length, find, Option}
 use Rattle.std.specs.List.{list_any}
 use Rattle.std.specs.Option.{option_map}
-use Rattle.gsl_instr.specs.declared.slot.Enumeration.{Enumeration}
-use Rattle.gsl_instr.specs.declared.slot.Enumeration.TheVariants.{Capability as OfCapability, Addressing, Memory, Model, Mode, Class, Decoration, BuiltIn}
+use Rattle.gsl_instr.specs.declared.slot.Enumeration.TheVariants.{Capability as OfCapability, Addressing, Memory, Model, Mode, Class, Decoration}
 use Rattle.gsl_instr.specs.declared.slot.Slot.{Slot}
 use Rattle.gsl_instr.specs.declared.slot.Slot.TheVariants.{Result, Id, Forward, Number, Named, OfDecoration, Text}
 use Rattle.gsl_instr.specs.declared.slot.Rest.{Rest}
 use Rattle.gsl_instr.specs.declared.slot.Rest.TheVariants.{Nothing, Maybe, Many, Any, NoneOrThree, Pairs}
 use Rattle.gsl_instr.specs.declared.form.Form.{Form}
 use Rattle.gsl_instr.specs.declared.form.Form.TheVariants as form
-use Rattle.gsl_instr.specs.declared.form.Row.{Row}
 use Rattle.gsl_instr.specs.declared.form.TheConstants.{TABLE}
 
 -- the form of an opcode

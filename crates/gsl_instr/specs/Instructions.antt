@@ -1,5 +1,5 @@
 -- Instructions by the roles of their operands, and the ids that they define and use.
-use Rattle.std.specs.Prelude.{ℕ, nat_lt, List, [], ◌∷◌, drop, Option, Some, None, slice_index, if◌then◌else◌}
+use Rattle.std.specs.Prelude.{ℕ, List, [], ◌∷◌, drop, Option, Some, None, slice_index}
 use Rattle.std.specs.Option.{option_map}
 use Rattle.gsl_instr.specs.declared.form.Form.{Form}
 use Rattle.gsl_instr.specs.declared.form.Form.TheVariants as form

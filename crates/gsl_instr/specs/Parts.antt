@@ -1,8 +1,7 @@
 -- The operands of an instruction one by one.
-use Rattle.std.specs.Prelude.{ℕ, Bool, true, false, not, if◌then◌else◌, List, [], ◌∷◌, ◌++◌, take, drop, Option, Some, None}
+use Rattle.std.specs.Prelude.{ℕ, Bool, false, not, if◌then◌else◌, List, [], ◌∷◌, take, drop}
 use Rattle.std.specs.List.{flat_map}
 use Rattle.gsl_instr.specs.declared.slot.Slot.{Slot}
-use Rattle.gsl_instr.specs.declared.slot.Slot.TheVariants.{Result, Id, Forward, Number, Named, OfDecoration, Text}
 use Rattle.gsl_instr.specs.declared.slot.Rest.{Rest}
 use Rattle.gsl_instr.specs.declared.form.Form.{Form}
 use Rattle.gsl_instr.specs.declared.parts.Part.{Part}

@@ -39,6 +39,9 @@ pub mod storage_class {
     pub const FUNCTION: u32 = 7;
 
     pub const PUSH_CONSTANT: u32 = 9;
+
+    /// From version 1.3 on.
+    pub const STORAGE_BUFFER: u32 = 12;
 }
 
 pub mod decoration {
@@ -83,4 +86,29 @@ pub mod built_in {
     pub const VERTEX_INDEX: u32 = 42;
 
     pub const INSTANCE_INDEX: u32 = 43;
+}
+
+/// The instructions of the set `GLSL.std.450` (Extended Instructions for GLSL, 2).
+pub mod glsl_std_450 {
+    pub const S_ABS: u32 = 5;
+
+    pub const S_SIGN: u32 = 7;
+
+    pub const U_MIN: u32 = 38;
+
+    pub const S_MIN: u32 = 39;
+
+    pub const U_MAX: u32 = 41;
+
+    pub const S_MAX: u32 = 42;
+
+    pub const U_CLAMP: u32 = 44;
+
+    pub const S_CLAMP: u32 = 45;
+
+    pub const FIND_I_LSB: u32 = 73;
+
+    pub const FIND_S_MSB: u32 = 74;
+
+    pub const FIND_U_MSB: u32 = 75;
 }

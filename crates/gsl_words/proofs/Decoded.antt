@@ -1,5 +1,5 @@
 -- A file is read as the module whose file it is, and as nothing else.
-use Rattle.std.proofs.Common.{◌≡◌, ◌≢◌, ℕ, zero, suc, ◌+◌, ◌*◌, ◌/◌, ◌%◌, ◌-◌, ◌^◌, ◌<◌, ◌≤◌, Bool, true, false, ◌&&◌, leb, List, [], ◌∷◌, ◌++◌, length, get_or, take, drop, Option, Some, None, refl, ap, sym, subst, ◌∙◌, arith, append_assoc, append-nil, length-append, length-drop, inl, inr, lit<}
+use Rattle.std.proofs.Common.{◌≡◌, ℕ, zero, suc, ◌+◌, ◌*◌, ◌%◌, ◌-◌, ◌^◌, ◌<◌, ◌≤◌, true, List, [], ◌∷◌, ◌++◌, length, get_or, take, drop, Some, None, refl, ap, sym, subst, ◌∙◌, arith, append_assoc, length-append, length-drop, inl, inr, lit<}
 use Rattle.std.proofs.lemmas.Bool.{true≢false, and_from, le-leb}
 use Rattle.std.proofs.lemmas.List.{take_at, take_rest}
 use Rattle.std.proofs.lemmas.List.Elements.{All-head, All-tail}
@@ -21,8 +21,8 @@ use Rattle.gsl_words.specs.Instructions.{IsInTable, HasFile, word_count}
 use Rattle.gsl_words.specs.declared.target.Target.{Target}
 use Rattle.gsl_words.specs.declared.target.Target.TheVariants.{V10, V13}
 use Rattle.gsl_words.specs.Versions.{IsKnown, version_of}
-use Rattle.gsl_words.specs.Bytes.{instr_words, header_words, module_words, bytes_of}
-use Rattle.gsl_words.specs.Faults.{words_of, word_of, AreWhole, HasHeader, magic, magic_turned, op_of, count_of, args_of, is_counted, counted, Breaks, StopsAt, StopsBehind, HasFault, Ends, FitsInstr, FitsTypes}
+use Rattle.gsl_words.specs.Bytes.{instr_words, module_words, bytes_of}
+use Rattle.gsl_words.specs.Faults.{words_of, word_of, AreWhole, HasHeader, magic, magic_turned, op_of, count_of, args_of, is_counted, counted, Breaks, StopsAt, HasFault, Ends, FitsInstr, FitsTypes}
 
 -- Bytes and words ------------------------------------------------------------------------------------------------
 

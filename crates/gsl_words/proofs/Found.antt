@@ -1,12 +1,11 @@
 -- Words that are read from bytes, and instructions from words.
-use Rattle.std.proofs.Common.{◌≡◌, ◌≢◌, ℕ, zero, suc, ◌+◌, ◌*◌, ◌/◌, ◌%◌, ◌-◌, ◌^◌, ◌<◌, ◌≤◌, Bool, true, false, cond, ◌&&◌, eqb, ltb, leb, List, [], ◌∷◌, ◌++◌, length, get_or, take, drop, Option, Some, None, refl, ap, sym, subst, ◌∙◌, arith, append_assoc, append-nil, length-append, length-take, length-drop, take-append-drop, inl, inr, ◌⊎◌}
+use Rattle.std.proofs.Common.{◌≡◌, ℕ, zero, suc, ◌+◌, ◌*◌, ◌/◌, ◌%◌, ◌-◌, ◌^◌, ◌<◌, ◌≤◌, true, false, ◌&&◌, leb, List, [], ◌∷◌, ◌++◌, length, get_or, take, drop, Some, refl, ap, sym, subst, ◌∙◌, arith, append_assoc, append-nil, length-append, length-drop, take-append-drop, inr}
 use Rattle.std.proofs.lemmas.Bool.{true≢false, and_parts, leb-true}
-use Rattle.std.proofs.lemmas.List.{take_at, drop_at}
 use Rattle.std.proofs.lemmas.List.Elements.{All-nil, All-cons, All-head, All-tail}
-use Rattle.std.specs.Prelude.{All, IsTrue}
+use Rattle.std.specs.Prelude.{All}
 use Rattle.std.specs.List.{flat_map, AllByRecursion}
-use Rattle.std.specs.Int.{w32, from_le_bytes, to_le_bytes}
-use Rattle.gsl_base.specs.Ranges.{AreWords, AreBytes}
+use Rattle.std.specs.Int.{w32, from_le_bytes}
+use Rattle.gsl_base.specs.Ranges.{AreWords}
 use Rattle.gsl_instr.specs.declared.form.Form.{Form}
 use Rattle.gsl_instr.specs.Forms.{form_of, allows_words}
 use Rattle.gsl_instr.specs.Fitting.{Fits, fits_text}
@@ -17,8 +16,7 @@ use Rattle.gsl_words.specs.Bytes.{instr_words}
 use Rattle.gsl_words.specs.Flat.{starts_from, parts, kept_words, IsFlat}
 use Rattle.gsl_words.proofs.Flattened.{parts_of, words_are}
 use Rattle.gsl_words.specs.declared.fault.WordFault.{WordFault}
-use Rattle.gsl_words.specs.declared.fault.WordFault.TheVariants.{Memory}
-use Rattle.gsl_words.specs.Faults.{words_of, op_of, count_of, args_of, is_counted, counted, Breaks, IsHead, AreRead, StopsAt, Ends}
+use Rattle.gsl_words.specs.Faults.{words_of, op_of, count_of, args_of, counted, Breaks, IsHead, AreRead, Ends}
 
 -- a word by its place
 pub word_at : (bytes : List ℕ) (k : ℕ) → 4 * k + 4 ≤ length bytes →

@@ -1,4 +1,4 @@
-use Rattle.std.proofs.Common.{◌+◌, ◌-◌, length, get_or, take, drop, arith, rules, sym, ap, ◌∙◌, ◌++◌}
+use Rattle.std.proofs.Common.{◌-◌, length, get_or, take, drop, arith, sym, ap, ◌∙◌, ◌++◌}
 use Rattle.gsl_instr.specs.Texts.{text_at}
 use Rattle.gsl_instr.proofs.Texts.{bad_end, good_end, bad_word, good_word, no_end, opened}
 use Rattle.gsl_instr.proofs.fitting.text_at.Goals as goal

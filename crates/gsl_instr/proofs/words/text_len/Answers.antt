@@ -1,4 +1,4 @@
-use Rattle.std.proofs.Common.{ℕ, ◌≤◌, ◌<◌, arith, add-one}
+use Rattle.std.proofs.Common.{arith, add-one}
 use Rattle.gsl_instr.proofs.Ends.{stops_front, stops_behind, never_front, never_behind}
 use Rattle.gsl_instr.proofs.words.text_len.Goals as goal
 

@@ -1,6 +1,6 @@
-use Rattle.std.proofs.Common.{◌≡◌, drop, arith, sym, subst, ap, ◌∙◌}
+use Rattle.std.proofs.Common.{arith, sym, subst, ◌∙◌}
 use Rattle.std.proofs.lemmas.Result.{err_from_is_err_and}
-use Rattle.gsl_words.specs.Faults.{words_of, Ends, HasFault}
+use Rattle.gsl_words.specs.Faults.{Ends, HasFault}
 use Rattle.gsl_words.proofs.Decoded.{IsRead, no_fault, read_is, read_only, behind_header, are_bytes, body_words, body_few}
 use Rattle.gsl_words.proofs.decoding.decode.Goals as goal
 

@@ -1,5 +1,5 @@
-use Rattle.std.proofs.Common.{[], sym, subst, ap, ◌∙◌}
-use Rattle.gsl_words.specs.Flat.{IsFlat, parts}
+use Rattle.std.proofs.Common.{ap, ◌∙◌}
+use Rattle.gsl_words.specs.Flat.{parts}
 use Rattle.gsl_words.proofs.Flattened.{flat_none, no_parts}
 use Rattle.gsl_words.proofs.instrs.Instrs.new.Goals as goal
 

@@ -1,4 +1,4 @@
-use Rattle.std.proofs.Common.{◌∷◌, [], ◌++◌, ap, ◌∙◌, sym, arith}
+use Rattle.std.proofs.Common.{◌∷◌, [], ◌++◌, ap, ◌∙◌, arith}
 use Rattle.gsl_words.proofs.Flattened.{put_there}
 use Rattle.gsl_words.proofs.instrs.Instrs.put.Goals as goal
 

@@ -3,7 +3,6 @@ use Rattle.std.specs.Prelude.{All}
 use Rattle.std.specs.List.{flat_map}
 use Rattle.gsl_words.specs.Bytes.{instr_words}
 use Rattle.gsl_words.specs.Instructions.{IsInTable}
-use Rattle.gsl_words.specs.Flat.{IsFlat, parts}
 use Rattle.gsl_words.specs.Faults.{AreRead}
 use Rattle.gsl_words.proofs.Found.{flat_read, Flat}
 use Rattle.gsl_words.proofs.instrs.Instrs.read.Goals as goal

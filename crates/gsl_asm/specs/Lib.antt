@@ -1,0 +1,12 @@
+pub mod Escapes
+pub mod Words
+pub mod Splitting
+pub mod Nexts
+pub mod Ordered
+pub mod Names
+pub mod Operands
+pub mod Instructions
+pub mod Texts
+pub mod Reading
+pub mod Heads
+pub mod Shown

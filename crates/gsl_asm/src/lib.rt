@@ -1,0 +1,27 @@
+//! Modules as text: one instruction a line.
+//!
+//! `specs/Texts.antt` says which module a text is and where a text is wrong, over `Words.antt`, `Operands.antt` and
+//! `Instructions.antt`. `specs/Reading.antt` is how the code reads, which `assemble` carries; `specs/Shown.antt` is what
+//! `show` writes.
+#![tactic(auto)]
+
+mod assembling;
+mod chars;
+mod fault;
+mod head;
+mod instruction;
+mod line;
+mod names;
+mod operand;
+mod place;
+mod showing;
+mod source;
+mod step;
+mod word;
+
+pub use assembling::assemble;
+pub use fault::AsmFault;
+pub use showing::show;
+
+#[cfg(test)]
+mod tests;
