@@ -16,6 +16,10 @@ pub enum Kind {
     Tokens,
     /// The same, with their lines.
     Places,
+    /// A text is assembled to a module, which is shown.
+    Asm,
+    /// A module is decoded from bytes, and shown.
+    Decode,
     /// A text is compiled for each stage.
     Stages,
     /// A shader and its module run on a buffer, side by side.

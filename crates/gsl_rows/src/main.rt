@@ -6,6 +6,7 @@
 mod case;
 mod declarations;
 mod expressions;
+mod modules;
 mod outline;
 mod reader;
 mod running;

@@ -79,6 +79,8 @@ fn take(
         "parsed" => case.kind = Kind::Parsed,
         "tokens" => case.kind = Kind::Tokens,
         "places" => case.kind = Kind::Places,
+        "asm" => case.kind = Kind::Asm,
+        "decode" => case.kind = Kind::Decode,
         "stages" => case.kind = Kind::Stages,
         "sides" => case.kind = Kind::Sides,
         "show" => case.shown.push(String::from_str(alloc, rest)?)?,

@@ -1,6 +1,7 @@
 //! Running a case, and printing what came.
 
 use crate::case::{Case, Kind};
+use crate::modules::{assembled, decoded};
 use crate::outline::{Done, Outline};
 use crate::sides::sides;
 use crate::sources::{places, stages, tokens, tree};
@@ -34,6 +35,8 @@ fn run_one(alloc: Global, out: &mut Outline, case: &Case, each: &str) -> Done {
         Kind::Parsed => tree(alloc, out, source(alloc, case, each)?.as_slice(), false),
         Kind::Tokens => tokens(alloc, out, source(alloc, case, each)?.as_slice()),
         Kind::Places => places(alloc, out, source(alloc, case, each)?.as_slice()),
+        Kind::Asm => assembled(alloc, out, source(alloc, case, each)?.as_slice()),
+        Kind::Decode => decoded(alloc, out, source(alloc, case, each)?.as_slice()),
         Kind::Stages => stages(alloc, out, source(alloc, case, each)?.as_slice()),
         Kind::Sides => {
             let text = source(alloc, case, each)?;
@@ -88,7 +91,7 @@ fn run_words(alloc: Global, out: &mut Outline, case: &Case, each: &str) -> Done 
 }
 
 /// The lines of a stream, each behind its name.
-fn stream(out: &mut Outline, name: &str, bytes: &[u8]) -> Done {
+pub fn stream(out: &mut Outline, name: &str, bytes: &[u8]) -> Done {
     let mut in_line = false;
     for byte in bytes {
         if !in_line {

@@ -1,0 +1,127 @@
+//! Modules as text and as bytes.
+
+ghost use Rattle.gsl_words.specs.Instructions.{HasFile};
+
+use crate::outline::{Done, Outline};
+use crate::running::{dump, stream};
+use gsl_asm::{AsmFault, assemble, show};
+use gsl_base::{Bytes, Memory};
+use gsl_words::{Module, WordFault, decode, encode};
+use std::alloc::Global;
+
+/// The most bytes of a text or a file that is looked at, and the most instructions.
+const MAX: usize = 16_777_216;
+
+/// Prints the words of the file of a text's module, and whether the module is shown as that text; or the line that is wrong.
+pub fn assembled(alloc: Global, out: &mut Outline, text: &[u8]) -> Done {
+    if text.len() > MAX {
+        return Err(Memory);
+    }
+    match assemble(alloc, text) {
+        Ok(module) => {
+            put_file(alloc, out, &module)?;
+            put_shown(alloc, out, &module, text)
+        }
+        Err(AsmFault::Line(line)) => {
+            out.put("line ")?;
+            out.number(u64::from(line))?;
+            out.end_line()
+        }
+        Err(AsmFault::Memory) => Err(Memory),
+    }
+}
+
+fn put_file(alloc: Global, out: &mut Outline, module: &Module) -> Done
+    requires { HasFile «module».now }
+{
+    let file = file_of(alloc, module)?;
+    dump(out, file.as_slice())
+}
+
+/// Tells whether the module is shown as this text, and whether what is shown is read back.
+fn put_shown(alloc: Global, out: &mut Outline, module: &Module, text: &[u8]) -> Done
+    requires { HasFile «module».now }
+{
+    let shown = shown(alloc, module)?;
+    let alike = shown.as_slice() == text;
+    out.put(if alike {
+        "shown as it stands"
+    } else {
+        "shown otherwise"
+    })?;
+    let back = reads_back(alloc, module, shown.as_slice())?;
+    out.put(if back {
+        ", read back\n"
+    } else {
+        ", NOT READ BACK\n"
+    })
+}
+
+fn shown(alloc: Global, module: &Module) -> Result<Bytes, Memory>
+    requires { HasFile «module».now }
+{
+    if module.instrs.len() > MAX {
+        return Err(Memory);
+    }
+    show(alloc, module)
+}
+
+/// Whether the text is one of a module with the same file.
+fn reads_back(alloc: Global, module: &Module, text: &[u8]) -> Result<bool, Memory>
+    requires { HasFile «module».now }
+{
+    if text.len() > MAX {
+        return Err(Memory);
+    }
+    match assemble(alloc, text) {
+        Ok(again) => {
+            let file = file_of(alloc, module)?;
+            let other = file_of(alloc, &again)?;
+            Ok(file.as_slice() == other.as_slice())
+        }
+        Err(AsmFault::Line(_)) => Ok(false),
+        Err(AsmFault::Memory) => Err(Memory),
+    }
+}
+
+fn file_of(alloc: Global, module: &Module) -> Result<Bytes, Memory>
+    requires { HasFile «module».now }
+{
+    let mut file = Bytes::new(alloc);
+    encode(module, &mut file)?;
+    Ok(file)
+}
+
+/// Prints the text that shows the module of a file, or what is wrong with its bytes.
+pub fn decoded(alloc: Global, out: &mut Outline, bytes: &[u8]) -> Done {
+    if bytes.len() > MAX {
+        return Err(Memory);
+    }
+    match decode(alloc, bytes) {
+        Ok(module) => {
+            let text = shown(alloc, &module)?;
+            stream(out, "shown | ", text.as_slice())?;
+            put_shown(alloc, out, &module, text.as_slice())
+        }
+        Err(fault) => faulty(out, fault),
+    }
+}
+
+fn faulty(out: &mut Outline, fault: WordFault) -> Done {
+    match fault {
+        WordFault::NotWhole => out.put("NotWhole\n"),
+        WordFault::BigEndian => out.put("BigEndian\n"),
+        WordFault::BadMagic => out.put("BadMagic\n"),
+        WordFault::BadHeader => out.put("BadHeader\n"),
+        WordFault::UnknownOpcode(place) => placed(out, "UnknownOpcode ", place),
+        WordFault::BadCount(place) => placed(out, "BadCount ", place),
+        WordFault::BadString(place) => placed(out, "BadString ", place),
+        WordFault::Memory => Err(Memory),
+    }
+}
+
+fn placed(out: &mut Outline, name: &str, place: u32) -> Done {
+    out.put(name)?;
+    out.number(u64::from(place))?;
+    out.end_line()
+}
