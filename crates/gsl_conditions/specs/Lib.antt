@@ -1,4 +1,5 @@
 pub mod Operators
 pub mod Values
 pub mod Reading
+pub mod Grammar
 pub mod Conditions

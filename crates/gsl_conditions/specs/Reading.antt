@@ -1,3 +1,4 @@
+-- How the code reads a condition; the rule is in `Grammar.antt`, and the law `conditions_are_read` ties the two.
 -- Reading a condition from left to right: a stack of what waits for an operand, the innermost first, and the operand that was
 -- read where none is due. What was read is joined as soon as what follows binds no tighter.
 use Rattle.std.specs.Prelude.{ℕ, Bool, true, false, nat_le, codes, List, [], ◌∷◌, Option, Some, None, Ok, Err, if◌then◌else◌}

@@ -3,11 +3,13 @@
 
 mod condition;
 mod defined;
+mod laws;
 mod operator;
 mod reader;
 mod value;
 
 pub use condition::{MAX_NESTING, holds};
+pub use laws::conditions_are_read;
 pub use operator::{Binary, Unary};
 pub use reader::Entry;
 pub use value::literal;
