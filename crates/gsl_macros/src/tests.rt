@@ -1,8 +1,32 @@
 use super::*;
-use gsl_base::{Code, Fault, Kind, List, Place, Refusal, Text};
+use gsl_base::{Code, Fault, Kind, List, Memory, Place, Raw, Refusal, Text};
 use gsl_lex::lex;
 use std::alloc::Global;
 use std::test::Fail;
+
+/// A table in which `A` is 3.
+fn table<'a>(alloc: Global) -> Result<Table<'a>, Memory> {
+    let mut table = Table::new(alloc);
+    let name = Text::from_str(alloc, "A")?;
+    table.set(name, Macro::Number(3))?;
+    Ok(table)
+}
+
+/// The kinds of the tokens that raw tokens give, with so much left of the count.
+fn drawn(alloc: Global, raws: &[Raw], left: u32) -> Result<List<Kind>, Refusal> {
+    let macros = Macros {
+        table: table(alloc)?,
+        shift: Shift {
+            after: 0,
+            number: 1,
+            file: 0,
+        },
+    };
+    let mut left = left;
+    let mut stream = Stream::new(alloc, raws);
+    let tokens = all(alloc, &macros, 2, &mut stream, &mut left)?;
+    kinds(alloc, tokens.as_slice())
+}
 
 /// The kinds of the tokens that a text gives, where `A` is 3, with so much left of the count.
 fn given(alloc: Global, text: &str, left: u32) -> Result<List<Kind>, Refusal> {
@@ -11,20 +35,7 @@ fn given(alloc: Global, text: &str, left: u32) -> Result<List<Kind>, Refusal> {
         return Err(Refusal::Memory);
     }
     let raws = lex(alloc, 0, bytes)?;
-    let mut table = Table::new(alloc);
-    table.set(Text::from_str(alloc, "A")?, Macro::Number(3))?;
-    let macros = Macros {
-        table,
-        shift: Shift {
-            after: 0,
-            number: 1,
-            file: 0,
-        },
-    };
-    let mut left = left;
-    let mut stream = Stream::new(alloc, raws.as_slice());
-    let tokens = all(alloc, &macros, 2, &mut stream, &mut left)?;
-    kinds(alloc, tokens.as_slice())
+    drawn(alloc, raws.as_slice(), left)
 }
 
 fn kinds(alloc: Global, tokens: &[Hid]) -> Result<List<Kind>, Refusal> {
