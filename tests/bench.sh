@@ -39,8 +39,10 @@ beside() {
     printf "%-24s %9d bytes   ours %6.2f s %8d KiB   glslang %6s s %8s KiB   times as fast %s\n", name, bytes, o[1], o[2], t[1], t[2], ratio }'
 }
 
+# valgrind cannot read what the program says for debuggers, so it counts a copy without it.
 instructions() {
-  valgrind --tool=callgrind --callgrind-out-file="$made/callgrind" "$program" compile comp "$made/a.spv" "$made/a.comp" 2>&1 |
+  strip -o "$made/stripped" "$program"
+  valgrind --tool=callgrind --callgrind-out-file="$made/callgrind" "$made/stripped" compile comp "$made/a.spv" "$made/a.comp" 2>&1 |
     awk '/Collected/ { print $4 }'
 }
 
