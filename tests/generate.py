@@ -2,7 +2,8 @@
 """Writes sources to measure on, to standard output.
 
 generate.py functions N     a compute shader of N functions that main calls one behind the other
-generate.py tokens BYTES    dense tokens: statements of one function, about so many bytes
+generate.py tokens BYTES    dense tokens: statements of one function, about so many bytes (of 1 MiB fewer than the 1,000,000
+                            tokens that a source may have)
 generate.py macros N        N object macros, each defined as the one before it, and a use of the last
 generate.py uses N          N uses of a function macro in one another's results
 generate.py directives N    N definitions of macros
@@ -22,8 +23,8 @@ def functions(count):
 
 
 def tokens(size):
-    yield "#version 450\nlayout(local_size_x = 1) in;\nvoid main() {\nint a;\n"
-    line = "a=a+1;a=a+2;a=a+3;a=a+4;a=a+5;a=a+6;a=a+7;a=a+8;\n"
+    yield "#version 450\nlayout(local_size_x = 1) in;\nvoid main() {\nint ab;\n"
+    line = "ab=ab+1;ab=ab+2;ab=ab+3;ab=ab+4;ab=ab+5;ab=ab+6;ab=ab+7;ab=ab+8;\n"
     for _ in range(size // len(line)):
         yield line
     yield "}\n"
