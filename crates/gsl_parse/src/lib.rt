@@ -17,6 +17,3 @@ mod variable;
 
 pub use judging::parse;
 pub use laws::one_tree;
-
-#[cfg(test)]
-mod tests;
