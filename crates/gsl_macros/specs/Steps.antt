@@ -14,10 +14,10 @@ Leaves (Ok x) with answer = answer ≡ Ok (with x)
 Leaves (Err refusal) with answer = Refuses refusal answer
 
 -- What a call drew is the next of the tokens that a trace gives out, and another trace is what then follows; or this
--- much of the count is left at the end.
+-- much of the count is left at the end, where it stays.
 abbrev pub Draws : Result (Option Hid) Refusal → Trace → Trace → ℕ → Type 0
 Draws (Ok (Some t)) before later left = before ≡ give t later
-Draws (Ok None) before later left = before ≡ ended left
+Draws (Ok None) before later left = (before ≡ ended left) × (later ≡ before)
 Draws (Err (Source fault)) before later left = before ≡ faulted fault
 Draws (Err Memory) before later left = Unit {0}
 

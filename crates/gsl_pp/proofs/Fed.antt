@@ -101,8 +101,11 @@ draws_here s now tokens later raws (Ok (Some t)) e h =
     ap (λ t. then_from t (λ left. unit_from raws 0 (with_left s left))) h ∙ then_give t (traced s.macros 256 later now.left) (λ left. unit_from raws 0 (with_left s left))
     ∙ sym (ap (λ (n : State). give t (then_from (traced n.macros 256 later n.left) (λ left. unit_from raws 0 (with_left n left)))) e)
 draws_here s now tokens later raws (Ok None) e h =
-    ap (λ t. then_from t (λ left. unit_from raws 0 (with_left s left))) h ∙ then_ended now.left (λ left. unit_from raws 0 (with_left s left))
-    ∙ sym (ap (λ (n : State). unit_from raws 0 n) e)
+    let K : ℕ → Trace = λ left. unit_from raws 0 (with_left s left) in
+    let none : then_from (ended now.left) K ≡ unit_from raws 0 now = then_ended now.left K ∙ sym (ap (λ (n : State). unit_from raws 0 n) e) in (
+      ap (λ t. then_from t K) h.0 ∙ none,
+      ap (λ (n : State). then_from (traced n.macros 256 later n.left) (λ left. unit_from raws 0 (with_left n left))) e ∙ ap (λ t. then_from t K) (h.1 ∙ h.0) ∙ none,
+    )
 draws_here s now tokens later raws (Err (Source fault)) e h =
     ap (λ t. then_from t (λ left. unit_from raws 0 (with_left s left))) h ∙ then_faulted fault (λ left. unit_from raws 0 (with_left s left))
 draws_here s now tokens later raws (Err Memory) e h = tt

@@ -28,10 +28,10 @@ abbrev pub Faults : Fault → Trace → Type 0
 Faults fault before = (before ≡ faulted fault) ⊎ ((t : Hid) × (later : Trace) × (before ≡ give t later) × (live_of t ≡ Err fault))
 
 -- What a feed answers is the next of the tokens that are given out, looked at, and another trace is what follows; or none
--- is left; or there is a fault at the next token or in place of it.
+-- is left, now and ever; or there is a fault at the next token or in place of it.
 abbrev pub Tells : Result (Option Token) Refusal → Trace → Trace → Type 0
 Tells (Ok (Some x)) before later = (t : Hid) × (before ≡ give t later) × (live_of t ≡ Ok x)
-Tells (Ok None) before later = (left : ℕ) × (before ≡ ended left)
+Tells (Ok None) before later = (left : ℕ) × (before ≡ ended left) × (later ≡ before)
 Tells (Err (Source fault)) before later = Faults fault before
 Tells (Err Memory) before later = Unit {0}
 
@@ -44,7 +44,7 @@ Turns (Err Memory) before later = Unit {0}
 -- A token of this segment was drawn; or it has no more, and this is what follows.
 abbrev pub DrawsHere : Result (Option Hid) Refusal → Trace → Trace → Trace → Type 0
 DrawsHere (Ok (Some t)) before later next = before ≡ give t later
-DrawsHere (Ok None) before later next = before ≡ next
+DrawsHere (Ok None) before later next = (before ≡ next) × (later ≡ next)
 DrawsHere (Err (Source fault)) before later next = before ≡ faulted fault
 DrawsHere (Err Memory) before later next = Unit {0}
 

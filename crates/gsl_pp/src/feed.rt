@@ -110,8 +110,10 @@ impl<'a> Feed<'a> {
     {
         draw(self.alloc, &mut self.state, &mut self.stream)
     }
+
     /// Behind the last token.
     fn end(&self) -> Result<Option<Hid<'a>>, Refusal>
+        requires { feeding.goes_on self.now ≡ spec.at_end self.now.state (outermost self.now.state.groups) }
         ensures { steps.Draws result (spec.at_end self.now.state (outermost self.now.state.groups)) (feeding.goes_on self.now) self.now.state.left }
     {
         match self.state.groups.outermost() {

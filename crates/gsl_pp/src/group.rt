@@ -1,6 +1,6 @@
 //! The groups of conditions that are open.
 
-ghost use Rattle.std.specs.Prelude.{◌≡◌, [], ◌∷◌, OnOk, MatchOption, reverse};
+ghost use Rattle.std.specs.Prelude.{◌≡◌, [], ◌∷◌, OnOk, OnErr, MatchOption, reverse};
 ghost use Rattle.gsl_pp.specs.Directives as spec;
 
 use gsl_base::{List, Memory, Place};
@@ -45,7 +45,8 @@ impl Groups {
     }
 
     pub fn push(&mut self, group: Group) -> Result<(), Memory>
-        ensures { OnOk result (self.new ≡ group ∷ self.old) }
+        ensures ok { OnOk result (self.new ≡ group ∷ self.old) }
+        ensures memory { OnErr result (self.new ≡ self.old) }
     {
         self.items.push(group)
     }
@@ -65,6 +66,7 @@ impl Groups {
             [] => true,
         }
     }
+
     /// The group that was opened first.
     #[tactic(auto, using(crate::proofs::Outermost::outermost_last))]
     pub fn outermost(&self) -> Option<Group>

@@ -64,5 +64,7 @@ next-loop-token-preserved t c =
     )
 
 pub next-returns-clause-drawn : goal.next-returns-clause-drawn
-next-returns-clause-drawn t c =
-    sym c.loop-token.invariant.0 ∙ ap (λ s. traced c.args.macros.now c.args.depth s c.loop-token.left) c.in_default.ensures.0 ∙ traced_none c.args.macros.now c.args.depth c.loop-token.left
+next-returns-clause-drawn t c = (
+      sym c.loop-token.invariant.0 ∙ ap (λ s. traced c.args.macros.now c.args.depth s c.loop-token.left) c.in_default.ensures.0 ∙ traced_none c.args.macros.now c.args.depth c.loop-token.left,
+      ap (λ s. traced c.args.macros.now c.args.depth s c.loop-token.left) (c.in_default.ensures.1 ∙ sym c.in_default.ensures.0) ∙ c.loop-token.invariant.0,
+    )

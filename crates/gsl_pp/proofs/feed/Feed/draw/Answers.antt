@@ -9,5 +9,10 @@ pub returns-in_default-first_of-clause-drawn : goal.returns-in_default-first_of-
 returns-in_default-first_of-clause-drawn c =
     let now = c.draw_here.new.self.state in
     draws_same c.end.result (goes_on c.args.self.now) (at_end now (outermost now.groups)) (goes_on c.draw_here.new.self) now.left
-    (sym c.loop-token.invariant.0 ∙ (rw c.in_default.is at c.in_ok-token.ensures.drawn) ∙ ap (λ raws. unit_from raws 0 now) c.in_default-first_of.ensures ∙ unit_none now)
+    (sym c.loop-token.invariant.0 ∙ (rw c.in_default.is at c.in_ok-token.ensures.drawn).0 ∙ ap (λ raws. unit_from raws 0 now) c.in_default-first_of.ensures ∙ unit_none now)
     c.end.ensures
+
+pub end-requires : goal.end-requires
+end-requires c =
+    let now = c.draw_here.new.self.state in
+    (rw c.in_default.is at c.in_ok-token.ensures.drawn).1 ∙ ap (λ raws. unit_from raws 0 now) c.in_default-first_of.ensures ∙ unit_none now
