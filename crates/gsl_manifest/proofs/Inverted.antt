@@ -9,7 +9,7 @@ use Rattle.gsl_manifest.specs.declared.meaning.Meaning.{Meaning}
 use Rattle.gsl_manifest.specs.declared.meaning.Meaning.TheVariants.{Nothing, Buffer, Push, In, Group, Local, Groups, Vertex, Instance, Choice, Steps}
 use Rattle.gsl_manifest.specs.declared.manifest.BufferLine.{BufferLine}
 use Rattle.gsl_manifest.specs.declared.manifest.Manifest.{Manifest}
-use Rattle.gsl_manifest.specs.Numbers.{◌>>=◌}
+use Rattle.gsl_text.specs.Numbers.{◌>>=◌}
 use Rattle.gsl_manifest.specs.Fields.{field_at, number_at, unsigned_at, last, three_at, numbers_at, some_numbers_at, path_at}
 use Rattle.gsl_manifest.specs.Meanings.{keyword_of, fields_say, buffer_at, in_at, choice_at, steps_at, is_blank, sentence, meaning_of, most_steps}
 use Rattle.gsl_manifest.specs.Manifests.{gather, all, buffer_in, values_in, AreManifest, IsEarlier, is_lower, same_location}

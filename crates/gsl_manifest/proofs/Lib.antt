@@ -1,6 +1,4 @@
-mod Naturals
 mod Readers
-mod Splitting
 mod Placing
 mod Standing
 mod Manifested

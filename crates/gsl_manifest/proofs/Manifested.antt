@@ -9,7 +9,7 @@ use Rattle.gsl_manifest.specs.declared.manifest.Manifest.{Manifest}
 use Rattle.gsl_manifest.specs.declared.manifest.ManifestRefusal.{ManifestRefusal}
 use Rattle.gsl_manifest.specs.declared.manifest.ManifestRefusal.TheVariants.{Line, Memory}
 use Rattle.gsl_manifest.specs.declared.draft.Draft.{Draft}
-use Rattle.gsl_manifest.specs.Numbers.{◌>>=◌}
+use Rattle.gsl_text.specs.Numbers.{◌>>=◌}
 use Rattle.gsl_manifest.specs.Meanings.{meaning_of}
 use Rattle.gsl_manifest.specs.Manifests.{StandOnce, AreManifest, BreaksAt, Answers, manifest_of, push_in, group_in, local_in, groups_in, vertex_in, instance_in, steps_in}
 use Rattle.gsl_manifest.specs.Drafts.{empty, put, put_line, read_all, finished, Reads}

@@ -12,7 +12,8 @@ use Rattle.std.specs.Str.Parse.{AllDigits, digits_value}
 use Rattle.gsl_manifest.specs.declared.meaning.Keyword.{Keyword}
 use Rattle.gsl_manifest.specs.declared.meaning.Meaning.{Meaning}
 use Rattle.gsl_base.specs.Ranges.{AreWords}
-use Rattle.gsl_manifest.specs.Numbers.{◌>>=◌, are_digits, leads_with_zero, natural, decimal_of, unsigned, number}
+use Rattle.gsl_text.specs.Numbers.{◌>>=◌, are_digits, natural}
+use Rattle.gsl_manifest.specs.Numbers.{leads_with_zero, decimal_of, unsigned, number}
 use Rattle.gsl_manifest.specs.Fields.{field_at}
 use Rattle.gsl_manifest.specs.Meanings.{keyword_of, fields_say, sentence}
 

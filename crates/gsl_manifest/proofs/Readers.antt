@@ -7,7 +7,7 @@ use Rattle.std.specs.Prelude.{Result, Ok, Err, MatchResult}
 use Rattle.std.specs.Result.{is_ok}
 use Rattle.std.specs.Option.{option_map}
 use Rattle.std.specs.Str.{IsUtf8, is_utf8}
-use Rattle.gsl_manifest.specs.Numbers.{◌>>=◌}
+use Rattle.gsl_text.specs.Numbers.{◌>>=◌}
 use Rattle.gsl_manifest.specs.Fields.{gap_len, behind_gap, number_at, numbers_at, path_at}
 
 pub gap_found : (bytes : List ℕ) (n : ℕ) → n ≡ gap_len bytes → (n ≡ 0 → ⊥) → (n ≡ length bytes → ⊥) → n ≤ length bytes →

@@ -8,7 +8,8 @@ use Rattle.std.specs.Char.{digit_value}
 use Rattle.std.specs.Fmt.{decimal}
 use Rattle.std.specs.Str.{is_utf8}
 use Rattle.std.specs.Str.Parse.{AllDigits}
-use Rattle.gsl_manifest.specs.Numbers.{◌>>=◌, below_zero, unsigned, number}
+use Rattle.gsl_text.specs.Numbers.{◌>>=◌}
+use Rattle.gsl_manifest.specs.Numbers.{below_zero, unsigned, number}
 use Rattle.gsl_manifest.specs.Fields.{gap_len, field_len, field_at, behind_gap, next_field, number_at, unsigned_at, last, three_at, numbers_at, some_numbers_at, path_at}
 use Rattle.gsl_manifest.specs.Spelling.{IsGap, IsPathText, WritesUnsigned, WritesWord, WritesWords}
 use Rattle.gsl_manifest.proofs.Printed.{natural_is, decimal_digits, decimal_digits_of, unsigned_digits, number_digits}

@@ -12,7 +12,8 @@ use Rattle.gsl_manifest.specs.declared.meaning.Keyword.{Keyword}
 use Rattle.gsl_manifest.specs.declared.meaning.Keyword.TheVariants as word
 use Rattle.gsl_manifest.specs.declared.meaning.Meaning.{Meaning}
 use Rattle.gsl_manifest.specs.declared.meaning.Meaning.TheVariants.{Nothing, Buffer, Push, In, Group, Local, Groups, Vertex, Instance, Choice, Steps}
-use Rattle.gsl_manifest.specs.Numbers.{◌>>=◌, are_digits, leads_with_zero, natural, decimal_of, below_zero, unsigned, number}
+use Rattle.gsl_text.specs.Numbers.{◌>>=◌, are_digits, natural}
+use Rattle.gsl_manifest.specs.Numbers.{leads_with_zero, decimal_of, below_zero, unsigned, number}
 use Rattle.gsl_manifest.specs.Fields.{gap_len, field_len, field_at, behind_gap, next_field, number_at, unsigned_at, last, three_at, numbers_at, some_numbers_at, path_at}
 use Rattle.gsl_manifest.specs.Meanings.{keyword_of, fields_say, buffer_at, in_at, choice_at, steps_at, sentence, is_blank, meaning_of, most_steps}
 use Rattle.gsl_manifest.specs.Spelling.{IsGap, IsPathText, WritesUnsigned, WritesWord, WritesWords, Spells}

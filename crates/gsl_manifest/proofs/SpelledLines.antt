@@ -7,14 +7,14 @@ use Rattle.std.specs.Str.{IsUtf8, is_utf8}
 use Rattle.gsl_manifest.specs.declared.meaning.Keyword.TheVariants as word
 use Rattle.gsl_manifest.specs.declared.meaning.Meaning.{Meaning}
 use Rattle.gsl_manifest.specs.declared.meaning.Meaning.TheVariants.{Buffer, Push, In, Group, Local, Groups, Vertex, Instance, Choice, Steps}
-use Rattle.gsl_manifest.specs.Lines.{onto, pieces, without_cr, ended, lines_of}
-use Rattle.gsl_manifest.specs.Numbers.{◌>>=◌}
+use Rattle.gsl_text.specs.Lines.{onto, pieces, without_cr, ended, lines_of}
+use Rattle.gsl_text.specs.Numbers.{◌>>=◌}
 use Rattle.gsl_manifest.specs.Fields.{last, unsigned_at, path_at, some_numbers_at}
 use Rattle.gsl_manifest.specs.Meanings.{keyword_of, buffer_at, in_at, choice_at, steps_at, meaning_of, most_steps}
 use Rattle.gsl_manifest.specs.Manifests.{StandOnce, AreManifest, manifest_of}
 use Rattle.gsl_manifest.specs.Spelling.{IsGap, IsPathText, WritesWords, Spells, SpellAll, IsText}
 use Rattle.gsl_manifest.proofs.Printed.{ascii_text, word_read}
-use Rattle.gsl_manifest.proofs.Splitting.{some_pieces, ended_more, ended_last, NoLf, pieces_line, lines_line, no_lf_append}
+use Rattle.gsl_text.proofs.Splitting.{some_pieces, ended_more, ended_last, NoLf, pieces_line, lines_line, no_lf_append}
 use Rattle.gsl_manifest.proofs.Spelled.{IsField, unsigned_field, word_field, gap_stops, field_at_is, unsigned_next, words_stop, some_are, words_within, last_is, three_are, path_is}
 
 -- ---- what is spelled is UTF-8

@@ -1,9 +1,9 @@
 -- Each text is one of its lines.
 use Rattle.std.proofs.Common.{◌≡◌, ℕ, zero, suc, ◌+◌, ◌≤◌, true, false, cond, not, ◌⊎◌, List, [], ◌∷◌, ◌++◌, length, take, drop, refl, ap, sym, subst, ◌∙◌, arith, eqb, append_assoc, append-nil, length-append, one-add, take-append-drop, inl, inr}
 use Rattle.std.proofs.lemmas.Bool.{eqb-true, or_from, or_parts}
-use Rattle.gsl_manifest.specs.Lines.{without_cr, lines_of}
+use Rattle.gsl_text.specs.Lines.{without_cr, lines_of}
 use Rattle.gsl_manifest.specs.Spelling.{IsText}
-use Rattle.gsl_manifest.proofs.Splitting.{before_lf, last_line, line_ended, NoLf}
+use Rattle.gsl_text.proofs.Splitting.{before_lf, last_line, line_ended, NoLf}
 use Rattle.gsl_manifest.proofs.SpelledLines.{no_lines_of}
 
 no_lf_before : (bytes : List ℕ) → NoLf (take (before_lf bytes) bytes)

@@ -9,7 +9,7 @@ use Rattle.gsl_manifest.specs.declared.meaning.Meaning.TheVariants.{Push, Choice
 use Rattle.gsl_manifest.specs.declared.manifest.BufferLine.{BufferLine}
 use Rattle.gsl_manifest.specs.declared.manifest.PushLine.{PushLine}
 use Rattle.gsl_manifest.specs.declared.manifest.Manifest.{Manifest}
-use Rattle.gsl_manifest.specs.Lines.{lines_of}
+use Rattle.gsl_text.specs.Lines.{lines_of}
 use Rattle.gsl_manifest.specs.Manifests.{gather, all, buffer_in, push_in, values_in, group_in, local_in, groups_in, vertex_in, instance_in, choices_in, steps_in, place, in_order, differ, same_buffer, same_location, is_lower, first, StandOnce, AreManifest, manifest_of}
 use Rattle.gsl_base.specs.Proper.{Ascends, IsLower}
 use Rattle.gsl_manifest.specs.Printing.{buffer_says, push_says, values_say, choices_say, rest_says, says_of, manifest_text, AreNumbered, IsNumbered, IsPrintable}

@@ -6,12 +6,12 @@ use Rattle.std.specs.Fmt.{decimal}
 use Rattle.std.specs.Str.Parse.{AllDigits}
 use Rattle.gsl_manifest.specs.declared.meaning.Meaning.{Meaning}
 use Rattle.gsl_manifest.specs.declared.meaning.Meaning.TheVariants.{Nothing, Buffer, Push, In, Group, Local, Groups, Vertex, Instance, Choice, Steps}
-use Rattle.gsl_manifest.specs.Lines.{lines_of}
+use Rattle.gsl_text.specs.Lines.{lines_of}
 use Rattle.gsl_base.specs.Ranges.{AreWords}
 use Rattle.gsl_manifest.specs.Meanings.{meaning_of}
 use Rattle.gsl_manifest.specs.Manifests.{StandOnce, AreManifest, manifest_of}
 use Rattle.gsl_manifest.specs.Printing.{field_text, line_text, printed, IsPath, AreSome, IsWritable}
-use Rattle.gsl_manifest.proofs.Splitting.{NoLf, NoCr, lines_line, no_lf_append}
+use Rattle.gsl_text.proofs.Splitting.{NoLf, NoCr, lines_line, no_lf_append}
 use Rattle.gsl_manifest.proofs.Printed.{decimal_digits, digit_above, one_fits}
 use Rattle.gsl_manifest.proofs.SpelledLines.{line_is}
 use Rattle.gsl_manifest.specs.Spelling.{WritesUnsigned, WritesWord, WritesWords, IsPathText, Spells, IsGap}

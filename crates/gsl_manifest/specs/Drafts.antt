@@ -12,7 +12,7 @@ use Rattle.gsl_manifest.specs.declared.manifest.Manifest.{Manifest}
 use Rattle.gsl_manifest.specs.declared.manifest.ManifestRefusal.{ManifestRefusal}
 use Rattle.gsl_manifest.specs.declared.manifest.ManifestRefusal.TheVariants.{Line, Memory}
 use Rattle.gsl_manifest.specs.declared.draft.Draft.{Draft}
-use Rattle.gsl_manifest.specs.Numbers.{◌>>=◌}
+use Rattle.gsl_text.specs.Numbers.{◌>>=◌}
 use Rattle.gsl_manifest.specs.Meanings.{meaning_of, most_steps}
 use Rattle.gsl_manifest.specs.Manifests.{same_buffer, same_location, is_lower, place}
 

@@ -3,7 +3,8 @@
 use Rattle.std.specs.Prelude.{ℕ, zero, suc, ◌==◌, ◌&&◌, not, if◌then◌else◌, nat_lt, List, [], ◌∷◌, length, take, drop, Option, Some, None}
 use Rattle.std.specs.List.{prefix_len}
 use Rattle.std.specs.Str.{is_utf8}
-use Rattle.gsl_manifest.specs.Numbers.{◌>>=◌, number, unsigned}
+use Rattle.gsl_text.specs.Numbers.{◌>>=◌}
+use Rattle.gsl_manifest.specs.Numbers.{number, unsigned}
 
 -- a value that was read, and the bytes behind it
 abbrev pub Reading : Type 0 → Type 0

@@ -6,7 +6,7 @@ use Rattle.gsl_manifest.specs.declared.meaning.Keyword.{Keyword}
 use Rattle.gsl_manifest.specs.declared.meaning.Keyword.TheVariants as word
 use Rattle.gsl_manifest.specs.declared.meaning.Meaning.{Meaning}
 use Rattle.gsl_manifest.specs.declared.meaning.Meaning.TheVariants.{Nothing, Buffer, Push, In, Group, Local, Groups, Vertex, Instance, Choice, Steps}
-use Rattle.gsl_manifest.specs.Numbers.{◌>>=◌}
+use Rattle.gsl_text.specs.Numbers.{◌>>=◌}
 use Rattle.gsl_manifest.specs.Fields.{field_at, unsigned_at, number_at, last, three_at, some_numbers_at, path_at}
 
 -- the word that a line begins with

@@ -9,7 +9,7 @@ use Rattle.gsl_manifest.specs.declared.manifest.PushLine.{PushLine}
 use Rattle.gsl_manifest.specs.declared.manifest.Manifest.{Manifest}
 use Rattle.gsl_manifest.specs.declared.meaning.Meaning.{Meaning}
 use Rattle.gsl_manifest.specs.declared.meaning.Meaning.TheVariants.{Nothing, Buffer, Push, In, Group, Local, Groups, Vertex, Instance, Choice, Steps}
-use Rattle.gsl_manifest.specs.Lines.{without_cr}
+use Rattle.gsl_text.specs.Lines.{without_cr}
 use Rattle.gsl_base.specs.Proper.{IsProper}
 use Rattle.gsl_base.specs.Ranges.{AreWords}
 use Rattle.gsl_manifest.specs.Meanings.{most_steps}

@@ -1,5 +1,5 @@
 -- How a manifest may be spelled: which bytes are a text of which lines, and which lines say what. This is the rule of the format;
--- `Lines.antt`, `Numbers.antt`, `Fields.antt` and `Meanings.antt` compute what it says: the law `spelled_and_read`.
+-- `Numbers.antt`, `Fields.antt` and `Meanings.antt`, and the lines and digits of `gsl_text`, compute what it says: the law `spelled_and_read`.
 use Rattle.std.specs.Prelude.{◌≡◌, ℕ, ◌-◌, ◌%◌, ◌^◌, ◌<◌, ◌≤◌, ◌==◌, false, IsTrue, List, [], ◌∷◌, ◌++◌, length, codes, slice_index_or, ◌≢◌, ⊤}
 use Rattle.std.specs.List.{list_any, AllByRecursion}
 use Rattle.std.specs.Str.{is_utf8}
@@ -7,7 +7,7 @@ use Rattle.std.specs.Str.Parse.{AllDigits, digits_value}
 use Rattle.std.specs.Fmt.{decimal}
 use Rattle.gsl_manifest.specs.declared.meaning.Meaning.{Meaning}
 use Rattle.gsl_manifest.specs.declared.meaning.Meaning.TheVariants.{Nothing, Buffer, Push, In, Group, Local, Groups, Vertex, Instance, Choice, Steps}
-use Rattle.gsl_manifest.specs.Lines.{without_cr}
+use Rattle.gsl_text.specs.Lines.{without_cr}
 use Rattle.gsl_manifest.specs.Meanings.{most_steps}
 
 -- One space or more.

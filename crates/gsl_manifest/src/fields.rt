@@ -7,24 +7,8 @@ ghost use Rattle.gsl_manifest.specs.Numbers as numbers;
 ghost use Rattle.gsl_manifest.specs.Fields as spec;
 
 use gsl_base::{List, Memory, Text};
+use gsl_text::natural;
 use std::alloc::Global;
-
-/// The number that one digit or more write in the base, if a word holds it.
-fn natural(base: u32, digits: &[u8]) -> Option<u32>
-    requires low { 2 ≤ base }
-    requires high { base ≤ 16 }
-    ensures { result ≡ numbers.natural base digits.now }
-{
-    if digits.is_empty() {
-        return None;
-    }
-    let mut value: u32 = 0;
-    for byte in digits {
-        let digit = char::from(*byte).to_digit(base)?;
-        value = value.checked_mul(base)?.checked_add(digit)?;
-    }
-    Some(value)
-}
 
 /// A decimal number, which has no zero in front of its digits.
 #[tactic(auto, unfolding(crate::specs::Numbers::decimal_of))]

@@ -7,7 +7,7 @@ ghost use Rattle.gsl_base.specs.Proper.{Ascends, IsProper};
 ghost use Rattle.gsl_base.specs.declared.input.Output.{Output};
 ghost use Rattle.gsl_manifest.specs.declared.manifest.Manifest.{Manifest};
 ghost use Rattle.gsl_manifest.specs.declared.meaning.Meaning.{Meaning};
-ghost use Rattle.gsl_manifest.specs.Lines.{lines_of};
+ghost use Rattle.gsl_text.specs.Lines.{lines_of};
 ghost use Rattle.gsl_manifest.specs.Listing.{FitsOutput, SameShown, listing_of};
 ghost use Rattle.gsl_manifest.specs.Manifests.{AreManifest, BreaksAt, StandOnce, IsEarlier, manifest_of, all, values_in};
 ghost use Rattle.gsl_manifest.specs.Meanings.{meaning_of};

@@ -1,7 +1,7 @@
 //! What goes into a run and what is printed of it: the manifest and the listing.
 //!
 //! `specs/Spelling.antt` says how a manifest may be spelled, and `specs/Manifests.antt` which lines are one and
-//! what it says; `read_manifest` carries them. `Lines.antt`, `Numbers.antt`, `Fields.antt` and `Meanings.antt`
+//! what it says; `read_manifest` carries them. `Numbers.antt`, `Fields.antt` and `Meanings.antt`
 //! compute what lines say, which `spelled_and_read` ties to the spelling; `Drafts.antt` is how the code reads.
 //! `specs/Listing.antt` says which text shows an output, and `listing` carries it.
 #![tactic(auto)]
@@ -10,7 +10,6 @@ mod draft;
 mod fields;
 mod input;
 mod laws;
-mod lines;
 mod manifest;
 mod meaning;
 mod output;

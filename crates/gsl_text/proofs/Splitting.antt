@@ -1,6 +1,7 @@
 -- The first line of a text, and the others.
 use Rattle.std.proofs.Common.{◌≡◌, ℕ, suc, ◌+◌, ◌-◌, ◌<◌, true, false, cond, not, List, [], ◌∷◌, ◌++◌, length, get_or, take, drop, refl, ap, sym, ◌∙◌, arith, eqb, one-add, take-append-drop, length-append}
-use Rattle.std.proofs.lemmas.Bool.{or_parts, eqb-true, eq-eqb, ne_eqb, cond-true, cond-false}
+use Rattle.std.proofs.lemmas.Bool.{or_parts, or_from, eqb-true, eq-eqb, ne_eqb, cond-true, cond-false}
+use Rattle.std.proofs.lemmas.List.Folds.{list_any-append}
 use Rattle.std.specs.List.{prefix_len, list_any}
 use Rattle.gsl_text.specs.Lines.{onto, pieces, without_cr, ended, lines_of}
 
@@ -56,7 +57,7 @@ some_pieces (b ∷ bytes) =
 pub ended_more : (piece : List ℕ) (found : List (List ℕ)) (one : List ℕ) (others : List (List ℕ)) → found ≡ one ∷ others → ended (piece ∷ found) ≡ without_cr piece ∷ ended found
 ended_more piece found one others e = ap (λ f. ended (piece ∷ f)) e ∙ ap (λ f. without_cr piece ∷ ended f) (sym e)
 
-ended_last : (last : List ℕ) → 0 < length last → ended (last ∷ []) ≡ last ∷ []
+pub ended_last : (last : List ℕ) → 0 < length last → ended (last ∷ []) ≡ last ∷ []
 ended_last [] some = absurd (omega arith)
 ended_last (b ∷ last) some = cond-false _ _ _ (ne_eqb (suc (length last)) 0 (λ e. omega arith))
 
@@ -112,7 +113,7 @@ NoLf bytes = list_any (λ b. eqb b 10) bytes ≡ false
 abbrev pub NoCr : List ℕ → Type 0
 NoCr bytes = without_cr bytes ≡ bytes
 
-pieces_line : (line rest : List ℕ) → NoLf line → pieces (line ++ 10 ∷ rest) ≡ line ∷ pieces rest
+pub pieces_line : (line rest : List ℕ) → NoLf line → pieces (line ++ 10 ∷ rest) ≡ line ∷ pieces rest
 pieces_line [] rest none = refl
 pieces_line (b ∷ line) rest none =
     let parts = or_parts (eqb b 10) _ none in
@@ -123,3 +124,6 @@ unfolding lines_of
 lines_line line rest none end =
     let next = some_pieces rest in
     ap ended (pieces_line line rest none) ∙ ended_more line (pieces rest) next.one next.others next.are ∙ ap (λ l. l ∷ ended (pieces rest)) end
+
+pub no_lf_append : (a b : List ℕ) → NoLf a → NoLf b → NoLf (a ++ b)
+no_lf_append a b e f = list_any-append (λ c. eqb c 10) a b ∙ or_from _ _ e f
