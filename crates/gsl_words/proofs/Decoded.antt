@@ -121,7 +121,7 @@ strip i j x y hi hj e =
     let rest = same_front i.args j.args x y (omega (arith, h.0)) (ap (drop 1) e) in
     (ap (λ op. record { op = op; args = i.args }) h.1 ∙ ap (λ args. record { op = j.op; args = args }) rest.0, rest.1)
 
-none_words : (i : Instr) (x : List ℕ) → [] ≡ instr_words i ++ x → ⊥
+pub none_words : (i : Instr) (x : List ℕ) → [] ≡ instr_words i ++ x → ⊥
 none_words i x e = let n : 0 ≡ suc (length i.args + length x) = ap length e ∙ ap suc (length-append i.args x) in omega (arith, n)
 
 pub same_code : (a b : List Instr) → Ops a → Ops b → flat_map instr_words a ≡ flat_map instr_words b → a ≡ b
@@ -133,7 +133,7 @@ same_code (i ∷ a) (j ∷ b) oa ob e =
     ap (λ k. k ∷ a) s.0 ∙ ap (λ l. j ∷ l) (same_code a b oa.1 ob.1 s.1)
 
 -- opcodes of the table are small
-small_op : (i : Instr) → IsInTable i → i.op < 2 ^ 16
+pub small_op : (i : Instr) → IsInTable i → i.op < 2 ^ 16
 small_op i fits = op_small i.op fits.form fits.found
 
 -- What begins as the words of some instructions of the table, and as others, has the next of those behind.
@@ -176,7 +176,7 @@ head_counted i more form fits found =
     ∙ and_from _ _ (and_from _ _ (le-leb 1 (word_count i) (omega arith)) (le-leb _ _ long)) (ap (allows_words form) n ∙ p.0)
 
 -- nothing is wrong with an instruction of the table
-never_breaks : (i : Instr) (more : List ℕ) (place : ℕ) (fault : WordFault) → IsInTable i → Breaks (instr_words i ++ more) place fault → fault ≡ Memory
+pub never_breaks : (i : Instr) (more : List ℕ) (place : ℕ) (fault : WordFault) → IsInTable i → Breaks (instr_words i ++ more) place fault → fault ≡ Memory
 never_breaks i more place NotWhole fits b = absurd b
 never_breaks i more place BigEndian fits b = absurd b
 never_breaks i more place BadMagic fits b = absurd b
@@ -212,9 +212,9 @@ words_fit (i ∷ code) fit all =
     both (x ∷ xs) ys a b = (a.0, both xs ys a.1 b)
 
 -- the words of a module's file
-record OfFile (bytes : List ℕ) (m : Module) : Type 0 where
-  whole : AreWhole bytes
-  words : words_of bytes ≡ module_words m
+pub record OfFile (bytes : List ℕ) (m : Module) : Type 0 where
+  pub whole : AreWhole bytes
+  pub words : words_of bytes ≡ module_words m
 
 bytes_many : (words : List ℕ) → length (flat_map (to_le_bytes w32) words) ≡ 4 * length words
 bytes_many [] = refl
@@ -227,7 +227,7 @@ known_small v known = subst (λ n. n < 2 ^ 32) (sym known.1) (target_small known
     target_small V10 = lit< tt
     target_small V13 = lit< tt
 
-of_file : (bytes : List ℕ) (m : Module) → HasFile m → FitsTypes m → bytes ≡ bytes_of m → OfFile bytes m
+pub of_file : (bytes : List ℕ) (m : Module) → HasFile m → FitsTypes m → bytes ≡ bytes_of m → OfFile bytes m
 of_file bytes m file fits is =
     let n : length bytes ≡ 4 * length (module_words m) = ap length is ∙ bytes_many (module_words m) in
     let long : 5 ≤ length (module_words m) = omega arith in
@@ -237,7 +237,7 @@ of_file bytes m file fits is =
     fours : (k : ℕ) {n : ℕ} → n ≡ 4 * k → n % 4 ≡ 0
     fours k e = omega arith
 
-header_is : (bytes : List ℕ) (m : Module) → HasFile m → words_of bytes ≡ module_words m → HasHeader bytes
+pub header_is : (bytes : List ℕ) (m : Module) → HasFile m → words_of bytes ≡ module_words m → HasHeader bytes
 header_is bytes m file is = record {
   version = subst IsKnown (sym (ap (λ l. get_or l 1 0) is)) file.version;
   generator = ap (λ l. get_or l 2 0) is;
@@ -276,7 +276,7 @@ pub record IsRead (bytes : List ℕ) (version bound : ℕ) (code : List Instr) :
   pub words_are : drop 5 (words_of bytes) ≡ flat_map instr_words code
   pub ops : Ops code
 
-abbrev module_of : ℕ → ℕ → List Instr → Module
+abbrev pub module_of : ℕ → ℕ → List Instr → Module
 module_of version bound code = record { version = version; bound = bound; instrs = code }
 
 long_words : (k : ℕ) (bytes : List ℕ) → 4 * k ≤ length bytes → k ≤ length (words_of bytes)
@@ -305,12 +305,48 @@ read_words bytes version bound code r =
     ∙ ap (λ w. magic ∷ version ∷ 0 ∷ bound ∷ w ∷ drop 5 (words_of bytes)) r.header.last
     ∙ ap (λ l. magic ∷ version ∷ 0 ∷ bound ∷ 0 ∷ l) r.words_are
 
+-- the numbers of what was read
+pub words_small : (bytes : List ℕ) → AreBytes bytes → AreWords (words_of bytes)
+words_small [] fit = tt
+words_small (a ∷ []) fit = tt
+words_small (a ∷ b ∷ []) fit = tt
+words_small (a ∷ b ∷ c ∷ []) fit = tt
+words_small (a ∷ b ∷ c ∷ d ∷ bytes) fit = (four a b c d fit.0 fit.1.0 fit.1.1.0 fit.1.1.1.0, words_small bytes fit.1.1.1.1)
+  where
+    four : (a b c d : ℕ) → a < 256 → b < 256 → c < 256 → d < 256 → from_le_bytes w32 (a ∷ b ∷ c ∷ d ∷ []) < 2 ^ 32
+    four a b c d ha hb hc hd = omega arith
+
+word_small : (words : List ℕ) → AreWords words → (k : ℕ) → get_or words k 0 < 2 ^ 32
+word_small [] fit k = lit< tt
+word_small (w ∷ words) fit zero = fit.0
+word_small (w ∷ words) fit (suc k) = word_small words fit.1 k
+
+pub words_behind : (k : ℕ) (words : List ℕ) → AreWords words → AreWords (drop k words)
+words_behind zero words fit = fit
+words_behind (suc k) [] fit = tt
+words_behind (suc k) (w ∷ words) fit = words_behind k words fit.1
+
+halves : (xs ys : List ℕ) → AreWords (xs ++ ys) → AreWords xs × AreWords ys
+halves [] ys fit = (tt, fit)
+halves (x ∷ xs) ys fit = let both = halves xs ys fit.1 in ((fit.0, both.0), both.1)
+
+code_fits : (code : List Instr) → Ops code → AreWords (flat_map instr_words code) → AllByRecursion FitsInstr code
+code_fits [] ops fit = tt
+code_fits (i ∷ code) ops fit =
+    let both = halves i.args (flat_map instr_words code) fit.1 in ((ops.0, both.0), code_fits code ops.1 both.1)
+
 -- what was read has this file
-pub read_is : (bytes : List ℕ) (version bound : ℕ) (code : List Instr) → AreBytes bytes → IsRead bytes version bound code → HasFile (module_of version bound code) × (bytes ≡ bytes_of (module_of version bound code))
-read_is bytes version bound code fit r = (
-  record { version = subst IsKnown (sym r.version_is) r.header.version; instrs = r.all },
-  sym (bytes_again bytes fit r.whole.words) ∙ ap (flat_map (to_le_bytes w32)) (read_words bytes version bound code r),
-)
+pub read_is : (bytes : List ℕ) (version bound : ℕ) (code : List Instr) → AreBytes bytes → IsRead bytes version bound code →
+    HasFile (module_of version bound code) × FitsTypes (module_of version bound code) × (bytes ≡ bytes_of (module_of version bound code))
+read_is bytes version bound code fit r =
+    let words = words_small bytes fit in (
+      record { version = subst IsKnown (sym r.version_is) r.header.version; instrs = r.all },
+      record {
+        bound = subst (λ n. n < 2 ^ 32) (sym r.bound_is) (word_small (words_of bytes) words 3);
+        instrs = code_fits code r.ops (subst AreWords r.words_are (words_behind 5 (words_of bytes) words));
+      },
+      sym (bytes_again bytes fit r.whole.words) ∙ ap (flat_map (to_le_bytes w32)) (read_words bytes version bound code r),
+    )
 
 -- and no other module has
 pub read_only : (bytes : List ℕ) (version bound : ℕ) (code : List Instr) → IsRead bytes version bound code → (m : Module) → HasFile m → FitsTypes m → bytes ≡ bytes_of m → module_of version bound code ≡ m

@@ -3,3 +3,4 @@ pub mod Bytes
 pub mod Flattened
 pub mod Found
 pub mod Decoded
+pub mod Judgements

@@ -11,8 +11,8 @@ use Rattle.gsl_words.specs.declared.fault.WordFault.{WordFault}
 use Rattle.gsl_words.specs.declared.fault.WordFault.TheVariants.{NotWhole, BigEndian, BadMagic, BadHeader, UnknownOpcode, BadCount, BadString, Memory}
 use Rattle.gsl_words.specs.declared.module.Instr.{Instr}
 use Rattle.gsl_words.specs.declared.module.Module.{Module}
-use Rattle.gsl_words.specs.Instructions.{IsInTable}
-use Rattle.gsl_words.specs.Bytes.{instr_words}
+use Rattle.gsl_words.specs.Instructions.{IsInTable, HasFile}
+use Rattle.gsl_words.specs.Bytes.{instr_words, bytes_of}
 use Rattle.gsl_words.specs.Flat.{starts_from}
 use Rattle.gsl_words.specs.Versions.{IsKnown}
 
@@ -131,3 +131,8 @@ pub record FitsTypes (m : Module) : Type 0 where
 abbrev pub Gives : Result Module WordFault → Module → Type 0
 Gives (Ok n) m = n ≡ m
 Gives (Err fault) m = fault ≡ Memory
+
+-- What is judged of bytes: they are the file of this module, or have this fault.
+abbrev pub Judges : List ℕ → Result Module WordFault → Type 0
+Judges bytes (Ok m) = HasFile m × FitsTypes m × (bytes ≡ bytes_of m)
+Judges bytes (Err fault) = (fault ≢ Memory) × HasFault bytes fault

@@ -25,7 +25,7 @@ const HEADER: usize = 20;
 /// The module of a file's bytes, or why they are none.
 pub fn decode(alloc: Global, bytes: &[u8]) -> Result<Module, WordFault>
     requires { length bytes.now < 2 ^ 32 }
-    ensures found { IfOk result (λ m. HasFile m × (bytes.now ≡ bytes_of m)) }
+    ensures found { IfOk result (λ m. HasFile m × FitsTypes m × (bytes.now ≡ bytes_of m)) }
     ensures only { (m : AnyModule) → HasFile m → FitsTypes m → bytes.now ≡ bytes_of m → Gives result m }
     ensures fault { IfErr result (HasFault bytes.now) }
 {

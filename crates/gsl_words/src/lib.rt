@@ -9,6 +9,7 @@ mod decoding;
 mod encoding;
 mod fault;
 mod instrs;
+mod laws;
 mod module;
 mod target;
 
@@ -16,6 +17,7 @@ pub use decoding::decode;
 pub use encoding::{MAGIC, encode};
 pub use fault::WordFault;
 pub use instrs::Instrs;
+pub use laws::one_judgement;
 pub use module::{Args, Instr, Module};
 pub use target::{Target, VERSION_1_0, VERSION_1_3};
 
