@@ -7,6 +7,7 @@ use Rattle.gsl_base.specs.declared.fault.Code.TheVariants.{E0001, E0900}
 use Rattle.gsl_base.specs.declared.fault.Fault.{Fault}
 use Rattle.gsl_base.specs.declared.fault.Refusal.{Refusal}
 use Rattle.gsl_base.specs.declared.fault.Refusal.TheVariants as refusal
+use Rattle.gsl_base.specs.declared.token.Token.{Token}
 use Rattle.gsl_base.specs.Checked.{Checked, ◌>>=◌}
 use Rattle.gsl_lex.specs.Raws.{raws_of}
 use Rattle.gsl_parse.specs.Judged.{unit_of}
@@ -33,10 +34,13 @@ abbrev pub too_long_from : ℕ → List (List ℕ) → Option ℕ
 too_long_from unit [] = None
 too_long_from unit (source ∷ sources) = if nat_lt MAX_SOURCE_BYTES (length source) then Some unit else too_long_from (unit + 1) sources
 
--- the tree of the source file of this number, or its first fault: its raw tokens, those of them that are live, and the unit
--- that these spell
+-- the live tokens of the source file of this number, or its first fault up to there
+unfoldable pub tokens_of : ℕ → List ℕ → Checked (List Token)
+tokens_of unit source = raws_of unit source >>= preprocessed unit
+
+-- the tree of the source file of this number, or its first fault: the unit that its live tokens spell
 unfoldable pub tree_of : ℕ → List ℕ → Checked Tree
-tree_of unit source = raws_of unit source >>= λ raws. preprocessed unit raws >>= unit_of
+tree_of unit source = tokens_of unit source >>= unit_of
 
 -- the trees of sources that are numbered from this one on, or the first fault
 abbrev pub trees_from : ℕ → List (List ℕ) → Checked (List Tree)

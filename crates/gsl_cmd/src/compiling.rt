@@ -7,10 +7,10 @@ ghost use Rattle.gsl_form.specs.declared.program.Program.{Program};
 ghost use Rattle.gsl_form.specs.Form.{IsProgram};
 ghost use Rattle.gsl_form.specs.Trees.{Spells};
 ghost use Rattle.gsl_cmd.specs.Lowering.{module_of};
-ghost use Rattle.gsl_cmd.specs.Verdict.{Compiles, CompilesTree, tree_of, fault_in as first_line};
+ghost use Rattle.gsl_cmd.specs.Verdict.{Compiles, CompilesTree, tokens_of, tree_of, fault_in as first_line};
 
 use crate::lowering::lower;
-use gsl_base::{Bytes, Code, Fault, Memory, Place, Refusal, Sources, Stage};
+use gsl_base::{Bytes, Code, Fault, Memory, Place, Refusal, Sources, Stage, Tokens};
 use gsl_form::{Program, read_program};
 use gsl_lex::lex;
 use gsl_parse::parse;
@@ -51,9 +51,19 @@ fn tree(alloc: Global, number: u32, source: &[u8]) -> Result<Unit, Refusal>
     requires { length source.now < 2 ^ 32 }
     ensures { Gives result (tree_of number source.now) }
 {
-    let raws = lex(alloc, number, source)?;
-    let tokens = preprocess(alloc, number, &raws)?;
+    let tokens = tokens(alloc, number, source)?;
     parse(alloc, &tokens)
+}
+
+/// The live tokens of the source file of this number, or its first fault up to there. The raw tokens end here, so that they
+/// do not stand beside the tree.
+#[tactic(auto, unfolding(crate::specs::Verdict::tokens_of))]
+fn tokens(alloc: Global, number: u32, source: &[u8]) -> Result<Tokens, Refusal>
+    requires { length source.now < 2 ^ 32 }
+    ensures { Gives result (tokens_of number source.now) }
+{
+    let raws = lex(alloc, number, source)?;
+    preprocess(alloc, number, &raws)
 }
 
 /// The bytes of the module of a tree, or `E0001` where it is not of the form.
