@@ -3,4 +3,11 @@ pub mod Cutting
 pub mod Strings
 pub mod Taking
 pub mod Shows
+pub mod Binds
+pub mod Ascii
+pub mod Escaped
+pub mod Spelled
+pub mod Operated
+pub mod Instructed
+pub mod Lined
 pub mod Filed

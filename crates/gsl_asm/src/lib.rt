@@ -10,6 +10,7 @@ mod chars;
 mod fault;
 mod head;
 mod instruction;
+mod laws;
 mod line;
 mod names;
 mod operand;
