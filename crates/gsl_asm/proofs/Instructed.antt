@@ -91,7 +91,7 @@ args_are target form words args e = operands_are target (rest form) (slots form)
 -- Names and results ------------------------------------------------------------------------------------------------
 
 -- what all names of a table have in common is so of the name that is found
-found_in : (test : List ℕ → Bool) (table : List (List ℕ × ℕ)) (name : List ℕ) (number : ℕ) → list_all (λ (row : List ℕ × ℕ). test row.0) table ≡ true → lookup table name ≡ Some number → test name ≡ true
+pub found_in : (test : List ℕ → Bool) (table : List (List ℕ × ℕ)) (name : List ℕ) (number : ℕ) → list_all (λ (row : List ℕ × ℕ). test row.0) table ≡ true → lookup table name ≡ Some number → test name ≡ true
 found_in test [] name number all e = absurd (cc)
 found_in test (row ∷ table) name number all e =
     let p = and_parts (test row.0) _ all in

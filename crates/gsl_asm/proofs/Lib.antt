@@ -10,4 +10,8 @@ pub mod Spelled
 pub mod Operated
 pub mod Instructed
 pub mod Lined
+pub mod Quoting
+pub mod Joined
+pub mod Rows
+pub mod Displayed
 pub mod Filed
