@@ -1,6 +1,6 @@
 -- What is shown of a module is one of its texts.
-use Rattle.std.proofs.Common.{◌≡◌, ◌≢◌, ◌⊎◌, inl, inr, ℕ, zero, suc, ◌+◌, ◌^◌, ◌<◌, ◌≤◌, Bool, true, false, not, cond, ◌&&◌, ◌||◌, eqb, ltb, List, [], ◌∷◌, ◌++◌, length, get_or, take, drop, Option, Some, None, refl, ap, sym, subst, ◌∙◌, arith, append_assoc, append-nil, codes, lit<}
-use Rattle.std.proofs.lemmas.Bool.{cond-true, cond-false, and_parts, and_from, or_from, lt-ltb, le-ltb, ne_eqb, eqb-true, eqb-false, not-true, ltb-true}
+use Rattle.std.proofs.Common.{◌≡◌, ◌≢◌, ◌⊎◌, inl, inr, ℕ, ◌^◌, ◌<◌, ◌≤◌, Bool, true, false, not, eqb, List, [], ◌∷◌, ◌++◌, length, get_or, Option, Some, None, refl, ap, sym, subst, ◌∙◌, arith, append_assoc, append-nil, codes, lit<}
+use Rattle.std.proofs.lemmas.Bool.{cond-true, cond-false, and_parts, and_from, or_from, lt-ltb, le-ltb, ne_eqb, eqb-true, eqb-false, not-true}
 use Rattle.std.proofs.lemmas.List.Elements.{All-head, All-tail}
 use Rattle.std.proofs.lemmas.Str.Parse.{digit_from_value}
 use Rattle.std.specs.Prelude.{All, Ok, Err}
@@ -19,15 +19,15 @@ use Rattle.gsl_instr.specs.declared.slot.Enumeration.TheVariants.{BuiltIn}
 use Rattle.gsl_instr.specs.declared.slot.Slot.{Slot}
 use Rattle.gsl_instr.specs.declared.slot.Slot.TheVariants.{Result, Id, Forward, Number, Named, OfDecoration, Text}
 use Rattle.gsl_instr.specs.declared.slot.Rest.{Rest}
-use Rattle.gsl_instr.specs.Fitting.{TakesWord, Takes, Fill, Fits}
-use Rattle.gsl_instr.specs.Forms.{form_of, slots, rest, allows, next_of, is_text}
-use Rattle.gsl_instr.specs.Parts.{more_parts, parts_from, parts_of}
+use Rattle.gsl_instr.specs.Fitting.{Fill}
+use Rattle.gsl_instr.specs.Forms.{slots, rest, allows, next_of}
+use Rattle.gsl_instr.specs.Parts.{is_result, more_parts, parts_from, parts_of}
 use Rattle.gsl_instr.specs.Strings.{word_of, string_words, IsText}
 use Rattle.gsl_instr.specs.Texts.{text_words, after_text, text_at}
 use Rattle.gsl_instr.proofs.Fittings.{text_gives}
 use Rattle.gsl_instr.proofs.Utf8.{utf8_bytes}
 use Rattle.gsl_text.specs.Lines.{lines_of}
-use Rattle.gsl_text.specs.Numbers.{natural, unsigned}
+use Rattle.gsl_text.specs.Numbers.{unsigned}
 use Rattle.gsl_text.proofs.Decimals.{decimal_digits, natural_digits, unsigned_digits}
 use Rattle.gsl_text.proofs.Splitting.{lines_line, no_lines}
 use Rattle.gsl_words.specs.declared.target.Target.{Target}
@@ -39,20 +39,18 @@ use Rattle.gsl_words.specs.Instructions.{IsInTable, HasFile}
 use Rattle.gsl_words.specs.Versions.{version_of, target_of}
 use Rattle.gsl_asm.specs.declared.fault.AsmFault.{AsmFault}
 use Rattle.gsl_asm.specs.declared.fault.AsmFault.TheVariants.{Line, Memory}
-use Rattle.gsl_asm.specs.declared.place.Place.{Place}
 use Rattle.gsl_asm.specs.declared.place.Place.TheVariants.{Nowhere, First, Second}
 use Rattle.gsl_asm.specs.declared.word.Word.{Word}
 use Rattle.gsl_asm.specs.declared.word.Word.TheVariants.{Plain, Quoted}
-use Rattle.gsl_asm.specs.Names.{number_of, name_of, or_else, opcode_of, opcode_name}
+use Rattle.gsl_asm.specs.Names.{name_of, or_else}
 use Rattle.gsl_asm.specs.Operands.{id_of, enumerant_of, IsOperand}
-use Rattle.gsl_asm.specs.Instructions.{last_of, is_result, place_by, place_of, AreMore, AreOperands, IsLine, IsInstr, version_name, IsHead}
-use Rattle.gsl_asm.specs.Words.{quoted}
+use Rattle.gsl_asm.specs.Instructions.{last_of, place_by, place_of, AreMore, AreOperands, IsLine, IsInstr, version_name}
 use Rattle.gsl_asm.specs.Shown.{id_text, name_or, enumerant_text, string_text, operand_text, operands_text, result_text, formed_text, instr_text, head_text, shown_as, shown}
 use Rattle.gsl_asm.specs.Texts.{AreInstrs, AreModule, IsTextOf, Answers}
 use Rattle.gsl_asm.proofs.Joined.{word_text, Fine, is_graphic, fine_plain, fine_quoted, spaced, joined, joined_clean, has_words}
 use Rattle.gsl_asm.proofs.Lined.{one_module}
-use Rattle.gsl_asm.proofs.Quoting.{is_clean, clean_lf, clean_cr}
-use Rattle.gsl_asm.proofs.Rows.{IsName, Known, known, name_back, decimal_no_name, no_result, once, is_single, singles}
+use Rattle.gsl_asm.proofs.Quoting.{clean_lf, clean_cr}
+use Rattle.gsl_asm.proofs.Rows.{IsName, known, name_back, decimal_no_name, no_result, once, is_single, singles}
 
 -- Numbers and names -------------------------------------------------------------------------------------------------
 

@@ -1,8 +1,7 @@
 -- Characters between quotes: what is written is read, and nothing else is.
-use Rattle.std.proofs.Common.{◌≡◌, ℕ, suc, ◌+◌, Bool, true, false, cond, ◌||◌, eqb, List, [], ◌∷◌, ◌++◌, length, take, drop, Option, Some, None, refl, ap, sym, subst, ◌∙◌, arith}
+use Rattle.std.proofs.Common.{◌≡◌, ℕ, suc, ◌+◌, Bool, true, false, cond, ◌||◌, eqb, List, [], ◌∷◌, ◌++◌, length, take, drop, Some, refl, ap, sym, subst, ◌∙◌, arith}
 use Rattle.std.proofs.lemmas.Bool.{cond-true, cond-false, eqb-true, or_from, or_parts, true≢false}
 use Rattle.std.specs.Option.{option_map}
-use Rattle.gsl_asm.specs.declared.step.Step.{Step}
 use Rattle.gsl_asm.specs.declared.step.Step.TheVariants.{Ends, Breaks, Goes}
 use Rattle.gsl_asm.specs.Escapes.{is_escape, meant, step_of, by_step, raw_len, unescaped}
 use Rattle.gsl_asm.specs.Words.{escape, escaped}

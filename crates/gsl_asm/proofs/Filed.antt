@@ -1,5 +1,5 @@
 -- What is read from a text has a file.
-use Rattle.std.proofs.Common.{◌≡◌, ◌≢◌, ℕ, zero, suc, ◌+◌, ◌^◌, ◌<◌, Bool, true, false, not, cond, ◌&&◌, ◌||◌, eqb, ltb, List, [], ◌∷◌, ◌++◌, length, Option, Some, None, refl, ap, sym, subst, ◌∙◌, arith, append_assoc}
+use Rattle.std.proofs.Common.{◌≡◌, ℕ, ◌+◌, ◌^◌, ◌<◌, Bool, true, false, not, cond, ◌&&◌, eqb, ltb, List, [], ◌∷◌, ◌++◌, length, Option, Some, None, refl, ap, sym, subst, ◌∙◌, append_assoc}
 use Rattle.std.proofs.lemmas.Bool.{and_parts, ltb-true, not-true}
 use Rattle.std.proofs.lemmas.Str.{IsUtf8-from_is_utf8}
 use Rattle.std.proofs.lemmas.List.Elements.{All-nil, All-cons, All-head, All-tail}
@@ -10,9 +10,8 @@ use Rattle.std.specs.Str.{is_utf8}
 use Rattle.gsl_instr.specs.declared.form.Form.{Form}
 use Rattle.gsl_instr.specs.declared.slot.Slot.{Slot}
 use Rattle.gsl_instr.specs.declared.slot.Slot.TheVariants.{Result as ResultSlot, Id, Forward, Number, Named, OfDecoration, Text}
-use Rattle.gsl_instr.specs.declared.slot.Rest.{Rest}
 use Rattle.gsl_instr.specs.declared.enumerant.decoration.TheConstants as decoration
-use Rattle.gsl_instr.specs.Strings.{string_words, IsText}
+use Rattle.gsl_instr.specs.Strings.{string_words}
 use Rattle.gsl_instr.specs.Forms.{form_of, slots, rest, allows}
 use Rattle.gsl_instr.specs.Fitting.{Takes, TakesWord, Fill, Fits}
 use Rattle.gsl_text.specs.Numbers.{◌>>=◌}
@@ -27,7 +26,7 @@ use Rattle.gsl_asm.specs.Instructions.{last_of, place_of}
 use Rattle.gsl_asm.specs.Names.{opcode_of}
 use Rattle.gsl_asm.proofs.Binds.{bind_some, cond_some}
 use Rattle.gsl_asm.proofs.Operated.{no_zero}
-use Rattle.gsl_asm.specs.Reading.{one, plain_operand, text_operand, operand_of, more_of, fixed_of, ahead, Fixed, args_of, behind_fixed, counted, instr_with, placed, formed, named, behind_result, instr_of, instrs_of, line_words, line_instrs, code_before, body, with_head, behind_head, first_head, module_from}
+use Rattle.gsl_asm.specs.Reading.{one, operand_of, more_of, fixed_of, ahead, Fixed, args_of, behind_fixed, counted, instr_with, placed, formed, named, behind_result, instr_of, instrs_of, line_words, line_instrs, code_before, body, with_head, behind_head, first_head, module_from}
 
 one_word : (found : Option ℕ) (args more : List ℕ) (Then : List ℕ → Type 0) → one found ≡ Some args → Then more → TakesWord (args ++ more) Then
 one_word None args more Then e then = absurd (cc)

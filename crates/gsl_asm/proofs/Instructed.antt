@@ -1,15 +1,15 @@
 -- Instructions are read where a line says them, and nowhere else.
 use Rattle.std.proofs.Common.{◌≡◌, ℕ, ◌+◌, ◌^◌, ◌<◌, Bool, true, false, not, cond, eqb, ltb, List, [], ◌∷◌, ◌++◌, length, get_or, map, Option, Some, None, refl, ap, sym, subst, ◌∙◌, append_assoc, codes}
-use Rattle.std.proofs.lemmas.Bool.{cond-true, cond-false, and_parts, eqb-true, ltb-true, lt-ltb, not-true}
+use Rattle.std.proofs.lemmas.Bool.{cond-true, cond-false, and_parts, ltb-true, lt-ltb, not-true}
 use Rattle.std.proofs.lemmas.Slice.Eq.{bytes_eq-Decides}
 use Rattle.std.specs.List.{list_all}
 use Rattle.std.specs.Str.{bytes_eq}
 use Rattle.gsl_instr.specs.declared.form.Form.{Form}
 use Rattle.gsl_instr.specs.declared.slot.Slot.{Slot}
-use Rattle.gsl_instr.specs.declared.slot.Slot.TheVariants.{Result, Id, Forward, Number, Named, OfDecoration, Text}
 use Rattle.gsl_instr.specs.declared.slot.Rest.{Rest}
 use Rattle.gsl_instr.specs.Forms.{form_of, slots, rest, allows, next_of}
 use Rattle.gsl_text.specs.Numbers.{◌>>=◌, natural}
+use Rattle.gsl_instr.specs.Parts.{is_result}
 use Rattle.gsl_words.specs.declared.target.Target.{Target}
 use Rattle.gsl_words.specs.declared.module.Instr.{Instr}
 use Rattle.gsl_asm.specs.declared.names.TheConstants.{OPCODES_A, OPCODES_B}
@@ -19,8 +19,7 @@ use Rattle.gsl_asm.specs.declared.word.Word.{Word}
 use Rattle.gsl_asm.specs.declared.word.Word.TheVariants.{Plain, Quoted}
 use Rattle.gsl_asm.specs.Names.{lookup, or_else, opcode_of}
 use Rattle.gsl_asm.specs.Operands.{id_of, IsOperand}
-use Rattle.gsl_asm.specs.Ordered.{inserted}
-use Rattle.gsl_asm.specs.Instructions.{last_of, is_result, place_by, place_of, AreMore, AreOperands, IsLine, IsInstr}
+use Rattle.gsl_asm.specs.Instructions.{last_of, place_by, place_of, AreMore, AreOperands, IsLine, IsInstr}
 use Rattle.gsl_asm.specs.Reading.{operand_of, before, more_of, fixed_of, ahead, Fixed, args_of, behind_fixed, counted, instr_with, placed, formed, named, behind_result, instr_of}
 use Rattle.gsl_asm.proofs.Binds.{bind_some, cond_some, map_some}
 use Rattle.gsl_asm.proofs.Operated.{operand_read, operand_is}
@@ -181,17 +180,26 @@ named_read target result name operands words i form opcode found place are short
 line_read : (target : Target) (words : List Word) (name : List ℕ) (operands : List Word) (i : Instr) (form : Form) (place : Place) → opcode_of name ≡ Some i.op → form_of i.op ≡ Some form →
     place_of (slots form) ≡ place → IsLine place words name operands → AreOperands target (rest form) (slots form) 0 operands i.args → 1 + length i.args < 2 ^ 16 →
     (first : Word) × (more : List Word) × (words ≡ first ∷ more) × (instr_of target first more ≡ Some i)
-line_read target words name operands i form place opcode found at (IsLine.nowhere _ ops) are short =
-    (Plain name, ops, refl,
-      cond-false _ _ _ (name_no_id name i.op opcode) ∙ named_read target None name ops ops i form opcode found (ap (λ p. placed p None ops) at) are short)
-line_read target words name operands i form place opcode found at (IsLine.first result _ ops) are short =
-    (Plain result, Plain (codes "=") ∷ Plain name ∷ ops, refl,
-      cond-true _ _ _ (first_is_id target (rest form) (slots form) 0 result ops i.args at are)
-      ∙ named_read target (Some result) name ops (Plain result ∷ ops) i form opcode found (ap (λ p. placed p (Some result) ops) at) are short)
-line_read target words name operands i form place opcode found at (IsLine.second result _ type ops) are short =
-    (Plain result, Plain (codes "=") ∷ Plain name ∷ type ∷ ops, refl,
-      cond-true _ _ _ (second_is_id target (rest form) (slots form) 0 result type ops i.args at are)
-      ∙ named_read target (Some result) name (type ∷ ops) (type ∷ Plain result ∷ ops) i form opcode found (ap (λ p. placed p (Some result) (type ∷ ops)) at) are short)
+line_read target words name operands i form place opcode found at (IsLine.nowhere _ ops) are short = (
+  Plain name,
+  ops,
+  refl,
+  cond-false _ _ _ (name_no_id name i.op opcode) ∙ named_read target None name ops ops i form opcode found (ap (λ p. placed p None ops) at) are short,
+)
+line_read target words name operands i form place opcode found at (IsLine.first result _ ops) are short = (
+  Plain result,
+  Plain (codes "=") ∷ Plain name ∷ ops,
+  refl,
+  cond-true _ _ _ (first_is_id target (rest form) (slots form) 0 result ops i.args at are)
+      ∙ named_read target (Some result) name ops (Plain result ∷ ops) i form opcode found (ap (λ p. placed p (Some result) ops) at) are short,
+)
+line_read target words name operands i form place opcode found at (IsLine.second result _ type ops) are short = (
+  Plain result,
+  Plain (codes "=") ∷ Plain name ∷ type ∷ ops,
+  refl,
+  cond-true _ _ _ (second_is_id target (rest form) (slots form) 0 result type ops i.args at are)
+      ∙ named_read target (Some result) name (type ∷ ops) (type ∷ Plain result ∷ ops) i form opcode found (ap (λ p. placed p (Some result) (type ∷ ops)) at) are short,
+)
 
 -- an instruction that words say is read
 pub instr_read : (target : Target) (word : Word) (words : List Word) (i : Instr) → IsInstr target (word ∷ words) i → instr_of target word words ≡ Some i
@@ -246,7 +254,7 @@ behind_is target result (Plain s ∷ []) i e = absurd (cc)
 behind_is target result (Plain s ∷ Quoted b ∷ words) i e = absurd (cc)
 behind_is target result (Plain s ∷ Plain name ∷ words) i e =
     elim (bytes_eq s (codes "=")) as
-      (λ t. bytes_eq s (codes "=") ≡ t → cond t (named target (Some result) name words) None ≡ Some i → IsInstr target (Plain result ∷ Plain s ∷ Plain name ∷ words) i) [
+    (λ t. bytes_eq s (codes "=") ≡ t → cond t (named target (Some result) name words) None ≡ Some i → IsInstr target (Plain result ∷ Plain s ∷ Plain name ∷ words) i) [
       | true ↦ λ same found. subst (λ c. IsInstr target (Plain result ∷ Plain c ∷ Plain name ∷ words) i) (sym ((bytes_eq-Decides s (codes "=")).0 same)) (named_is target (Some result) name words i found)
       | false ↦ λ other found. absurd (cc)
     ] refl e

@@ -1,8 +1,7 @@
 -- Lines are read where they are those of a module, and the line where they stop being such is found.
-use Rattle.std.proofs.Common.{◌≡◌, ◌⊎◌, inl, inr, ⊎_elim, ℕ, zero, suc, ◌+◌, ◌-◌, ◌<◌, ◌≤◌, Bool, true, false, not, cond, ◌&&◌, eqb, List, [], ◌∷◌, ◌++◌, length, take, drop, Option, Some, None, refl, ap, sym, subst, ◌∙◌, arith, append_assoc, append-nil, codes, length-append, take-append-drop}
+use Rattle.std.proofs.Common.{◌≡◌, ◌⊎◌, inl, inr, ⊎_elim, ℕ, zero, suc, ◌+◌, ◌-◌, ◌<◌, ◌≤◌, true, false, not, cond, eqb, List, [], ◌∷◌, ◌++◌, length, take, drop, Option, Some, None, refl, ap, sym, subst, ◌∙◌, arith, append_assoc, append-nil, codes, length-append, take-append-drop}
 use Rattle.std.proofs.Math.Seq.{take-append_seam}
-use Rattle.std.proofs.lemmas.Bool.{cond-true, cond-false, and_parts, and_from, not-true, cases_order}
-use Rattle.std.proofs.lemmas.List.{take-append-le}
+use Rattle.std.proofs.lemmas.Bool.{cond-true, and_parts, and_from, not-true, cases_order}
 use Rattle.std.proofs.lemmas.Slice.Eq.{bytes_eq-Decides}
 use Rattle.std.proofs.lemmas.Str.{IsUtf8-from_is_utf8, is_utf8-from_IsUtf8}
 use Rattle.std.specs.Prelude.{Result, Ok, Err}
@@ -23,7 +22,7 @@ use Rattle.gsl_asm.specs.declared.word.Word.TheVariants.{Plain, Quoted}
 use Rattle.gsl_asm.specs.Words.{Spells}
 use Rattle.gsl_asm.specs.Splitting.{words_of}
 use Rattle.gsl_asm.specs.Instructions.{version_name, IsHead}
-use Rattle.gsl_asm.specs.Texts.{HasWords, AreInstrs, AreModule, IsTextOf, Begin, BreaksAt, IsWrong, Answers}
+use Rattle.gsl_asm.specs.Texts.{HasWords, AreInstrs, AreModule, Begin, BreaksAt, IsWrong, Answers}
 use Rattle.gsl_asm.specs.Reading.{instr_of, instrs_of, is_text, line_words, line_instrs, target_of, head_by, head_behind, head_of, line_head, first_head, code_before, body, with_head, behind_head, module_from, Gives}
 use Rattle.gsl_asm.proofs.Binds.{bind_some, map_some}
 use Rattle.gsl_asm.proofs.Ascii.{ascii_text}
@@ -334,9 +333,12 @@ module_fails n k (line ∷ lines) e = by_head (first_head line) refl e (λ is. m
           back = s.back;
           whole = ap (λ l. line ∷ l) s.whole;
           place = let z : n + length (line ∷ s.front) ≡ k = omega (arith, s.place) in z;
-          before = ([], _,
+          before = (
+            [],
+            _,
             subst (λ l. AreModule (line ∷ l) (record { version = version_of head.0; bound = head.1; instrs = s.code })) (sym (append-nil s.front))
-            (AreModule.head line h.words s.front head.0 head.1 s.code h.has h.is s.before));
+                (AreModule.head line h.words s.front head.0 head.1 s.code h.has h.is s.before),
+          );
           here = λ more m are.
               let lines' : List (List ℕ) = s.front ++ s.line ∷ more in
               let w = with_ok head (body head.0 1 lines') m (sym (module_on 0 line lines' (Some (Some head)) is) ∙ module_read 0 (line ∷ lines') m are) in
@@ -365,9 +367,10 @@ breaks lines k f =
 
 -- lines that are not read are wrong where the reader says
 pub wrong : (lines : List (List ℕ)) (k : ℕ) → module_from 1 lines ≡ Err k → IsWrong lines k
-wrong lines k e =
-    (λ m are. let g : Err k ≡ Ok m = sym e ∙ module_read 1 lines m are in cc,
-      ⊎_elim (λ f. inl (breaks lines k f)) (λ b. inr (b.0, (codes "spirv 1.0 0" ∷ [], _, b.1 (codes "spirv 1.0 0" ∷ []) _ least))) (module_fails 1 k lines e))
+wrong lines k e = (
+  λ m are. let g : Err k ≡ Ok m = sym e ∙ module_read 1 lines m are in cc,
+  ⊎_elim (λ f. inl (breaks lines k f)) (λ b. inr (b.0, (codes "spirv 1.0 0" ∷ [], _, b.1 (codes "spirv 1.0 0" ∷ []) _ least))) (module_fails 1 k lines e),
+)
 
 -- what the reader gives is so by the definition
 pub answered : (given : Result Module AsmFault) (bytes : List ℕ) → Gives given (module_from 1 (lines_of bytes)) → Answers given bytes
@@ -382,10 +385,12 @@ one_module lines m k a b = let e : Ok m ≡ Ok k = sym (module_read 1 lines m a)
 -- Lines that begin a text do so up to each of them.
 begin_upto : (n j : ℕ) (lines : List (List ℕ)) → n ≤ j → Begin (take j lines) → Begin (take n lines)
 begin_upto n j lines less b =
-    let t : take n (take j lines) ≡ take n lines = take_less n j lines less in
-    (drop n (take j lines) ++ b.0, b.1,
+    let t : take n (take j lines) ≡ take n lines = take_less n j lines less in (
+      drop n (take j lines) ++ b.0,
+      b.1,
       subst (λ l. AreModule l b.1)
-      (ap (λ l. l ++ b.0) (sym (take-append-drop n (take j lines))) ∙ append_assoc (take n (take j lines)) (drop n (take j lines)) b.0 ∙ ap (λ l. l ++ (drop n (take j lines) ++ b.0)) t) b.2)
+          (ap (λ l. l ++ b.0) (sym (take-append-drop n (take j lines))) ∙ append_assoc (take n (take j lines)) (drop n (take j lines)) b.0 ∙ ap (λ l. l ++ (drop n (take j lines) ++ b.0)) t) b.2,
+    )
   where
     take_less : (n j : ℕ) (lines : List (List ℕ)) → n ≤ j → take n (take j lines) ≡ take n lines
     take_less zero j lines less = refl

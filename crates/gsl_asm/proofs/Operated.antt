@@ -1,5 +1,5 @@
 -- Operands are read where they are written, and nowhere else.
-use Rattle.std.proofs.Common.{◌≡◌, ◌≢◌, ℕ, Bool, true, false, not, cond, ◌&&◌, eqb, List, [], ◌∷◌, Option, Some, None, refl, ap, sym, subst, ◌∙◌}
+use Rattle.std.proofs.Common.{◌≡◌, ◌≢◌, ℕ, true, false, not, cond, ◌&&◌, eqb, List, [], ◌∷◌, Option, Some, refl, ap, sym, subst, ◌∙◌}
 use Rattle.std.proofs.lemmas.Bool.{cond-true, cond-false, and_parts, and_from, or_parts, or_from, eqb-true, eqb-false, eq-eqb, ne_eqb, not-true, true≢false}
 use Rattle.std.proofs.lemmas.List.Elements.{All-nil, All-cons, All-head, All-tail}
 use Rattle.std.proofs.lemmas.Str.{IsUtf8-from_is_utf8, is_utf8-from_IsUtf8}
@@ -10,13 +10,13 @@ use Rattle.gsl_instr.specs.declared.slot.Enumeration.TheVariants.{BuiltIn}
 use Rattle.gsl_instr.specs.declared.slot.Slot.{Slot}
 use Rattle.gsl_instr.specs.declared.slot.Slot.TheVariants.{Result, Id, Forward, Number, Named, OfDecoration, Text}
 use Rattle.gsl_instr.specs.declared.enumerant.decoration.TheConstants as decoration
-use Rattle.gsl_instr.specs.Strings.{string_words, IsText}
+use Rattle.gsl_instr.specs.Strings.{string_words}
 use Rattle.gsl_text.specs.Numbers.{unsigned}
 use Rattle.gsl_words.specs.declared.target.Target.{Target}
 use Rattle.gsl_asm.specs.declared.word.Word.{Word}
 use Rattle.gsl_asm.specs.declared.word.Word.TheVariants.{Plain, Quoted}
 use Rattle.gsl_asm.specs.Operands.{id_of, enumerant_of, IsOperand}
-use Rattle.gsl_asm.specs.Reading.{one, plain_operand, text_operand, operand_of}
+use Rattle.gsl_asm.specs.Reading.{one, operand_of}
 use Rattle.gsl_asm.proofs.Binds.{cond_some, map_some}
 
 -- no byte is zero
@@ -55,7 +55,7 @@ operand_is target last Number (Plain w) args e = by_one (unsigned w) args (IsOpe
 operand_is target last (Named kind) (Plain w) args e = by_one (enumerant_of target kind w) args (IsOperand target last (Named kind) (Plain w)) (λ n is. IsOperand.enumerant kind w n is) e
 operand_is target last OfDecoration (Plain w) args e =
     elim (eqb last decoration.BUILT_IN) as
-      (λ t. eqb last decoration.BUILT_IN ≡ t → cond t (one (enumerant_of target BuiltIn w)) (one (unsigned w)) ≡ Some args → IsOperand target last OfDecoration (Plain w) args) [
+    (λ t. eqb last decoration.BUILT_IN ≡ t → cond t (one (enumerant_of target BuiltIn w)) (one (unsigned w)) ≡ Some args → IsOperand target last OfDecoration (Plain w) args) [
       | true ↦ λ is found. by_one (enumerant_of target BuiltIn w) args (IsOperand target last OfDecoration (Plain w)) (λ n named. IsOperand.built_in w n (eqb-true last decoration.BUILT_IN is) named) found
       | false ↦ λ other found. by_one (unsigned w) args (IsOperand target last OfDecoration (Plain w)) (λ n is. IsOperand.literal w n (eqb-false last decoration.BUILT_IN other) is) found
     ] refl e

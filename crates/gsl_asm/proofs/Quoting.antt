@@ -1,7 +1,7 @@
 -- Strings as they are written stand in a line.
-use Rattle.std.proofs.Common.{◌≡◌, ◌≢◌, ℕ, ◌+◌, ◌/◌, ◌<◌, ◌≤◌, Bool, true, false, not, cond, ◌&&◌, ◌||◌, eqb, ltb, List, [], ◌∷◌, ◌++◌, refl, ap, sym, subst, ◌∙◌, arith, append-nil}
+use Rattle.std.proofs.Common.{◌≡◌, ◌≢◌, ℕ, ◌+◌, ◌/◌, ◌<◌, ◌≤◌, Bool, true, false, not, ◌||◌, eqb, ltb, List, [], ◌∷◌, ◌++◌, refl, ap, sym, subst, ◌∙◌, arith, append-nil}
 use lib.Utf8.{scalar, scalars, encode, encodes, next}
-use Rattle.std.proofs.lemmas.Bool.{cond_both, cond-false, and_parts, and_from, or_parts, or_from, lt-ltb, ltb-true, ltb-false, ne_eqb, not-true, cases_lt}
+use Rattle.std.proofs.lemmas.Bool.{cond_both, cond-false, and_parts, and_from, or_parts, or_from, lt-ltb, ltb-true, ne_eqb, not-true, cases_lt}
 use Rattle.std.proofs.Common.{⊎_elim}
 use Rattle.std.proofs.lemmas.Grind.{flat_map-append}
 use Rattle.std.proofs.lemmas.List.Elements.{All-head, All-tail}
@@ -10,8 +10,6 @@ use Rattle.std.proofs.lemmas.Str.{IsUtf8-append, IsUtf8-nil, encode_ascii}
 use Rattle.std.specs.Prelude.{All}
 use Rattle.std.specs.List.{list_all, list_any}
 use Rattle.std.specs.Str.{IsUtf8}
-use Rattle.gsl_instr.specs.Strings.{IsText}
-use Rattle.gsl_text.specs.Lines.{without_cr}
 use Rattle.gsl_text.proofs.Splitting.{NoLf, NoCr}
 use Rattle.gsl_asm.specs.Words.{escape, escaped, quoted}
 use Rattle.gsl_asm.proofs.Ascii.{ascii_text}

@@ -1,5 +1,5 @@
 -- What all rows of the tables have in common: each name is that of its number and of no other, and an instruction has one result at most.
-use Rattle.std.proofs.Common.{◌≡◌, ℕ, ◌<◌, ◌^◌, Bool, true, false, not, cond, ◌&&◌, eqb, ltb, List, [], ◌∷◌, length, get_or, map, Option, Some, None, refl, ap, sym, subst, ◌∙◌, arith}
+use Rattle.std.proofs.Common.{◌≡◌, ℕ, ◌<◌, ◌^◌, Bool, true, false, not, cond, ◌&&◌, eqb, ltb, List, [], ◌∷◌, length, get_or, Option, Some, None, refl, ap, sym, ◌∙◌, arith}
 use Rattle.std.proofs.lemmas.Bool.{and_parts, eqb-true, ltb-true}
 use Rattle.std.proofs.lemmas.Str.Parse.{digit_from_value}
 use Rattle.std.specs.Prelude.{find}
@@ -17,10 +17,10 @@ use Rattle.gsl_instr.specs.declared.slot.Slot.TheVariants.{Result, Id, Forward, 
 use Rattle.gsl_instr.specs.declared.slot.Rest.{Rest}
 use Rattle.gsl_instr.specs.Forms.{form_of, slots, rest, next_of, is_text}
 use Rattle.gsl_text.proofs.Decimals.{decimal_digits}
+use Rattle.gsl_instr.specs.Parts.{is_result}
 use Rattle.gsl_words.specs.declared.target.Target.{Target}
 use Rattle.gsl_words.specs.declared.target.Target.TheVariants.{V10, V13}
 use Rattle.gsl_asm.specs.Names.{lookup, name_in, table_of, number_of, name_of, opcode_of, opcode_name}
-use Rattle.gsl_asm.specs.Instructions.{is_result}
 use Rattle.gsl_asm.proofs.Instructed.{found_in}
 use Rattle.gsl_asm.proofs.Joined.{is_graphic}
 

@@ -1,5 +1,5 @@
 -- The words of a line are read where they are spelled, and nowhere else.
-use Rattle.std.proofs.Common.{◌≡◌, ℕ, zero, suc, ◌+◌, ◌-◌, Bool, true, false, not, cond, ◌&&◌, ◌||◌, eqb, List, [], ◌∷◌, ◌++◌, length, take, drop, Option, Some, None, refl, ap, sym, subst, ◌∙◌, arith, append_assoc, one-add, take-append-drop}
+use Rattle.std.proofs.Common.{◌≡◌, ℕ, zero, suc, ◌+◌, ◌-◌, true, false, not, cond, ◌||◌, eqb, List, [], ◌∷◌, ◌++◌, length, take, drop, Option, Some, None, refl, ap, sym, subst, ◌∙◌, arith, append_assoc, one-add, take-append-drop}
 use Rattle.std.proofs.Math.Seq.{drop-append_seam, take-append_seam, drop-append-add}
 use Rattle.std.proofs.lemmas.Bool.{cond-true, cond-false, eqb-true, and_parts, and_from, or_parts, or_from, not-true}
 use Rattle.std.specs.List.{prefix_len, list_all}
@@ -7,7 +7,7 @@ use Rattle.gsl_asm.specs.declared.word.Word.{Word}
 use Rattle.gsl_asm.specs.declared.word.Word.TheVariants.{Plain, Quoted}
 use Rattle.gsl_asm.specs.Escapes.{raw_len, unescaped}
 use Rattle.gsl_asm.specs.Words.{is_blank, is_plain, ends, escaped, quoted, Spells}
-use Rattle.gsl_asm.specs.Splitting.{sized, string_at, plain_at, word_at, onto, with_word, words_from, words_of}
+use Rattle.gsl_asm.specs.Splitting.{string_at, plain_at, word_at, onto, with_word, words_from, words_of}
 use Rattle.gsl_asm.proofs.Binds.{cond_some, map_some}
 use Rattle.gsl_asm.proofs.Cutting.{skipped}
 use Rattle.gsl_asm.proofs.Escaped.{raw_escaped, unescaped_escaped, closed}
@@ -116,7 +116,7 @@ word_spelled : (b : ℕ) (bytes : List ℕ) (word : Word) (len : ℕ) (words : L
 unfolding word_at
 word_spelled b bytes word len words blank other is later =
     elim (eqb b 34) as
-      (λ t. eqb b 34 ≡ t → cond t (string_at (b ∷ bytes) (raw_len false bytes)) (plain_at (b ∷ bytes) (1 + prefix_len is_plain bytes)) ≡ Some (word, len) → Spells (b ∷ bytes) (word ∷ words)) [
+    (λ t. eqb b 34 ≡ t → cond t (string_at (b ∷ bytes) (raw_len false bytes)) (plain_at (b ∷ bytes) (1 + prefix_len is_plain bytes)) ≡ Some (word, len) → Spells (b ∷ bytes) (word ∷ words)) [
       | true ↦ λ here found. string_spelled b bytes word len words (eqb-true b 34 here) (raw_len false bytes) refl found later
       | false ↦ λ quote found. plain_spelled b bytes word len words (ap not (or_from _ _ (or_from _ _ blank other) quote)) found later
     ] refl is
@@ -133,7 +133,7 @@ spelled_from (suc n) [] words e = let same : [] ≡ words = cc in subst (Spells 
 spelled_from (suc n) (b ∷ bytes) words e = spelled_from n bytes words e
 spelled_from zero (b ∷ bytes) words e =
     elim (is_blank b) as
-      (λ t. is_blank b ≡ t → cond t (words_from 0 bytes) (cond (eqb b 59) (Some []) (with_word (word_at (b ∷ bytes)) (λ len. words_from (len - 1) bytes))) ≡ Some words → Spells (b ∷ bytes) words) [
+    (λ t. is_blank b ≡ t → cond t (words_from 0 bytes) (cond (eqb b 59) (Some []) (with_word (word_at (b ∷ bytes)) (λ len. words_from (len - 1) bytes))) ≡ Some words → Spells (b ∷ bytes) words) [
       | true ↦ λ is found. Spells.blank b bytes words is (spelled_from 0 bytes words found)
       | false ↦ λ blank found.
           elim (eqb b 59) as (λ t. eqb b 59 ≡ t → cond t (Some []) (with_word (word_at (b ∷ bytes)) (λ len. words_from (len - 1) bytes)) ≡ Some words → Spells (b ∷ bytes) words) [

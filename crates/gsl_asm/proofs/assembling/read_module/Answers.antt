@@ -1,4 +1,4 @@
-use Rattle.std.proofs.Common.{◌≡◌, sym, subst, ap, ◌∙◌}
+use Rattle.std.proofs.Common.{sym, subst, ap, ◌∙◌}
 use Rattle.gsl_text.specs.Lines.{lines_of}
 use Rattle.gsl_words.specs.Instructions.{HasFile}
 use Rattle.gsl_asm.specs.Reading.{with_head}

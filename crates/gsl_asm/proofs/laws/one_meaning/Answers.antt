@@ -1,5 +1,5 @@
 use Rattle.gsl_text.specs.Lines.{lines_of}
-use Rattle.gsl_asm.proofs.Lined.{one_module, one_place, wrong}
+use Rattle.gsl_asm.proofs.Lined.{one_module, one_place}
 use Rattle.gsl_asm.proofs.laws.one_meaning.Goals as goal
 
 pub returns : goal.returns
