@@ -1,6 +1,6 @@
 -- What is read from a text has a file.
-use Rattle.std.proofs.Common.{◌≡◌, ◌≢◌, ℕ, zero, suc, ◌+◌, ◌^◌, ◌<◌, Bool, true, false, not, cond, ◌&&◌, ◌||◌, eqb, ltb, List, [], ◌∷◌, ◌++◌, length, Option, Some, None, refl, ap, sym, subst, ◌∙◌, arith, append_assoc}
-use Rattle.std.proofs.lemmas.Bool.{true≢false, and_parts, or_parts, ltb-true, eq-eqb}
+use Rattle.std.proofs.Common.{◌≡◌, ℕ, ◌+◌, ◌^◌, ◌<◌, Bool, true, false, not, cond, ◌&&◌, eqb, ltb, List, [], ◌∷◌, ◌++◌, length, Option, Some, None, refl, ap, sym, subst, ◌∙◌, append_assoc}
+use Rattle.std.proofs.lemmas.Bool.{and_parts, ltb-true, not-true}
 use Rattle.std.proofs.lemmas.Str.{IsUtf8-from_is_utf8}
 use Rattle.std.proofs.lemmas.List.Elements.{All-nil, All-cons, All-head, All-tail}
 use Rattle.std.specs.Prelude.{All, Result, Ok, Err}
@@ -10,9 +10,8 @@ use Rattle.std.specs.Str.{is_utf8}
 use Rattle.gsl_instr.specs.declared.form.Form.{Form}
 use Rattle.gsl_instr.specs.declared.slot.Slot.{Slot}
 use Rattle.gsl_instr.specs.declared.slot.Slot.TheVariants.{Result as ResultSlot, Id, Forward, Number, Named, OfDecoration, Text}
-use Rattle.gsl_instr.specs.declared.slot.Rest.{Rest}
 use Rattle.gsl_instr.specs.declared.enumerant.decoration.TheConstants as decoration
-use Rattle.gsl_instr.specs.Strings.{string_words, IsText}
+use Rattle.gsl_instr.specs.Strings.{string_words}
 use Rattle.gsl_instr.specs.Forms.{form_of, slots, rest, allows}
 use Rattle.gsl_instr.specs.Fitting.{Takes, TakesWord, Fill, Fits}
 use Rattle.gsl_text.specs.Numbers.{◌>>=◌}
@@ -25,26 +24,9 @@ use Rattle.gsl_asm.specs.declared.word.Word.{Word}
 use Rattle.gsl_asm.specs.declared.word.Word.TheVariants.{Plain, Quoted}
 use Rattle.gsl_asm.specs.Instructions.{last_of, place_of}
 use Rattle.gsl_asm.specs.Names.{opcode_of}
-use Rattle.gsl_asm.specs.Reading.{one, plain_operand, text_operand, operand_of, more_of, fixed_of, ahead, Fixed, args_of, behind_fixed, counted, instr_with, placed, formed, named, behind_result, instr_of, instrs_of, line_words, line_instrs, code_before, body, with_head, behind_head, first_head, module_from}
-
--- goes on from an answer
-bind_some : {A B : Type 0} (found : Option A) (then : A → Option B) (y : B) → (found >>= then) ≡ Some y → (x : A) × (found ≡ Some x) × (then x ≡ Some y)
-bind_some None then y e = absurd (cc)
-bind_some (Some x) then y e = (x, refl, e)
-
-cond_some : {A : Type 0} (t : Bool) (x y : A) → cond t (Some x) None ≡ Some y → (t ≡ true) × (x ≡ y)
-cond_some true x y e = (refl, cc)
-cond_some false x y e = absurd (cc)
-
-no_zero : (bytes : List ℕ) → list_any (λ byte. eqb byte 0) bytes ≡ false → All (λ byte. byte ≢ 0) bytes
-no_zero [] e = All-nil (λ byte. byte ≢ 0)
-no_zero (b ∷ bytes) e =
-    let p = or_parts (eqb b 0) _ e in
-    All-cons (λ byte. byte ≢ 0) b bytes (λ z. true≢false (sym (eq-eqb b 0 z) ∙ p.0)) (no_zero bytes p.1)
-
-flip : (b : Bool) → not b ≡ true → b ≡ false
-flip true e = absurd (cc)
-flip false e = refl
+use Rattle.gsl_asm.proofs.Binds.{bind_some, cond_some}
+use Rattle.gsl_asm.proofs.Operated.{no_zero}
+use Rattle.gsl_asm.specs.Reading.{one, operand_of, more_of, fixed_of, ahead, Fixed, args_of, behind_fixed, counted, instr_with, placed, formed, named, behind_result, instr_of, instrs_of, line_words, line_instrs, code_before, body, with_head, behind_head, first_head, module_from}
 
 one_word : (found : Option ℕ) (args more : List ℕ) (Then : List ℕ → Type 0) → one found ≡ Some args → Then more → TakesWord (args ++ more) Then
 one_word None args more Then e then = absurd (cc)
@@ -75,7 +57,7 @@ takes target last OfDecoration (Quoted b) args more Then e then = absurd (cc)
 takes target last Text (Quoted b) args more Then e then =
     let c = cond_some (is_utf8 b && not (list_any (λ byte. eqb byte 0) b)) (string_words b) args e in
     let p = and_parts (is_utf8 b) (not (list_any (λ byte. eqb byte 0) b)) c.0 in
-    (b, more, (IsUtf8-from_is_utf8 b p.0, no_zero b (flip _ p.1)), ap (λ a. a ++ more) (sym c.1), then)
+    (b, more, (IsUtf8-from_is_utf8 b p.0, no_zero b (not-true _ p.1)), ap (λ a. a ++ more) (sym c.1), then)
 
 ahead_some : (args : List ℕ) (found : Option Fixed) (fixed : Fixed) → ahead args found ≡ Some fixed → (f : Fixed) × (found ≡ Some f) × (fixed.0 ≡ args ++ f.0)
 ahead_some args None fixed e = absurd (cc)

@@ -3,4 +3,15 @@ pub mod Cutting
 pub mod Strings
 pub mod Taking
 pub mod Shows
+pub mod Binds
+pub mod Ascii
+pub mod Escaped
+pub mod Spelled
+pub mod Operated
+pub mod Instructed
+pub mod Lined
+pub mod Quoting
+pub mod Joined
+pub mod Rows
+pub mod Displayed
 pub mod Filed

@@ -1,5 +1,5 @@
 -- How many bytes stand between quotes.
-use Rattle.std.proofs.Common.{◌≡◌, ℕ, zero, suc, ◌+◌, ◌<◌, ◌≤◌, Bool, List, [], ◌∷◌, length, get_or, drop, Option, Some, None, refl, ap, sym, ◌∙◌, arith, add-one, add_assoc, add-zero, drop-cons}
+use Rattle.std.proofs.Common.{◌≡◌, ℕ, zero, suc, ◌+◌, ◌<◌, ◌≤◌, Bool, List, [], ◌∷◌, length, get_or, drop, Option, Some, None, refl, ap, sym, ◌∙◌, arith, add-one, add-zero, drop-cons}
 use Rattle.std.specs.Option.{option_map}
 use Rattle.gsl_asm.specs.declared.step.Step.{Step}
 use Rattle.gsl_asm.specs.declared.step.Step.TheVariants.{Ends, Breaks, Goes}

@@ -1,18 +1,13 @@
 -- Operands that are taken one by one.
-use Rattle.std.proofs.Common.{◌≡◌, ℕ, zero, suc, ◌+◌, ◌-◌, ◌<◌, ◌≤◌, ◌^◌, Bool, true, false, not, cond, ltb, List, [], ◌∷◌, ◌++◌, length, get_or, Option, Some, None, refl, ap, sym, subst, ◌∙◌, arith, append_assoc, append-nil, length-append}
-use Rattle.std.proofs.lemmas.Bool.{cond-true, cond-false, lt-ltb, le-ltb}
-use Rattle.std.specs.Prelude.{MatchOption}
-use Rattle.std.specs.Option.{option_map}
-use Rattle.gsl_instr.specs.declared.form.Form.{Form}
+use Rattle.std.proofs.Common.{◌≡◌, ℕ, Bool, true, false, not, List, [], ◌∷◌, ◌++◌, length, get_or, Option, Some, None, refl, ap, sym, subst, ◌∙◌, append_assoc, append-nil}
 use Rattle.gsl_instr.specs.declared.slot.Slot.{Slot}
 use Rattle.gsl_instr.specs.declared.slot.Rest.{Rest}
-use Rattle.gsl_instr.specs.Forms.{form_of, slots, rest, allows, next_of}
+use Rattle.gsl_instr.specs.Forms.{slots, next_of}
 use Rattle.gsl_text.specs.Numbers.{◌>>=◌}
 use Rattle.gsl_words.specs.declared.target.Target.{Target}
-use Rattle.gsl_words.specs.declared.module.Instr.{Instr}
 use Rattle.gsl_asm.specs.declared.word.Word.{Word}
 use Rattle.gsl_asm.specs.Instructions.{last_of}
-use Rattle.gsl_asm.specs.Reading.{operand_of, before, more_of, fixed_of, ahead, Fixed, args_of, behind_fixed, counted, instr_with, single, Added, Took, Put}
+use Rattle.gsl_asm.specs.Reading.{operand_of, before, more_of, fixed_of, ahead, Fixed, Added, Took}
 
 abbrev Gave : List ℕ → List ℕ → Option (List ℕ) → Type 0
 Gave old new found = (args : List ℕ) × (found ≡ Some args) × (new ≡ old ++ args)

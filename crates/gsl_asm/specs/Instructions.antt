@@ -1,16 +1,16 @@
 -- What a line with words says: the version and the bound, or an instruction.
-use Rattle.std.specs.Prelude.{◌≡◌, ℕ, ◌+◌, ◌^◌, ◌<◌, Bool, true, false, not, List, [], ◌∷◌, ◌++◌, length, slice_index, Option, Some, None, codes}
+use Rattle.std.specs.Prelude.{◌≡◌, ℕ, ◌+◌, ◌^◌, ◌<◌, Bool, true, false, not, List, [], ◌∷◌, ◌++◌, length, slice_index, Some, codes}
 use Rattle.gsl_instr.specs.declared.form.Form.{Form}
 use Rattle.gsl_instr.specs.declared.slot.Slot.{Slot}
-use Rattle.gsl_instr.specs.declared.slot.Slot.TheVariants.{Result, Id, Forward, Number, Named, OfDecoration, Text}
 use Rattle.gsl_instr.specs.declared.slot.Rest.{Rest}
 use Rattle.gsl_instr.specs.Forms.{form_of, slots, rest, allows, next_of}
+use Rattle.gsl_instr.specs.Parts.{is_result}
 use Rattle.gsl_text.specs.Numbers.{unsigned}
 use Rattle.gsl_words.specs.declared.target.Target.{Target}
 use Rattle.gsl_words.specs.declared.target.Target.TheVariants.{V10, V13}
 use Rattle.gsl_words.specs.declared.module.Instr.{Instr}
 use Rattle.gsl_asm.specs.declared.word.Word.{Word}
-use Rattle.gsl_asm.specs.declared.word.Word.TheVariants.{Plain, Quoted}
+use Rattle.gsl_asm.specs.declared.word.Word.TheVariants.{Plain}
 use Rattle.gsl_asm.specs.declared.place.Place.{Place}
 use Rattle.gsl_asm.specs.declared.place.Place.TheVariants.{Nowhere, First, Second}
 use Rattle.gsl_asm.specs.Operands.{IsOperand}
@@ -33,16 +33,6 @@ pub data AreOperands (target : Target) (rest : Rest) : List Slot → ℕ → Lis
   behind : (last : ℕ) (words : List Word) (args : List ℕ) → AreMore target rest false last words args → allows rest (length args) ≡ true → AreOperands target rest [] last words args
   fixed : (slot : Slot) (slots : List Slot) (last : ℕ) (word : Word) (words : List Word) (args more all : List ℕ) → IsOperand target last slot word args →
       AreOperands target rest slots (last_of args) words more → all ≡ args ++ more → AreOperands target rest (slot ∷ slots) last (word ∷ words) all
-
--- whether an operand is the result
-abbrev pub is_result : Slot → Bool
-is_result Result = true
-is_result Id = false
-is_result Forward = false
-is_result Number = false
-is_result (Named enumeration) = false
-is_result OfDecoration = false
-is_result Text = false
 
 -- the place of the result by the first two operands
 abbrev pub place_by : Bool → Bool → Place

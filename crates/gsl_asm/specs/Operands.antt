@@ -1,8 +1,5 @@
 -- What an operand is written as: one rule a kind of operand.
-use Rattle.std.specs.Prelude.{◌≡◌, ◌≢◌, ℕ, ◌==◌, ◌||◌, if◌then◌else◌, List, [], ◌∷◌, ◌++◌, Option, Some, None}
-use Rattle.std.specs.Option.{option_map}
-use Rattle.std.specs.Str.{is_utf8}
-use Rattle.std.specs.List.{list_any}
+use Rattle.std.specs.Prelude.{◌≡◌, ◌≢◌, ℕ, ◌==◌, if◌then◌else◌, List, [], ◌∷◌, Option, Some, None}
 use Rattle.gsl_instr.specs.declared.slot.Enumeration.{Enumeration}
 use Rattle.gsl_instr.specs.declared.slot.Enumeration.TheVariants.{BuiltIn}
 use Rattle.gsl_instr.specs.declared.slot.Slot.{Slot}

@@ -3,7 +3,7 @@ use Rattle.std.specs.Prelude.{ℕ, List, [], ◌∷◌}
 use Rattle.gsl_asm.specs.declared.place.Place.{Place}
 use Rattle.gsl_asm.specs.declared.place.Place.TheVariants.{Nowhere, First, Second}
 use Rattle.gsl_asm.specs.declared.word.Word.{Word}
-use Rattle.gsl_asm.specs.declared.word.Word.TheVariants.{Plain, Quoted}
+use Rattle.gsl_asm.specs.declared.word.Word.TheVariants.{Plain}
 
 -- words with the result in its place among them
 abbrev pub inserted : Place → List ℕ → List Word → List Word

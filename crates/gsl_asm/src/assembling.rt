@@ -6,6 +6,7 @@ ghost use Rattle.gsl_words.specs.Instructions.{HasFile};
 ghost use Rattle.gsl_asm.specs.Reading as spec;
 ghost use Rattle.gsl_asm.specs.Reading.{Gives};
 ghost use Rattle.gsl_asm.specs.Heads.{HeadGives};
+ghost use Rattle.gsl_asm.specs.Texts.{Answers};
 
 use crate::fault::AsmFault;
 use crate::head::line_head;
@@ -14,8 +15,17 @@ use gsl_text::first_line;
 use gsl_words::{Instrs, Module, Target};
 use std::alloc::Global;
 
-/// The module of a text.
+/// The module of a text, or the line where it is wrong: the first that no text has there, and line 1 where no line has a word.
 pub fn assemble(alloc: Global, text: &[u8]) -> Result<Module, AsmFault>
+    requires { length text.now < 2 ^ 32 }
+    ensures text { Answers result text.now }
+    ensures file { IfOk result HasFile }
+{
+    read_module(alloc, text)
+}
+
+/// Reads the lines of a text.
+fn read_module(alloc: Global, text: &[u8]) -> Result<Module, AsmFault>
     requires { length text.now < 2 ^ 32 }
     ensures answer { Gives result (spec.module_from 1 (lines_of text.now)) }
     ensures file { IfOk result HasFile }

@@ -10,6 +10,7 @@ mod chars;
 mod fault;
 mod head;
 mod instruction;
+mod laws;
 mod line;
 mod names;
 mod operand;
@@ -21,6 +22,7 @@ mod word;
 
 pub use assembling::assemble;
 pub use fault::AsmFault;
+pub use laws::{one_meaning, shown_and_read};
 pub use showing::show;
 
 #[cfg(test)]

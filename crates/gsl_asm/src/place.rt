@@ -1,6 +1,7 @@
 //! Where the result of an instruction stands among its operands.
 
 ghost use Rattle.std.specs.Prelude.{◌≡◌};
+ghost use Rattle.gsl_instr.specs.Parts as parts;
 ghost use Rattle.gsl_asm.specs.Instructions as spec;
 
 use gsl_instr::Slot;
@@ -38,7 +39,7 @@ fn place_by(first: bool, second: bool) -> Place
 }
 
 fn is_result(slot: Slot) -> bool
-    ensures { result ≡ spec.is_result slot }
+    ensures { result ≡ parts.is_result slot }
 {
     match slot {
         Slot::Result => true,

@@ -3,3 +3,4 @@ pub mod Utf8
 pub mod Texts
 pub mod Fittings
 pub mod Opcodes
+pub mod Agreeing

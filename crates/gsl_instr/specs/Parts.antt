@@ -1,7 +1,8 @@
 -- The operands of an instruction one by one.
-use Rattle.std.specs.Prelude.{ℕ, Bool, false, not, if◌then◌else◌, List, [], ◌∷◌, take, drop}
+use Rattle.std.specs.Prelude.{ℕ, Bool, true, false, not, if◌then◌else◌, List, [], ◌∷◌, take, drop, Option, Some, None}
 use Rattle.std.specs.List.{flat_map}
 use Rattle.gsl_instr.specs.declared.slot.Slot.{Slot}
+use Rattle.gsl_instr.specs.declared.slot.Slot.TheVariants.{Result, Id, Forward, Number, Named, OfDecoration, Text}
 use Rattle.gsl_instr.specs.declared.slot.Rest.{Rest}
 use Rattle.gsl_instr.specs.declared.form.Form.{Form}
 use Rattle.gsl_instr.specs.declared.parts.Part.{Part}
@@ -37,3 +38,38 @@ words_if wanted part = if wanted part.slot then part.words else []
 -- all words of the operands that are looked for
 abbrev pub words_of : (Slot → Bool) → Form → List ℕ → List ℕ
 words_of wanted form args = flat_map (words_if wanted) (parts_of form args)
+
+-- whether an operand is the result
+abbrev pub is_result : Slot → Bool
+is_result Result = true
+is_result Id = false
+is_result Forward = false
+is_result Number = false
+is_result (Named enumeration) = false
+is_result OfDecoration = false
+is_result Text = false
+
+-- whether it is an id that is defined before
+abbrev pub is_id : Slot → Bool
+is_id Result = false
+is_id Id = true
+is_id Forward = false
+is_id Number = false
+is_id (Named enumeration) = false
+is_id OfDecoration = false
+is_id Text = false
+
+-- whether it is an id that may be defined later
+abbrev pub is_forward : Slot → Bool
+is_forward Result = false
+is_forward Id = false
+is_forward Forward = true
+is_forward Number = false
+is_forward (Named enumeration) = false
+is_forward OfDecoration = false
+is_forward Text = false
+
+-- an id, if there is one
+abbrev pub ids_in : Option ℕ → List ℕ
+ids_in None = []
+ids_in (Some id) = id ∷ []

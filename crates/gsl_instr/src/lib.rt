@@ -21,9 +21,12 @@ mod words;
 pub use fitting::{allows, allows_words, fits_text, has_text, text_at};
 pub use form::{Form, Row, TABLE, form_of};
 pub use instruction::{Instruction, read, read_as};
-pub use laws::{one_text, what_fits};
+pub use laws::{one_table, one_text, what_fits};
 pub use operands::{rest, slots};
 pub use parts::{Part, Parts, is_text, next_of};
 pub use slot::{Enumeration, Rest, Slot};
 pub use string::push_string;
 pub use words::Operands;
+
+#[cfg(test)]
+mod tests;

@@ -1,5 +1,4 @@
-use Rattle.std.proofs.Common.{arith, get_or, false, sym}
-use Rattle.gsl_asm.specs.Escapes.{raw_len}
+use Rattle.std.proofs.Common.{arith, sym}
 use Rattle.gsl_asm.proofs.Quotes.{ends_here, breaks_here, goes_on, no_more}
 use Rattle.gsl_asm.proofs.chars.raw_len.Goals as goal
 

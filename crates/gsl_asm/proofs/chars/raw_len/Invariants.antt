@@ -1,5 +1,4 @@
-use Rattle.std.proofs.Common.{◌≡◌, ◌+◌, false, drop}
-use Rattle.std.specs.Option.{option_map}
+use Rattle.std.proofs.Common.{◌≡◌, false, drop}
 use Rattle.gsl_asm.specs.Escapes.{raw_len}
 use Rattle.gsl_asm.proofs.Quotes.{shifted}
 use Rattle.gsl_asm.proofs.chars.raw_len.Given as goal

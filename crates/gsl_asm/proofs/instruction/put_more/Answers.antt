@@ -1,4 +1,4 @@
-use Rattle.std.proofs.Common.{◌≡◌, true, false, length, get_or, sym, subst, ◌∙◌, ap}
+use Rattle.std.proofs.Common.{true, false, get_or, subst, ◌∙◌, ap}
 use Rattle.gsl_asm.specs.Reading.{Added, operand_of}
 use Rattle.gsl_asm.proofs.Taking.{more_stop, more_step, more_end}
 use Rattle.gsl_asm.proofs.instruction.put_more.Goals as goal

@@ -1,4 +1,3 @@
-use Rattle.std.proofs.Common.{arith, sym}
 use Rattle.gsl_asm.proofs.Cutting.{words_end, words_comment, words_word, words_bad, some_bytes, no_bytes}
 use Rattle.gsl_asm.proofs.line.next_of.Goals as goal
 
