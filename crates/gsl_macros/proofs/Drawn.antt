@@ -1,5 +1,5 @@
 -- What is drawn from a list of tokens, step by step.
-use Rattle.std.proofs.Common.{◌≡◌, ℕ, suc, ◌+◌, ◌-◌, ◌<◌, ◌≤◌, ◌∷◌, length, Option, Some, None, Ok, Err, refl, ap, sym, ◌∙◌, arith}
+use Rattle.std.proofs.Common.{◌≡◌, ℕ, suc, ◌-◌, ◌<◌, ◌∷◌, Some, Ok, Err, ap, ◌∙◌, arith}
 use Rattle.gsl_base.specs.Checked.{Refuses}
 use Rattle.gsl_base.specs.declared.fault.Place.{Place}
 use Rattle.gsl_base.specs.declared.fault.Refusal.{Refusal}

@@ -1,8 +1,8 @@
 -- A replacement takes from the count more than it puts, so the moves come to an end, and how many are allowed does not matter.
-use Rattle.std.proofs.Common.{◌≡◌, ℕ, zero, suc, ◌+◌, ◌-◌, ◌<◌, ◌≤◌, Bool, true, false, List, [], ◌∷◌, ◌++◌, length, Option, Some, None, Ok, Err, ◌==◌, if◌then◌else◌, nat_lt, refl, ap, sym, ◌∙◌, subst, arith, length-append}
+use Rattle.std.proofs.Common.{◌≡◌, ℕ, zero, suc, ◌+◌, ◌-◌, ◌<◌, ◌≤◌, Bool, true, false, List, [], ◌∷◌, ◌++◌, length, Option, Some, None, Ok, Err, ◌==◌, if◌then◌else◌, nat_lt, refl, ap, ◌∙◌, subst, arith, length-append}
 use Rattle.std.proofs.lemmas.Bool.{ltb-true}
 use Rattle.gsl_base.specs.Checked.{Checked, ◌>>=◌}
-use Rattle.gsl_base.specs.declared.fault.Code.TheVariants.{E0207, E0208, E0901, E0902}
+use Rattle.gsl_base.specs.declared.fault.Code.TheVariants.{E0901}
 use Rattle.gsl_base.specs.declared.fault.Fault.{Fault}
 use Rattle.gsl_base.specs.declared.fault.Place.{Place}
 use Rattle.gsl_base.specs.declared.token.RawKind.{RawKind}
@@ -15,7 +15,7 @@ use Rattle.gsl_macros.specs.declared.table.Macros.{Macros}
 use Rattle.gsl_macros.specs.Hiding.{shared}
 use Rattle.gsl_macros.specs.Spelling.{number, mark_of}
 use Rattle.gsl_macros.specs.Tables.{line_shown}
-use Rattle.gsl_macros.specs.Expanding.{Seen, Numbered, Split, Parted, Step, Expander, Trace, at, taken, parted, within, ends_one, split_on, split, arguments, fits, filled, put, each, called_on, called, object, replaced_by, replaced, ended, faulted, give, after, move_by, move, moves, run, whole, expander, traced, use_of}
+use Rattle.gsl_macros.specs.Expanding.{Seen, Numbered, Parted, Step, Expander, Trace, at, taken, parted, within, ends_one, split_on, split, arguments, fits, filled, put, each, called, object, replaced_by, replaced, ended, faulted, give, after, move_by, move, moves, whole, expander, traced, use_of}
 
 pub by_bool : (P : Bool → Type 0) (b : Bool) → (b ≡ true → P true) → (b ≡ false → P false) → P b
 by_bool P true f g = f refl

@@ -1,5 +1,5 @@
 -- What calls that change a list of tokens and a count have to do with the definition.
-use Rattle.std.specs.Prelude.{◌≡◌, ℕ, ◌+◌, ◌<◌, nat_lt, List, ◌∷◌, ◌++◌, length, if◌then◌else◌, Option, Some, None, Result, Ok, Err}
+use Rattle.std.specs.Prelude.{◌≡◌, ℕ, ◌<◌, nat_lt, List, ◌∷◌, ◌++◌, length, if◌then◌else◌, Option, Some, None, Result, Ok, Err}
 use Rattle.gsl_base.specs.Checked.{Checked, Refuses}
 use Rattle.gsl_base.specs.declared.fault.Code.TheVariants.{E0901}
 use Rattle.gsl_base.specs.declared.fault.Place.{Place}

@@ -1,8 +1,7 @@
 -- Macros by their names, and the lines and file numbers that a program sees.
-use Rattle.std.specs.Prelude.{ℕ, ◌+◌, ◌-◌, ◌%◌, ◌^◌, List, [], ◌∷◌, Option, Some, None, position}
+use Rattle.std.specs.Prelude.{ℕ, ◌+◌, ◌-◌, ◌%◌, ◌^◌, List, Option, Some, None, position}
 use Rattle.std.specs.Map.{lookup, keys_of}
 use Rattle.std.specs.Str.{bytes_eq}
-use Rattle.gsl_base.specs.declared.token.RawKind.{RawKind}
 use Rattle.gsl_macros.specs.declared.table.Macro.{Macro}
 use Rattle.gsl_macros.specs.declared.table.Shift.{Shift}
 

@@ -1,5 +1,5 @@
 -- Bytes are the file of one module, or have one fault.
-use Rattle.std.proofs.Common.{◌≡◌, ◌≢◌, ℕ, zero, suc, ◌+◌, ◌%◌, ◌-◌, ◌^◌, ◌<◌, ◌≤◌, true, false, Bool, leb, List, [], ◌∷◌, ◌++◌, length, get_or, take, drop, Option, Some, None, Result, Ok, Err, refl, ap, sym, subst, ◌∙◌, arith, append_assoc, length-append, length-drop, inl, inr, ◌⊎◌}
+use Rattle.std.proofs.Common.{◌≡◌, ◌≢◌, ℕ, zero, suc, ◌+◌, ◌%◌, ◌^◌, ◌<◌, ◌≤◌, true, false, Bool, List, [], ◌∷◌, ◌++◌, length, get_or, take, drop, Option, Some, None, Result, Ok, Err, refl, ap, sym, subst, ◌∙◌, arith, append_assoc, length-append, inl, inr, ◌⊎◌}
 use Rattle.std.proofs.lemmas.Bool.{true≢false, cases_lt}
 use Rattle.std.proofs.lemmas.List.Elements.{All-head, All-tail}
 use Rattle.std.specs.Prelude.{All}
@@ -7,7 +7,7 @@ use Rattle.std.specs.List.{flat_map, AllByRecursion}
 use Rattle.gsl_base.specs.Ranges.{AreWords, AreBytes}
 use Rattle.gsl_instr.specs.declared.form.Form.{Form}
 use Rattle.gsl_instr.specs.Forms.{form_of}
-use Rattle.gsl_instr.specs.Fitting.{Fits, fits_text}
+use Rattle.gsl_instr.specs.Fitting.{fits_text}
 use Rattle.gsl_words.specs.declared.module.Instr.{Instr}
 use Rattle.gsl_words.specs.declared.module.Module.{Module}
 use Rattle.gsl_words.specs.declared.fault.WordFault.{WordFault}
@@ -18,8 +18,8 @@ use Rattle.gsl_words.specs.Instructions.{IsInTable, HasFile}
 use Rattle.gsl_words.specs.declared.target.Target.{Target}
 use Rattle.gsl_words.specs.Versions.{IsKnown, version_of}
 use Rattle.gsl_words.specs.Bytes.{instr_words, bytes_of}
-use Rattle.gsl_words.specs.Faults.{words_of, word_of, AreWhole, HasHeader, magic, magic_turned, op_of, count_of, args_of, counted, Breaks, StopsAt, HasFault, Ends, AreRead, IsHead, FitsTypes, Judges}
-use Rattle.gsl_words.proofs.Decoded.{strip, small_op, none_words, never_breaks, no_fault, of_file, header_is, behind_header, IsRead, read_is, read_only, module_of, words_small, words_behind}
+use Rattle.gsl_words.specs.Faults.{words_of, word_of, AreWhole, HasHeader, magic, magic_turned, op_of, count_of, args_of, counted, Breaks, StopsAt, HasFault, Ends, AreRead, FitsTypes, Judges}
+use Rattle.gsl_words.proofs.Decoded.{strip, small_op, never_breaks, no_fault, of_file, header_is, behind_header, IsRead, read_is, read_only, module_of, words_small, words_behind}
 use Rattle.gsl_words.proofs.Found.{head_is, text_breaks, none_read, one_more, stopped, more_within}
 
 -- ---- at most one
@@ -75,7 +75,7 @@ stops_from f g nf ng n (i ∷ a) (j ∷ b) x y aa ab e p q =
     let s = strip i j (flat_map instr_words a ++ x) (flat_map instr_words b ++ y) (small_op i (All-head IsInTable i a aa)) (small_op j (All-head IsInTable j b ab))
     (sym (append_assoc (instr_words i) (flat_map instr_words a) x) ∙ e ∙ append_assoc (instr_words j) (flat_map instr_words b) y) in
     let long : (k : Instr) (c : List Instr) → n + length (flat_map instr_words (k ∷ c)) ≡ n + length (instr_words k) + length (flat_map instr_words c) =
-        λ k c. omega (arith, length-append (instr_words k) (flat_map instr_words c)) in
+    λ k c. omega (arith, length-append (instr_words k) (flat_map instr_words c)) in
     stops_from f g nf ng (n + length (instr_words i)) a b x y (All-tail IsInTable i a aa) (All-tail IsInTable j b ab) s.1
     (subst (λ k. Breaks x k f) (long i a) p)
     (subst (λ k. Breaks y k g) (long j b ∙ ap (λ (k : Instr). n + length (instr_words k) + length (flat_map instr_words b)) (sym s.0)) q)
@@ -360,17 +360,19 @@ Verdict bytes = (verdict : Result Module WordFault) × Judges bytes verdict
 
 read_verdict : (bytes starts : List ℕ) → AreBytes bytes → AreWhole bytes → word_of bytes 0 ≡ magic → HasHeader bytes → AreRead (drop 5 (words_of bytes)) starts → Verdict bytes
 read_verdict bytes starts fit w first h read =
-    let m = module_of (word_of bytes 1) (word_of bytes 3) read.code in
-    (Ok m, read_is bytes (word_of bytes 1) (word_of bytes 3) read.code fit (record {
-      whole = w;
-      first = first;
-      header = h;
-      version_is = refl;
-      bound_is = refl;
-      all = read.whole;
-      words_are = read.words_are;
-      ops = read.ops;
-    }))
+    let m = module_of (word_of bytes 1) (word_of bytes 3) read.code in (
+      Ok m,
+      read_is bytes (word_of bytes 1) (word_of bytes 3) read.code fit (record {
+        whole = w;
+        first = first;
+        header = h;
+        version_is = refl;
+        bound_is = refl;
+        all = read.whole;
+        words_are = read.words_are;
+        ops = read.ops;
+      }),
+    )
 
 behind : (bytes : List ℕ) → AreBytes bytes → AreWhole bytes → word_of bytes 0 ≡ magic → HasHeader bytes → Walked (drop 5 (words_of bytes)) → Verdict bytes
 behind bytes fit w first h (inl (starts, read)) = read_verdict bytes starts fit w first h read

@@ -1,5 +1,4 @@
 use Rattle.std.proofs.Common.{◌≡◌, ◌++◌, length}
-use Rattle.gsl_macros.specs.Hiding.{flat}
 use Rattle.gsl_macros.proofs.chunk.add_again.Given as goal
 
 abbrev pub invariant-loop-rest : goal.invariant-loop-rest

@@ -1,4 +1,4 @@
-use Rattle.std.proofs.Common.{◌≡◌, ◌++◌, length}
+use Rattle.std.proofs.Common.{◌≡◌, length}
 use Rattle.gsl_macros.specs.Hiding.{greatest}
 use Rattle.gsl_macros.proofs.chunk.greatest.Given as goal
 

@@ -1,4 +1,4 @@
-use Rattle.std.proofs.Common.{◌≡◌, ◌++◌, length}
+use Rattle.std.proofs.Common.{◌≡◌, length}
 use Rattle.gsl_macros.specs.Hiding.{in_any}
 use Rattle.gsl_macros.proofs.chunk.has_in.Given as goal
 

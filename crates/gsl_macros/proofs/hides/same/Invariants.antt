@@ -1,4 +1,4 @@
-use Rattle.std.proofs.Common.{◌≡◌, ◌++◌, length}
+use Rattle.std.proofs.Common.{◌≡◌, length}
 use Rattle.gsl_macros.specs.Hiding.{same}
 use Rattle.gsl_macros.proofs.hides.same.Given as goal
 

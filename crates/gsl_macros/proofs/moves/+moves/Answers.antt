@@ -1,4 +1,4 @@
-use Rattle.std.proofs.Common.{◌≡◌, ℕ, ◌+◌, ◌<◌, ◌≤◌, ◌∷◌, length, Ok, Some, ap, sym, ◌∙◌, arith}
+use Rattle.std.proofs.Common.{◌≡◌, ℕ, ◌+◌, ◌<◌, ◌∷◌, length, Ok, Some, ap, sym, ◌∙◌, arith}
 use Rattle.std.proofs.lemmas.Result.{err_from_is_err_and}
 use Rattle.gsl_macros.specs.declared.stream.Hid.{Hid}
 use Rattle.gsl_macros.specs.declared.table.Macros.{Macros}
@@ -65,6 +65,6 @@ next-loop-token-preserved t c =
 
 pub next-returns-clause-drawn : goal.next-returns-clause-drawn
 next-returns-clause-drawn t c = (
-      sym c.loop-token.invariant.0 ∙ ap (λ s. traced c.args.macros.now c.args.depth s c.loop-token.left) c.in_default.ensures.0 ∙ traced_none c.args.macros.now c.args.depth c.loop-token.left,
-      ap (λ s. traced c.args.macros.now c.args.depth s c.loop-token.left) (c.in_default.ensures.1 ∙ sym c.in_default.ensures.0) ∙ c.loop-token.invariant.0,
-    )
+  sym c.loop-token.invariant.0 ∙ ap (λ s. traced c.args.macros.now c.args.depth s c.loop-token.left) c.in_default.ensures.0 ∙ traced_none c.args.macros.now c.args.depth c.loop-token.left,
+  ap (λ s. traced c.args.macros.now c.args.depth s c.loop-token.left) (c.in_default.ensures.1 ∙ sym c.in_default.ensures.0) ∙ c.loop-token.invariant.0,
+)

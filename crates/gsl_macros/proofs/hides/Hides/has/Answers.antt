@@ -1,5 +1,5 @@
 use Rattle.std.proofs.Common.{◌||◌, ◌++◌, refl, ap, ◌∙◌}
-use Rattle.gsl_macros.specs.Hiding.{among, in_any, flat}
+use Rattle.gsl_macros.specs.Hiding.{among, flat}
 use Rattle.gsl_macros.proofs.Sets.{has_is}
 use Rattle.gsl_macros.proofs.hides.Hides.has.Goals as goal
 
