@@ -7,11 +7,11 @@ use Rattle.gsl_host.specs.declared.target.Stream.TheVariants as stream
 use Rattle.gsl_host.specs.declared.target.Target.{Target}
 use Rattle.gsl_host.specs.declared.target.Target.TheVariants.{Printing}
 use Rattle.gsl_host.specs.Outside.{Files, Appends, AppendsSome, NeverFall, Rose}
-use Rattle.gsl_cmd.specs.declared.plan.Stop.{Stop}
-use Rattle.gsl_cmd.specs.declared.plan.Stop.TheVariants as stop
+use Rattle.gsl_cmd.specs.declared.stop.Stop.{Stop}
+use Rattle.gsl_cmd.specs.declared.stop.Stop.TheVariants as stop
 use Rattle.gsl_form.specs.Form.{Name}
 use Rattle.gsl_cmd.specs.Job.{Job, Effect, IsJob}
-use Rattle.gsl_cmd.specs.Plan.{Plan}
+use Rattle.gsl_plan.specs.Plan.{Plan}
 use Rattle.gsl_cmd.specs.Performs.{Performs, Prints, effect_on}
 use Rattle.gsl_cmd.specs.Command.{Ended, Reported}
 use Rattle.gsl_cmd.specs.Texts.{told_fault, host_text}
@@ -107,6 +107,22 @@ module _ (plan : Plan) (file : Name) (before : Files) (after : Option Files) (fi
     },
   )
 
+  rejected : (text : List ℕ) → (e : Came (Err (stop.Rejected text))) → Prints then last stream.Err (printed stream.Err) (printed' stream.Err) text → Done 8
+  rejected text e said = (
+    e.job,
+    e.is_job,
+    record {
+      status_is = λ n3 n4. sym e.did.0;
+      cause = λ is. absurd (let no : 8 ≡ 3 = is in cc);
+      files = λ n3 n4. e.did.3 ∙ ap Some (ap (λ (effect : Effect). effect_on effect before) (sym e.did.2));
+      kept = e.kept;
+      err = λ n4. prints_over first then last _ _ e.job.err up (subst (Prints then last stream.Err (printed stream.Err) (printed' stream.Err)) (sym e.did.1) said);
+      err_memory = λ is. absurd (let no : 8 ≡ 4 = is in cc);
+      out = λ n3 n4. appends_no_text _ _ e.job.out e.out quiet;
+      out_part = appends_some _ _ e.job.out quiet;
+    },
+  )
+
   pub done_err : (why : Stop) (result : ℕ) → Came (Err why) → Reported file why then last (printed stream.Err) (printed' stream.Err) result → Done result
   done_err stop.Memory result e (is, silent) = subst Done (sym is) (memory e (inl (appends_some _ _ e.job.err silent)))
   done_err stop.Host result e (inl (is, said)) = subst Done (sym is) (host e said)
@@ -115,3 +131,6 @@ module _ (plan : Plan) (file : Name) (before : Files) (after : Option Files) (fi
   done_err (stop.Fault f) result e (inl (inr (is, part))) =
       subst Done (sym is) (memory e (inl (subst (AppendsSome (printed stream.Err) (printed' stream.Err)) (sym e.did.1) part)))
   done_err (stop.Fault f) result e (inr (is, silent)) = subst Done (sym is) (memory e (inl (appends_some _ _ e.job.err silent)))
+  done_err (stop.Rejected text) result e (inl (is, said)) = subst Done (sym is) (rejected text e said)
+  done_err (stop.Rejected text) result e (inr (is, part)) =
+      subst Done (sym is) (memory e (inl (subst (AppendsSome (printed stream.Err) (printed' stream.Err)) (sym e.did.1) part)))

@@ -12,19 +12,22 @@ use Rattle.gsl_host.specs.declared.target.Target.{Target}
 use Rattle.gsl_host.specs.declared.target.Target.TheVariants.{Reading, Writing}
 use Rattle.gsl_host.specs.Outside.{Files, KeepsOthers, Sets, NeverFall, Rose}
 use Rattle.gsl_cmd.specs.declared.compiling.TheConstants.{MAX_SOURCE_BYTES}
-use Rattle.gsl_cmd.specs.declared.plan.Stop.{Stop}
-use Rattle.gsl_cmd.specs.declared.plan.Stop.TheVariants as stop
+use Rattle.gsl_cmd.specs.declared.stop.Stop.{Stop}
+use Rattle.gsl_cmd.specs.declared.stop.Stop.TheVariants as stop
 use Rattle.gsl_form.specs.declared.program.Program.{Program}
 use Rattle.gsl_form.specs.Form.{Name}
 use Rattle.gsl_form.specs.Trees.{Spells}
 use Rattle.gsl_form.specs.Reading.{program_of}
 use Rattle.gsl_form.proofs.Units.{program_is, program_gives}
 use Rattle.gsl_cmd.specs.Verdict.{Tree, AreOfForm, Accepts, FaultWhere, Judges, fault_in, trees_of}
-use Rattle.gsl_cmd.specs.Plan.{Plan}
+use Rattle.gsl_plan.specs.Plan.{Plan}
 use Rattle.gsl_cmd.specs.Texts.{told_fault}
-use Rattle.gsl_cmd.specs.Job.{Job, Effect, IsJob, IsCompileJob, Gathered, Sources, Absent, TooLong, gather, gather_one, reads, failed, refused, compiled}
+use Rattle.gsl_cmd.specs.Job.{Job, Effect, IsJob, IsCompileJob, Gathered, Sources, Absent, TooLong, gather, gather_one, reads, failed, refused, compiled, found_in}
 use Rattle.gsl_cmd.specs.Performs.{KeepsAllBut}
 use Rattle.gsl_cmd.specs.Command.{Did, Ended, ReadsSourceTold, CompilesSource}
+use Rattle.gsl_cmd.specs.declared.converting.Conversion.{Conversion}
+use Rattle.gsl_cmd.specs.declared.converting.Conversion.TheVariants.{Disassemble, Assemble}
+use Rattle.gsl_cmd.proofs.Converted.{conversion_job}
 use Rattle.gsl_cmd.proofs.Verdicts.{first_same}
 
 -- The rules give some verdict.
@@ -69,6 +72,8 @@ compile_job stage out names targets (Sources sources) =
 
 pub some_job : (plan : Plan) (files : Files) → (job : Job) × IsJob plan files job
 some_job (Plan.Compile stage out names) files = compile_job stage out names (reads files names) (gather files 0 names)
+some_job (Plan.Disassemble file out) files = conversion_job Disassemble file out (found_in (get files file))
+some_job (Plan.Assemble file out) files = conversion_job Assemble file out (found_in (get files file))
 
 -- Files that are as before keep all but what any effect writes.
 pub keeps_same : (effect : Effect) (before : Files) (after : Option Files) → after ≡ Some before → KeepsAllBut effect before after
@@ -76,7 +81,7 @@ keeps_same Effect.Keeps before after same = same
 keeps_same (Effect.Writes name bytes) before after same =
     subst (λ now. KeepsOthers (Some before) now name) (sym same) (λ q other. refl)
 
-contains_front : {X : Type 0} (x : X) (xs ys : List X) → Contains xs x → Contains (xs ++ ys) x
+pub contains_front : {X : Type 0} (x : X) (xs ys : List X) → Contains xs x → Contains (xs ++ ys) x
 contains_front x [] ys (k, within, here) = absurd (omega arith)
 contains_front x (y ∷ xs) ys (zero, within, here) = (zero, omega arith, here)
 contains_front x (y ∷ xs) ys (suc k, within, here) =
@@ -145,6 +150,7 @@ module _ (stage : Stage) (out file : Name) (files : Files) where
 
     pub ended_read : (why : Stop) → ReadsSourceTold files file (Err why) → after ≡ Some files → (why ≡ stop.Host → Rose faults faults' (Reading file)) → Came (Err why)
     ended_read stop.Memory told same rose = ended_memory same
+    ended_read (stop.Rejected text) told same rose = absurd told
     ended_read stop.Host told same rose =
         let job = some_job plan files in
         record {
@@ -163,6 +169,7 @@ module _ (stage : Stage) (out file : Name) (files : Files) where
     pub ended_compile : (source : List ℕ) (why : Stop) → get files file ≡ Some source → length source ≤ MAX_SOURCE_BYTES → CompilesSource stage source (Err why) → after ≡ Some files → Came (Err why)
     ended_compile source stop.Memory read short answer same = ended_memory same
     ended_compile source stop.Host read short answer same = absurd answer
+    ended_compile source (stop.Rejected text) read short answer same = absurd answer
     ended_compile source (stop.Fault fault) read short answer same =
         let job = refused (file ∷ []) its_reads fault in
         record {
@@ -182,14 +189,15 @@ module _ (stage : Stage) (out file : Name) (files : Files) where
 
     pub ended_write : (source bytes : List ℕ) (end : Result (Unit {0}) Stop) → get files file ≡ Some source → length source ≤ MAX_SOURCE_BYTES → CompilesSource stage source (Ok bytes) →
         OnOk end (Sets (Some files) after out bytes) → KeepsOthers (Some files) after out → (end ≡ Err stop.Host → Rose faults faults' (Writing out)) →
-        ((fault : Fault) → end ≡ Err (stop.Fault fault) → ⊥) → Came end
-    ended_write source bytes (Ok done) read short (p, accepts, is, carries, small) sets others rose sound =
+        ((fault : Fault) → end ≡ Err (stop.Fault fault) → ⊥) → ((text : List ℕ) → end ≡ Err (stop.Rejected text) → ⊥) → Came end
+    ended_write source bytes (Ok done) read short (p, accepts, is, carries, small) sets others rose sound quiet =
         wrote source bytes p (Ok done) read short accepts others (refl, refl, sets ∙ ap (λ b. Some (insert files out b)) is)
-    ended_write source bytes (Err stop.Host) read short (p, accepts, is, carries, small) sets others rose sound =
+    ended_write source bytes (Err stop.Host) read short (p, accepts, is, carries, small) sets others rose sound quiet =
         wrote source bytes p (Err stop.Host) read short accepts others (Writing out, contains_last (Writing out) its_reads, rose refl)
-    ended_write source bytes (Err stop.Memory) read short (p, accepts, is, carries, small) sets others rose sound =
+    ended_write source bytes (Err stop.Memory) read short (p, accepts, is, carries, small) sets others rose sound quiet =
         wrote source bytes p (Err stop.Memory) read short accepts others tt
-    ended_write source bytes (Err (stop.Fault fault)) read short (p, accepts, is, carries, small) sets others rose sound = absurd (sound fault refl)
+    ended_write source bytes (Err (stop.Fault fault)) read short (p, accepts, is, carries, small) sets others rose sound quiet = absurd (sound fault refl)
+    ended_write source bytes (Err (stop.Rejected text)) read short (p, accepts, is, carries, small) sets others rose sound quiet = absurd (quiet text refl)
 
 -- what rises later has risen over all
 pub later_rise : (first then last : Target → ℕ) (target : Target) → NeverFall first then → Rose then last target → Rose first last target

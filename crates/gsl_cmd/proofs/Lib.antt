@@ -1,7 +1,9 @@
 pub mod Constants
 pub mod Encodable
 pub mod Verdicts
+pub mod Converted
 pub mod Jobs
+pub mod Conversions
 pub mod Ends
 pub mod Unique
 pub mod Known

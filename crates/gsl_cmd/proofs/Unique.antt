@@ -1,5 +1,6 @@
 -- Sources have one verdict, and commands one job.
 use Rattle.std.proofs.Common.{◌≡◌, ℕ, List, Option, Some, None, Ok, Err, refl, ap, sym, subst, ◌∙◌}
+use Rattle.std.specs.FinMap.{get}
 use Rattle.gsl_base.specs.declared.stage.Stage.{Stage}
 use Rattle.gsl_base.specs.declared.fault.Fault.{Fault}
 use Rattle.gsl_base.specs.Checked.{Checked}
@@ -9,9 +10,11 @@ use Rattle.gsl_form.specs.declared.program.Program.{Program}
 use Rattle.gsl_form.specs.Form.{Name}
 use Rattle.gsl_form.specs.Trees.{Spells}
 use Rattle.gsl_form.proofs.Units.{one_program}
-use Rattle.gsl_cmd.specs.Job.{Job, IsJob, IsCompileJob, Gathered, Sources, Absent, TooLong, gather, reads, compiled}
-use Rattle.gsl_cmd.specs.Plan.{Plan}
+use Rattle.gsl_cmd.specs.Job.{Job, IsJob, IsCompileJob, Gathered, Sources, Absent, TooLong, gather, reads, compiled, found_in}
+use Rattle.gsl_plan.specs.Plan.{Plan}
 use Rattle.gsl_cmd.specs.Verdict.{Tree, AreOfForm, Accepts, FirstFault, FaultWhere, Judges, trees_of}
+use Rattle.gsl_cmd.specs.declared.converting.Conversion.TheVariants.{Disassemble, Assemble}
+use Rattle.gsl_cmd.proofs.Converted.{one_conversion}
 use Rattle.gsl_cmd.proofs.Verdicts.{first_same}
 
 one_formed : (stage : Stage) (trees : List Tree) (p q : Program) → AreOfForm stage trees p → AreOfForm stage trees q → p ≡ q
@@ -49,3 +52,5 @@ one_compile_job stage out names targets (Sources sources) j k (v, vs, js) (w, ws
 pub one_job_of : (plan : Plan) (files : Files) (j k : Job) → IsJob plan files j → IsJob plan files k → j ≡ k
 one_job_of (Plan.Compile stage out names) files j k js ks =
     one_compile_job stage out names (reads files names) (gather files 0 names) j k js ks
+one_job_of (Plan.Disassemble file out) files j k js ks = one_conversion Disassemble file out (found_in (get files file)) j k js ks
+one_job_of (Plan.Assemble file out) files j k js ks = one_conversion Assemble file out (found_in (get files file)) j k js ks

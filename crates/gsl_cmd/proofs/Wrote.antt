@@ -7,9 +7,10 @@ use Rattle.gsl_form.specs.Form.{Name}
 use Rattle.gsl_cmd.specs.Job.{Job, IsJob, IsCompileJob, Gathered, Sources, Absent, TooLong, gather, reads}
 use Rattle.gsl_cmd.specs.Lowering.{module_of}
 use Rattle.gsl_cmd.specs.Performs.{Performs, effect_on}
-use Rattle.gsl_cmd.specs.Plan.{Plan}
+use Rattle.gsl_plan.specs.Plan.{Plan}
 use Rattle.gsl_cmd.specs.Written.{Written}
 use Rattle.gsl_base.specs.declared.stage.Stage.{Stage}
+use Rattle.gsl_cmd.proofs.Converted.{shown_written, assembled_written}
 use Rattle.gsl_cmd.proofs.Carried.{program_carries}
 use Rattle.gsl_cmd.proofs.Sizes.{module_small}
 
@@ -34,6 +35,8 @@ module _ (stage : Stage) (out : Name) (names : List Name) (before : Files) (afte
 pub job_written : (plan : Plan) (before : Files) (after : Option Files) (job : Job) → IsJob plan before job → job.status ≡ 0 →
     after ≡ Some (effect_on job.effect before) → Written plan before after
 job_written (Plan.Compile stage out names) before after job is zero files = by_gathered stage out names before after job zero files (gather before 0 names) refl is
+job_written (Plan.Disassemble file out) before after job is zero files = shown_written file out before after job zero files is
+job_written (Plan.Assemble file out) before after job is zero files = assembled_written file out before after job zero files is
 
 pub performed_written : (plan : Plan) (before : Files) (after : Option Files) (faults faults' : Target → ℕ)
     (printed printed' : Stream → Option (List ℕ)) (status : ℕ) → status ≡ 0 →

@@ -1,33 +1,32 @@
 -- The steps of a command in the code, against the job of its plan.
-use Rattle.std.specs.Prelude.{◌≡◌, ◌<◌, ◌≤◌, length, IsSomeAnd, ℕ, List, [], ◌∷◌, Option, Some, None, Result, Ok, Err, Contains, ◌⊎◌}
+use Rattle.std.specs.Prelude.{◌≡◌, ◌≢◌, ◌<◌, ◌≤◌, length, IsSomeAnd, ℕ, List, [], ◌∷◌, Option, Some, None, Result, Ok, Err, Contains, ◌⊎◌}
 use Rattle.gsl_host.specs.declared.target.Stream.TheVariants as stream
 use Rattle.gsl_host.specs.declared.target.Target.{Target}
 use Rattle.gsl_host.specs.Outside.{Files, AppendsSome, Rose}
-use Rattle.gsl_cmd.specs.declared.plan.Command.{Command}
-use Rattle.gsl_cmd.specs.declared.plan.Command.TheVariants as command
-use Rattle.gsl_cmd.specs.declared.plan.Stop.{Stop}
-use Rattle.gsl_cmd.specs.declared.plan.Stop.TheVariants as stop
+use Rattle.gsl_cmd.specs.declared.stop.Stop.{Stop}
+use Rattle.gsl_cmd.specs.declared.stop.Stop.TheVariants as stop
 use Rattle.gsl_form.specs.Form.{Name}
 use Rattle.gsl_cmd.specs.Job.{Job, IsJob, Effect}
 use Rattle.gsl_cmd.specs.Performs.{effect_on, KeepsAllBut, Prints}
-use Rattle.gsl_cmd.specs.Plan.{Plan}
-use Rattle.gsl_cmd.specs.Texts.{told_fault, host_text}
+use Rattle.gsl_plan.specs.Plan.{Plan}
+use Rattle.gsl_cmd.specs.Texts.{told_fault, host_text, word_text}
+use Rattle.gsl_cmd.specs.declared.converting.Conversion.{Conversion}
+use Rattle.gsl_cmd.specs.declared.converting.TheConstants.{MAX_MODULE_BYTES}
+use Rattle.gsl_cmd.specs.Converting.{Made, too_long}
+use Rattle.gsl_words.specs.declared.fault.WordFault.{WordFault}
+use Rattle.gsl_words.specs.declared.fault.WordFault.TheVariants.{Memory}
 use Rattle.gsl_cmd.specs.declared.compiling.TheConstants.{MAX_SOURCE_BYTES}
 use Rattle.gsl_cmd.specs.Verdict.{fault_in, Compiles, FirstFault}
 use Rattle.gsl_base.specs.declared.stage.Stage.{Stage}
 use Rattle.gsl_base.specs.declared.fault.Code.TheVariants.{E0900}
 use Rattle.std.specs.FinMap.{get}
 
--- the plan of a command in the code
-abbrev pub plan_in : Command → Option Plan
-plan_in command.Usage = None
-plan_in (command.Compile stage out file) = Some (Plan.Compile stage out.now (file.now ∷ []))
-
 -- What a step that ended so has done of the job.
 abbrev pub Did : Name → Job → Files → Option Files → (Target → ℕ) → (Target → ℕ) → Result (Unit {0}) Stop → Type 0
 Did file job before after faults faults' (Ok done) = (job.status ≡ 0) × (job.err ≡ []) × (after ≡ Some (effect_on job.effect before))
 Did file job before after faults faults' (Err (stop.Fault fault)) =
     (job.status ≡ 1) × (job.err ≡ told_fault file fault) × (job.effect ≡ Effect.Keeps) × (after ≡ Some before)
+Did file job before after faults faults' (Err (stop.Rejected text)) = (job.status ≡ 8) × (job.err ≡ text) × (job.effect ≡ Effect.Keeps) × (after ≡ Some before)
 Did file job before after faults faults' (Err stop.Host) = (target : Target) × Contains job.targets target × Rose faults faults' target
 Did file job before after faults faults' (Err stop.Memory) = Unit {0}
 
@@ -48,6 +47,7 @@ Said faults faults' before after text status result =
 abbrev pub Reported : Name → Stop → (Target → ℕ) → (Target → ℕ) → Option (List ℕ) → Option (List ℕ) → ℕ → Type 0
 Reported file stop.Memory faults faults' before after result = (result ≡ 4) × (after ≡ before)
 Reported file stop.Host faults faults' before after result = Said faults faults' before after host_text 3 result
+Reported file (stop.Rejected text) faults faults' before after result = Said faults faults' before after text 8 result
 Reported file (stop.Fault fault) faults faults' before after result =
     Said faults faults' before after (told_fault file fault) 1 result ⊎ ((result ≡ 4) × (after ≡ before))
 
@@ -56,6 +56,7 @@ abbrev pub ReadsSourceTold : Files → Name → Result (List ℕ) Stop → Type 
 ReadsSourceTold files name (Ok bytes) = (get files name ≡ Some bytes) × (length bytes ≤ MAX_SOURCE_BYTES)
 ReadsSourceTold files name (Err (stop.Fault fault)) =
     IsSomeAnd (get files name) (λ bytes. MAX_SOURCE_BYTES < length bytes) × (fault ≡ fault_in 0 E0900)
+ReadsSourceTold files name (Err (stop.Rejected text)) = ⊥
 ReadsSourceTold files name (Err _) = Unit {0}
 
 abbrev pub ReadsSource : Option Files → Name → Result (List ℕ) Stop → Type 0
@@ -67,4 +68,39 @@ abbrev pub CompilesSource : Stage → List ℕ → Result (List ℕ) Stop → Ty
 CompilesSource stage source (Ok bytes) = Compiles stage (source ∷ []) (Ok bytes)
 CompilesSource stage source (Err (stop.Fault fault)) = FirstFault stage (source ∷ []) fault
 CompilesSource stage source (Err stop.Memory) = Unit {0}
+CompilesSource stage source (Err (stop.Rejected text)) = ⊥
 CompilesSource stage source (Err stop.Host) = ⊥
+
+-- What reading the file of a module, or of its text, answers where the files are told.
+abbrev pub ReadsFileTold : Conversion → Files → Name → Result (List ℕ) Stop → Type 0
+ReadsFileTold conversion files name (Ok bytes) = (get files name ≡ Some bytes) × (length bytes ≤ MAX_MODULE_BYTES)
+ReadsFileTold conversion files name (Err (stop.Rejected text)) =
+    IsSomeAnd (get files name) (λ bytes. MAX_MODULE_BYTES < length bytes) × (text ≡ too_long conversion name)
+ReadsFileTold conversion files name (Err (stop.Fault fault)) = ⊥
+ReadsFileTold conversion files name (Err _) = Unit {0}
+
+abbrev pub ReadsFile : Conversion → Option Files → Name → Result (List ℕ) Stop → Type 0
+ReadsFile conversion (Some files) name answer = ReadsFileTold conversion files name answer
+ReadsFile conversion None name answer = Unit {0}
+
+-- Unless memory was wanting, what was made is this.
+abbrev pub Gives : (Made → Type 0) → Result (List ℕ) Stop → Type 0
+Gives IsMade (Ok bytes) = IsMade (Ok bytes)
+Gives IsMade (Err (stop.Rejected text)) = IsMade (Err text)
+Gives IsMade (Err stop.Memory) = Unit {0}
+Gives IsMade (Err (stop.Fault fault)) = ⊥
+Gives IsMade (Err stop.Host) = ⊥
+
+-- Why a fault of a module's file stops a command: it is told, unless memory was wanting.
+abbrev pub Rejects : WordFault → Stop → Type 0
+Rejects fault (stop.Rejected text) = (fault ≢ Memory) × (text ≡ word_text fault)
+Rejects fault stop.Memory = Unit {0}
+Rejects fault (stop.Fault other) = ⊥
+Rejects fault stop.Host = ⊥
+
+-- A line that is told, unless memory was wanting.
+abbrev pub Tells : List ℕ → Stop → Type 0
+Tells line (stop.Rejected text) = text ≡ line
+Tells line stop.Memory = Unit {0}
+Tells line (stop.Fault fault) = ⊥
+Tells line stop.Host = ⊥

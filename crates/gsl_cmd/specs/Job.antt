@@ -14,7 +14,11 @@ use Rattle.gsl_cmd.specs.declared.compiling.TheConstants.{MAX_SOURCE_BYTES}
 use Rattle.gsl_form.specs.declared.program.Program.{Program}
 use Rattle.gsl_form.specs.Form.{Name}
 use Rattle.gsl_cmd.specs.Lowering.{module_of}
-use Rattle.gsl_cmd.specs.Plan.{Plan}
+use Rattle.gsl_plan.specs.Plan.{Plan}
+use Rattle.gsl_cmd.specs.declared.converting.Conversion.{Conversion}
+use Rattle.gsl_cmd.specs.declared.converting.Conversion.TheVariants.{Disassemble, Assemble}
+use Rattle.gsl_cmd.specs.declared.converting.TheConstants.{MAX_MODULE_BYTES}
+use Rattle.gsl_cmd.specs.Converting.{Made, Makes, too_long}
 use Rattle.gsl_cmd.specs.Texts.{fault_text, host_text}
 use Rattle.gsl_cmd.specs.Verdict.{Judges, fault_in}
 
@@ -81,6 +85,32 @@ IsCompileJob stage out names targets job (TooLong unit) = job ≡ refused names 
 IsCompileJob stage out names targets job (Sources sources) =
     (verdict : Checked Program) × Judges stage sources verdict × (job ≡ compiled out names targets verdict)
 
+-- the job where a module or its text is refused, and this line says why
+abbrev pub rejected : List ℕ → Name → Job
+rejected text file = record { status = 8; out = []; err = text; effect = Keeps; targets = Reading file ∷ [] }
+
+-- the job where the conversion of a file makes this
+abbrev pub made_of : Name → Name → Made → Job
+made_of file out (Ok bytes) = record { status = 0; out = []; err = []; effect = Writes out bytes; targets = Reading file ∷ Writing out ∷ [] }
+made_of file out (Err text) = rejected text file
+
+-- What reading the file of a module, or of its text, gives.
+pub data Found : Type 0 where
+  Missing : Found
+  Longer : Found
+  Whole : (bytes : List ℕ) → Found
+
+abbrev pub found_in : Option (List ℕ) → Found
+found_in None = Missing
+found_in (Some bytes) = if nat_lt MAX_MODULE_BYTES (length bytes) then Longer else Whole bytes
+
+abbrev pub IsConversionJob : Conversion → Name → Name → Job → Found → Type 0
+IsConversionJob conversion file out job Missing = job ≡ failed (Reading file ∷ [])
+IsConversionJob conversion file out job Longer = job ≡ rejected (too_long conversion file) file
+IsConversionJob conversion file out job (Whole bytes) = (made : Made) × Makes conversion file bytes made × (job ≡ made_of file out made)
+
 -- The job of a command over the files that are told.
 abbrev pub IsJob : Plan → Files → Job → Type 0
 IsJob (Plan.Compile stage out names) files job = IsCompileJob stage out names (reads files names) job (gather files 0 names)
+IsJob (Plan.Disassemble file out) files job = IsConversionJob Disassemble file out job (found_in (get files file))
+IsJob (Plan.Assemble file out) files job = IsConversionJob Assemble file out job (found_in (get files file))

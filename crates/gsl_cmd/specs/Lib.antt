@@ -1,7 +1,8 @@
 pub mod Lowering
 pub mod Verdict
 pub mod Texts
-pub mod Plan
+pub mod Targets
+pub mod Converting
 pub mod Job
 pub mod Performs
 pub mod Command

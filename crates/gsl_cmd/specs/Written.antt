@@ -1,19 +1,27 @@
 -- What a command that ended well has written.
 use Rattle.std.specs.Prelude.{◌≡◌, ℕ, List, Option, Some}
-use Rattle.std.specs.FinMap.{insert}
+use Rattle.std.specs.FinMap.{get, insert}
 use Rattle.gsl_host.specs.Outside.{Files}
 use Rattle.gsl_words.specs.Bytes.{bytes_of}
+use Rattle.gsl_words.specs.Instructions.{HasFile}
+use Rattle.gsl_asm.specs.Shown.{shown}
+use Rattle.gsl_asm.specs.Texts.{IsTextOf}
 use Rattle.gsl_words.specs.declared.module.Module.{Module}
 use Rattle.gsl_form.specs.declared.program.Program.{Program}
 use Rattle.gsl_cmd.specs.Job.{gather, Sources}
 use Rattle.gsl_cmd.specs.Carries.{Carries}
-use Rattle.gsl_cmd.specs.Plan.{Plan}
+use Rattle.gsl_plan.specs.Plan.{Plan}
 use Rattle.gsl_cmd.specs.Verdict.{Accepts}
 use Rattle.gsl_cmd.specs.Weight.{IsSmall}
 
--- The sources that the plan names give a program, and OUT is now the file of a module that carries it and is
--- small for it. All other files are as before.
+-- For `compile`: the sources that the plan names give a program, and OUT is now the file of a module that carries it and is
+-- small for it. For `dis`: OUT is now the text that shows the module of FILE; for `asm`: the file of the module that FILE is a text of.
+-- All other files are as before.
 abbrev pub Written : Plan → Files → Option Files → Type 0
 Written (Plan.Compile stage out names) before after =
     (sources : List (List ℕ)) × (p : Program) × (m : Module) × (gather before 0 names ≡ Sources sources) × Accepts stage sources p
     × (after ≡ Some (insert before out (bytes_of m))) × Carries m p × IsSmall m p
+Written (Plan.Disassemble file out) before after =
+    (bytes : List ℕ) × (m : Module) × (get before file ≡ Some bytes) × HasFile m × (bytes ≡ bytes_of m) × (after ≡ Some (insert before out (shown m)))
+Written (Plan.Assemble file out) before after =
+    (text : List ℕ) × (m : Module) × (get before file ≡ Some text) × IsTextOf text m × (after ≡ Some (insert before out (bytes_of m)))

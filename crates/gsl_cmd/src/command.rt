@@ -8,42 +8,21 @@ ghost use Rattle.gsl_host.specs.declared.target.Stream.{Stream};
 ghost use Rattle.gsl_host.specs.declared.target.Target.{Target};
 ghost use Rattle.gsl_host.specs.Outside.{Files, NeverFall, Rose, Sets, KeepsOthers};
 ghost use Rattle.gsl_cmd.specs.Job.{Job, IsJob};
-ghost use Rattle.gsl_cmd.specs.Plan.{Plan, plan_of, targets_of};
-ghost use Rattle.gsl_cmd.specs.Plan as spec;
-ghost use Rattle.gsl_cmd.specs.Command.{plan_in, Ended, Said, Reported, ReadsSource, CompilesSource};
+ghost use Rattle.gsl_plan.specs.Plan.{Plan, plan_of};
+ghost use Rattle.gsl_cmd.specs.Command.{Ended, Said, Reported, ReadsSource, ReadsFile, CompilesSource};
+ghost use Rattle.gsl_cmd.specs.Converting.{plan_for};
+ghost use Rattle.gsl_cmd.specs.Targets.{targets_of};
 ghost use Rattle.gsl_cmd.specs.Performs.{Performs};
 ghost use Rattle.gsl_cmd.specs.Written.{Written};
 
 use crate::compiling::{MAX_SOURCE_BYTES, compile, fault_in};
-use crate::plan::{Command, Stop};
-use crate::text::{HOST_TEXT, USAGE_TEXT, told_fault};
+use crate::converting::{Conversion, MAX_MODULE_BYTES, made, too_long};
+use crate::stop::Stop;
+use crate::text::{HOST_TEXT, told_fault};
 use gsl_base::{Bytes, Code, Fault, Refusal, Sources, Stage, Text, Words};
 use gsl_host::{Host, HostRefusal, ReadRefusal, Stream};
+use gsl_plan::{Command, plan};
 use std::alloc::Global;
-
-/// The command that the words are, if they are one: `compile comp OUT FILE` behind the program's name.
-fn plan(words: &Words) -> Command<'_>
-    ensures { plan_in result ≡ plan_of words.now }
-{
-    match words.as_slice() {
-        [_, command, stage, out, file] => plan_of_five(command, stage, out, file),
-        _ => Command::Usage,
-    }
-}
-
-fn plan_of_five<'a>(command: &Text, stage: &Text, out: &'a Text, file: &'a Text) -> Command<'a>
-    ensures { plan_in result ≡ spec.plan_of_five command.now stage.now out.now file.now }
-{
-    if command.as_str() == "compile" && stage.as_str() == "comp" {
-        Command::Compile {
-            stage: Stage::Compute,
-            out,
-            file,
-        }
-    } else {
-        Command::Usage
-    }
-}
 
 /// Prints a text on standard error. The status is the one given, or 4 where memory was wanting.
 fn say<H: Host>(alloc: Global, text: &[u8], status: u8, host: &mut H) -> u8
@@ -59,13 +38,13 @@ fn say<H: Host>(alloc: Global, text: &[u8], status: u8, host: &mut H) -> u8
 }
 
 /// Prints how the program is called.
-fn usage<H: Host>(alloc: Global, host: &mut H) -> u8
+fn usage<H: Host>(alloc: Global, text: &[u8], host: &mut H) -> u8
     ensures status { (result ≡ 2) ⊎ (result ≡ 4) }
     ensures out { H.printed host.new Stream.Out ≡ H.printed host.old Stream.Out }
     ensures files { H.files host.new ≡ H.files host.old }
     ensures faults { NeverFall (H.faults host.old) (H.faults host.new) }
 {
-    say(alloc, USAGE_TEXT, 2, host)
+    say(alloc, text, 2, host)
 }
 
 /// Reports why a command stopped, and gives the status.
@@ -78,6 +57,7 @@ fn report<H: Host>(alloc: Global, file: &Text, stop: Stop, host: &mut H) -> u8
     match stop {
         Stop::Memory => 4,
         Stop::Host => say(alloc, HOST_TEXT, 3, host),
+        Stop::Rejected(text) => say(alloc, text.as_slice(), 8, host),
         Stop::Fault(fault) => match told_fault(alloc, file, &fault) {
             Ok(text) => say(alloc, text.as_slice(), 1, host),
             Err(_) => 4,
@@ -117,7 +97,7 @@ fn compile_file<H: Host>(
 {
     let source = read_source(alloc, file, host)?;
     let bytes = compile_source(alloc, stage, source)?;
-    write_module(alloc, out, &bytes, host)
+    write_file(alloc, out, &bytes, host)
 }
 
 /// Compiles one source.
@@ -133,12 +113,13 @@ fn compile_source(alloc: Global, stage: Stage, source: Bytes) -> Result<Bytes, S
     }
 }
 
-/// Writes the file of a module.
-fn write_module<H: Host>(alloc: Global, out: &Text, bytes: &Bytes, host: &mut H) -> Result<(), Stop>
+/// Writes a file whole.
+fn write_file<H: Host>(alloc: Global, out: &Text, bytes: &Bytes, host: &mut H) -> Result<(), Stop>
     ensures ok { OnOk result (Sets (H.files host.old) (H.files host.new) out.now bytes.now) }
     ensures others { KeepsOthers (H.files host.old) (H.files host.new) out.now }
     ensures failed { result ≡ Err Stop.Host → Rose (H.faults host.old) (H.faults host.new) (Target.Writing out.now) }
     ensures no_fault { (fault : Fault) → result ≡ Err (Stop.Fault fault) → ⊥ }
+    ensures no_text { (text : List ℕ) → result ≡ Err (Stop.Rejected text) → ⊥ }
     ensures faults { NeverFall (H.faults host.old) (H.faults host.new) }
     ensures streams { (stream : Stream) → H.printed host.new stream ≡ H.printed host.old stream }
 {
@@ -168,6 +149,66 @@ fn compile_command<H: Host>(
     }
 }
 
+/// Reads the file of a module, or of its text.
+fn read_module<H: Host>(
+    alloc: Global,
+    conversion: Conversion,
+    file: &Text,
+    host: &mut H,
+) -> Result<Bytes, Stop>
+    ensures told { ReadsFile conversion (H.files host.old) file.now result }
+    ensures within { IfOk result (λ bytes. length bytes ≤ 402653184) }
+    ensures failed { result ≡ Err Stop.Host → Rose (H.faults host.old) (H.faults host.new) (Target.Reading file.now) }
+    ensures faults { NeverFall (H.faults host.old) (H.faults host.new) }
+    ensures files { H.files host.new ≡ H.files host.old }
+    ensures streams { (stream : Stream) → H.printed host.new stream ≡ H.printed host.old stream }
+{
+    match host.read_file(alloc, file, MAX_MODULE_BYTES) {
+        Ok(bytes) => Ok(bytes),
+        Err(ReadRefusal::TooLong) => Err(too_long(alloc, conversion, file)),
+        Err(ReadRefusal::Failed) => Err(Stop::Host),
+        Err(ReadRefusal::Memory) => Err(Stop::Memory),
+    }
+}
+
+/// Writes what is made of a file.
+fn convert_file<H: Host>(
+    alloc: Global,
+    conversion: Conversion,
+    file: &Text,
+    out: &Text,
+    host: &mut H,
+) -> Result<(), Stop>
+    ensures told { (files : Files) → H.files host.old ≡ Some files →
+        Ended (plan_for conversion file.now out.now) file.now files (H.files host.new) (H.faults host.old) (H.faults host.new) result }
+    ensures cause { result ≡ Err Stop.Host → (target : Target) × Contains (targets_of (plan_for conversion file.now out.now)) target × Rose (H.faults host.old) (H.faults host.new) target }
+    ensures faults { NeverFall (H.faults host.old) (H.faults host.new) }
+    ensures streams { (stream : Stream) → H.printed host.new stream ≡ H.printed host.old stream }
+{
+    let bytes = read_module(alloc, conversion, file, host)?;
+    let text = made(alloc, conversion, file, bytes.as_slice())?;
+    write_file(alloc, out, &text, host)
+}
+
+/// Converts a file and gives the status.
+fn convert_command<H: Host>(
+    alloc: Global,
+    conversion: Conversion,
+    file: &Text,
+    out: &Text,
+    host: &mut H,
+) -> u8
+    ensures told { (files : Files) → H.files host.old ≡ Some files → (job : Job) × IsJob (plan_for conversion file.now out.now) files job
+        × Performs job files (H.files host.new) (H.faults host.old) (H.faults host.new) (H.printed host.old) (H.printed host.new) result }
+    ensures cause { result ≡ 3 → (target : Target) × Contains (targets_of (plan_for conversion file.now out.now)) target × Rose (H.faults host.old) (H.faults host.new) target }
+    ensures planned { result ≢ 2 }
+{
+    match convert_file(alloc, conversion, file, out, host) {
+        Ok(()) => 0,
+        Err(stop) => report(alloc, file, stop, host),
+    }
+}
+
 /// Runs the command that the words are, and gives the program's status. The first word is the program's
 /// own name.
 pub fn glsl_main<H: Host>(alloc: Global, words: &Words, host: &mut H) -> u8
@@ -181,7 +222,8 @@ pub fn glsl_main<H: Host>(alloc: Global, words: &Words, host: &mut H) -> u8
         (job : Job) × IsJob plan files job
         × Performs job files (H.files host.new) (H.faults host.old) (H.faults host.new) (H.printed host.old) (H.printed host.new) result }
 
-    // Status 0 means that a module has been written that carries the program of the sources and is small for it.
+    // Status 0 means that what the command makes has been written: of `compile` a module that carries the program of the
+    // sources and is small for it.
     ensures written { result ≡ 0 → (plan : Plan) → plan_of words.now ≡ Some plan → (files : Files) → H.files host.old ≡ Some files →
         Written plan files (H.files host.new) }
 
@@ -189,8 +231,17 @@ pub fn glsl_main<H: Host>(alloc: Global, words: &Words, host: &mut H) -> u8
     ensures cause { result ≡ 3 → (plan : Plan) × (target : Target) × (plan_of words.now ≡ Some plan) × Contains (targets_of plan) target
         × Rose (H.faults host.old) (H.faults host.new) target }
 {
-    match plan(words) {
-        Command::Usage => usage(alloc, host),
-        Command::Compile { stage, out, file } => compile_command(alloc, stage, out, file, host),
+    let Ok(command) = plan(alloc, words) else {
+        return 4;
+    };
+    match command {
+        Command::Usage(text) => usage(alloc, text.as_slice(), host),
+        Command::Compile { stage, out, file } => compile_command(alloc, stage, &out, &file, host),
+        Command::Disassemble { file, out } => {
+            convert_command(alloc, Conversion::Disassemble, &file, &out, host)
+        }
+        Command::Assemble { file, out } => {
+            convert_command(alloc, Conversion::Assemble, &file, &out, host)
+        }
     }
 }

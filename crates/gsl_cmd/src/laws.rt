@@ -7,7 +7,7 @@ ghost use Rattle.gsl_base.specs.Checked.{Checked};
 ghost use Rattle.gsl_host.specs.Outside.{Files};
 ghost use Rattle.gsl_form.specs.declared.program.Program.{Program};
 ghost use Rattle.gsl_cmd.specs.Job.{Job, IsJob};
-ghost use Rattle.gsl_cmd.specs.Plan.{Plan};
+ghost use Rattle.gsl_plan.specs.Plan.{Plan};
 ghost use Rattle.gsl_cmd.specs.Verdict.{Accepts, FirstFault, Judges};
 
 /// The rules give one program or one first fault, whatever the sources are.

@@ -11,10 +11,11 @@
 mod code;
 mod command;
 mod compiling;
+mod converting;
 mod laws;
 mod lowering;
 mod meaning;
-mod plan;
+mod stop;
 mod text;
 mod validity;
 

@@ -1,16 +1,14 @@
 //! The texts that the program prints.
 
-ghost use Rattle.std.specs.Prelude.{◌≡◌, ◌+◌, ◌%◌, IfOk};
-ghost use Rattle.gsl_cmd.specs.Texts.{fault_text as text_of_fault, told_fault as text_told, four_digits as digits_of};
+ghost use Rattle.std.specs.Prelude.{◌≡◌, ◌+◌, ◌%◌, ◌++◌, IfOk, codes};
+ghost use Rattle.std.specs.Fmt.{decimal};
+ghost use Rattle.gsl_cmd.specs.Texts.{fault_text as text_of_fault, told_fault as text_told, four_digits as digits_of, line_text as text_of_line, long_text as text_of_long};
 
 use gsl_base::{Bytes, Fault, Memory, Text};
 use std::alloc::Global;
 
 /// What is printed where the outside failed.
 pub const HOST_TEXT: &[u8] = b"ERROR: host\n";
-
-/// What is printed where the words are no command.
-pub const USAGE_TEXT: &[u8] = b"usage\n";
 
 /// The line that reports a fault of the file that has this name: `ERROR: FILE:LINE: Ennnn`.
 fn fault_text(alloc: Global, file: &str, fault: &Fault) -> Result<Bytes, Memory>
@@ -36,6 +34,38 @@ pub fn told_fault(alloc: Global, file: &Text, fault: &Fault) -> Result<Bytes, Me
         0 => fault_text(alloc, file.as_str(), fault),
         _ => fault_text(alloc, "", fault),
     }
+}
+
+/// A text, a number behind it, and the end of the line.
+pub fn placed(alloc: Global, front: &[u8], number: u32) -> Result<Bytes, Memory>
+    ensures { IfOk result (λ text. text ≡ front.now ++ decimal number ++ codes "\n") }
+{
+    let mut text = Bytes::from_slice(alloc, front)?;
+    let digits = number.to_string(alloc)?;
+    text.extend_from_slice(digits.as_bytes())?;
+    text.extend_from_slice(b"\n")?;
+    Ok(text)
+}
+
+/// The line that tells which line of a text is wrong: `FILE: line N`.
+pub fn line_text(alloc: Global, file: &Text, line: u32) -> Result<Bytes, Memory>
+    ensures { IfOk result (λ text. text ≡ text_of_line file.now line) }
+{
+    let mut text = Bytes::from_slice(alloc, file.as_str().as_bytes())?;
+    text.extend_from_slice(b": line ")?;
+    let digits = line.to_string(alloc)?;
+    text.extend_from_slice(digits.as_bytes())?;
+    text.extend_from_slice(b"\n")?;
+    Ok(text)
+}
+
+/// The line that tells that a text is too long: `FILE: too long`.
+pub fn long_text(alloc: Global, file: &Text) -> Result<Bytes, Memory>
+    ensures { IfOk result (λ text. text ≡ text_of_long file.now) }
+{
+    let mut text = Bytes::from_slice(alloc, file.as_str().as_bytes())?;
+    text.extend_from_slice(b": too long\n")?;
+    Ok(text)
 }
 
 /// The last four decimal digits of a number.

@@ -107,9 +107,14 @@ pub fn stream(out: &mut Outline, name: &str, bytes: &[u8]) -> Done {
     }
 }
 
+/// Whether the byte is a plain character or a line end.
+fn is_plain(byte: &u8) -> bool {
+    *byte == b'\n' || (*byte >= b' ' && *byte <= b'~')
+}
+
 /// A byte as text: one that is no plain character in hexadecimal digits, but for a line end.
 fn stream_byte(out: &mut Outline, byte: u8) -> Done {
-    if byte == b'\n' || (byte >= b' ' && byte <= b'~') {
+    if is_plain(&byte) {
         return out.put_bytes(&[byte]);
     }
     out.put("\\x")?;
@@ -130,7 +135,7 @@ fn changed(alloc: Global, out: &mut Outline, case: &Case, each: &str, host: &Mem
     Ok(())
 }
 
-/// Prints the files that the case names: words where they are, and the bytes left over.
+/// Prints the files that the case names: the lines of a text, and else words and the bytes left over.
 fn shown(alloc: Global, out: &mut Outline, case: &Case, host: &MemHost) -> Done {
     for name in &case.shown {
         out.put("file ")?;
@@ -139,7 +144,11 @@ fn shown(alloc: Global, out: &mut Outline, case: &Case, host: &MemHost) -> Done 
             None => out.put(" none\n")?,
             Some(bytes) => {
                 out.end_line()?;
-                dump(out, bytes)?;
+                if bytes.iter().all(is_plain) {
+                    stream(out, "  | ", bytes)?;
+                } else {
+                    dump(out, bytes)?;
+                }
             }
         }
     }

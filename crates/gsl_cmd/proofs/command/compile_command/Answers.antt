@@ -1,7 +1,7 @@
 use Rattle.std.proofs.Common.{ℕ, List, [], ◌∷◌, ◌∙◌, sym, subst, arith, Option, Err}
 use Rattle.gsl_host.specs.declared.target.Stream.TheVariants as stream
 use Rattle.gsl_host.specs.Outside.{Files}
-use Rattle.gsl_cmd.specs.Plan.{Plan}
+use Rattle.gsl_plan.specs.Plan.{Plan}
 use Rattle.gsl_cmd.specs.Command.{Ended, Reported}
 use Rattle.gsl_cmd.proofs.Ends.{done_ok, done_err}
 use Rattle.gsl_cmd.proofs.command.compile_command.Goals as goal

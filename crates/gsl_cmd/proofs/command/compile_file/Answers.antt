@@ -21,14 +21,14 @@ pub returns-clause-told : goal.returns-clause-told
 returns-clause-told g c = λ files told.
     let read = rw told at c.in_ok-source.ensures.told in
     let now = c.in_ok-source.ensures.files ∙ told in
-    ended_write c.args.stage c.args.out.now c.args.file.now files _ _ _ c.in_ok-source.source c.in_ok-bytes.bytes c.write_module.result
-    read.0 read.1 c.in_ok-bytes.ensures (rw now at c.write_module.ensures.ok) (rw now at c.write_module.ensures.others)
-    (λ e. later_rise (g.H.Host.faults c.args.host.now) (g.H.Host.faults c.read_source.new.host) (g.H.Host.faults c.write_module.new.host) (Writing c.args.out.now) c.in_ok-source.ensures.faults (c.write_module.ensures.failed e)) c.write_module.ensures.no_fault
+    ended_write c.args.stage c.args.out.now c.args.file.now files _ _ _ c.in_ok-source.source c.in_ok-bytes.bytes c.write_file.result
+    read.0 read.1 c.in_ok-bytes.ensures (rw now at c.write_file.ensures.ok) (rw now at c.write_file.ensures.others)
+    (λ e. later_rise (g.H.Host.faults c.args.host.now) (g.H.Host.faults c.read_source.new.host) (g.H.Host.faults c.write_file.new.host) (Writing c.args.out.now) c.in_ok-source.ensures.faults (c.write_file.ensures.failed e)) c.write_file.ensures.no_fault c.write_file.ensures.no_text
 
 pub returns-clause-cause : goal.returns-clause-cause
 returns-clause-cause g c = λ e. (
   Writing c.args.out.now,
   (1, omega arith, refl),
-  later_rise (g.H.Host.faults c.args.host.now) (g.H.Host.faults c.read_source.new.host) (g.H.Host.faults c.write_module.new.host) (Writing c.args.out.now)
-      c.in_ok-source.ensures.faults (c.write_module.ensures.failed e),
+  later_rise (g.H.Host.faults c.args.host.now) (g.H.Host.faults c.read_source.new.host) (g.H.Host.faults c.write_file.new.host) (Writing c.args.out.now)
+      c.in_ok-source.ensures.faults (c.write_file.ensures.failed e),
 )

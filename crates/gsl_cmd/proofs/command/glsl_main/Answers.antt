@@ -1,5 +1,5 @@
 use Rattle.std.proofs.Common.{[], ◌∷◌, subst}
-use Rattle.gsl_cmd.specs.Plan.{Plan}
+use Rattle.gsl_plan.specs.Plan.{Plan}
 use Rattle.gsl_cmd.specs.Written.{Written}
 use Rattle.gsl_cmd.proofs.Wrote.{performed_written, same_plan}
 use Rattle.gsl_cmd.proofs.command.glsl_main.Goals as goal

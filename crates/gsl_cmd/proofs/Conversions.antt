@@ -1,0 +1,106 @@
+-- How far the steps of `dis` and of `asm` have come with their job.
+use Rattle.std.proofs.Common.{◌≡◌, ℕ, zero, suc, ◌<◌, ◌≤◌, List, [], ◌∷◌, length, Option, Some, None, Result, Ok, Err, refl, ap, sym, subst, ◌∙◌, arith}
+use Rattle.std.specs.Prelude.{IsSomeAnd, OnOk, Contains}
+use Rattle.std.specs.FinMap.{get, insert}
+use Rattle.std.proofs.lemmas.Bool.{lt-ltb, le-ltb, cond-true, cond-false}
+use Rattle.gsl_base.specs.declared.fault.Fault.{Fault}
+use Rattle.gsl_host.specs.declared.target.Target.{Target}
+use Rattle.gsl_host.specs.declared.target.Target.TheVariants.{Reading, Writing}
+use Rattle.gsl_host.specs.Outside.{Files, KeepsOthers, Sets, Rose}
+use Rattle.gsl_plan.specs.Plan.{Plan, Name}
+use Rattle.gsl_cmd.specs.declared.stop.Stop.{Stop}
+use Rattle.gsl_cmd.specs.declared.stop.Stop.TheVariants as stop
+use Rattle.gsl_cmd.specs.declared.converting.Conversion.{Conversion}
+use Rattle.gsl_cmd.specs.declared.converting.Conversion.TheVariants.{Disassemble, Assemble}
+use Rattle.gsl_cmd.specs.declared.converting.TheConstants.{MAX_MODULE_BYTES}
+use Rattle.gsl_cmd.specs.Converting.{Made, Makes, too_long, plan_for}
+use Rattle.gsl_cmd.specs.Job.{Job, Effect, Found, Missing, Longer, Whole, IsJob, IsConversionJob, failed, rejected, made_of, found_in}
+use Rattle.gsl_cmd.specs.Performs.{KeepsAllBut}
+use Rattle.gsl_cmd.specs.Command.{Did, Ended, ReadsFileTold, Gives}
+use Rattle.gsl_cmd.proofs.Converted.{conversion_job}
+use Rattle.gsl_cmd.proofs.Jobs.{keeps_same}
+
+pub as_job : (conversion : Conversion) (file out : Name) (files : Files) (job : Job) → IsConversionJob conversion file out job (found_in (get files file)) → IsJob (plan_for conversion file out) files job
+as_job Disassemble file out files job is = is
+as_job Assemble file out files job is = is
+
+module _ (conversion : Conversion) (file out : Name) (files : Files) (after : Option Files) (faults faults' : Target → ℕ) where
+  abbrev Came : Result (Unit {0}) Stop → Type 0
+  Came end = Ended (plan_for conversion file out) file files after faults faults' end
+
+  abbrev IsIts : Job → Found → Type 0
+  IsIts job found = IsConversionJob conversion file out job found
+
+  its : (job : Job) (found : Found) → found_in (get files file) ≡ found → IsIts job found → IsJob (plan_for conversion file out) files job
+  its job found e is = as_job conversion file out files job (subst (IsIts job) (sym e) is)
+
+  -- the job reaches for its file, and prints nothing
+  reads_in : (job : Job) (found : Found) → IsIts job found → Contains job.targets (Reading file)
+  reads_in job Missing is = subst (λ (j : Job). Contains j.targets (Reading file)) (sym is) (0, omega arith, refl)
+  reads_in job Longer is = subst (λ (j : Job). Contains j.targets (Reading file)) (sym is) (0, omega arith, refl)
+  reads_in job (Whole bytes) (Ok text, made, is) = subst (λ (j : Job). Contains j.targets (Reading file)) (sym is) (0, omega arith, refl)
+  reads_in job (Whole bytes) (Err text, made, is) = subst (λ (j : Job). Contains j.targets (Reading file)) (sym is) (0, omega arith, refl)
+
+  no_out : (job : Job) (found : Found) → IsIts job found → job.out ≡ []
+  no_out job Missing is = ap (λ (j : Job). j.out) is
+  no_out job Longer is = ap (λ (j : Job). j.out) is
+  no_out job (Whole bytes) (Ok text, made, is) = ap (λ (j : Job). j.out) is
+  no_out job (Whole bytes) (Err text, made, is) = ap (λ (j : Job). j.out) is
+
+  some_its : (job : Job) × IsIts job (found_in (get files file))
+  some_its = conversion_job conversion file out (found_in (get files file))
+
+  -- want of memory leaves some job
+  pub ended_memory : after ≡ Some files → Came (Err stop.Memory)
+  ended_memory same =
+      let j = some_its in
+      record { job = j.0; is_job = as_job conversion file out files j.0 j.1; out = no_out j.0 _ j.1; did = tt; kept = keeps_same j.0.effect files after same }
+
+  ended_reject : (text : List ℕ) (found : Found) → found_in (get files file) ≡ found → IsIts (rejected text file) found → after ≡ Some files → Came (Err (stop.Rejected text))
+  ended_reject text found e is same = record { job = rejected text file; is_job = its (rejected text file) found e is; out = refl; did = (refl, refl, refl, same); kept = same }
+
+  long : (bytes : List ℕ) → get files file ≡ Some bytes → MAX_MODULE_BYTES < length bytes → found_in (get files file) ≡ Longer
+  long bytes read more = ap found_in read ∙ cond-true _ _ _ (lt-ltb _ _ more)
+
+  pub whole : (bytes : List ℕ) → get files file ≡ Some bytes → length bytes ≤ MAX_MODULE_BYTES → found_in (get files file) ≡ Whole bytes
+  whole bytes read short = ap found_in read ∙ cond-false _ _ _ (le-ltb _ _ short)
+
+  long_in : (read : Option (List ℕ)) → get files file ≡ read → IsSomeAnd read (λ bytes. MAX_MODULE_BYTES < length bytes) → found_in (get files file) ≡ Longer
+  long_in None e some = absurd some
+  long_in (Some bytes) e some = long bytes e some
+
+  pub ended_read : (why : Stop) → ReadsFileTold conversion files file (Err why) → after ≡ Some files → (why ≡ stop.Host → Rose faults faults' (Reading file)) → Came (Err why)
+  ended_read stop.Memory told same rose = ended_memory same
+  ended_read stop.Host told same rose =
+      let j = some_its in
+      record {
+        job = j.0;
+        is_job = as_job conversion file out files j.0 j.1;
+        out = no_out j.0 _ j.1;
+        did = (Reading file, reads_in j.0 _ j.1, rose refl);
+        kept = keeps_same j.0.effect files after same;
+      }
+  ended_read (stop.Fault fault) told same rose = absurd told
+  ended_read (stop.Rejected text) (some, is) same rose =
+      ended_reject text Longer (long_in (get files file) refl some) (ap (λ t. rejected t file) is) same
+
+  pub ended_made : (bytes : List ℕ) (why : Stop) → get files file ≡ Some bytes → length bytes ≤ MAX_MODULE_BYTES → Gives (Makes conversion file bytes) (Err why) → after ≡ Some files → Came (Err why)
+  ended_made bytes stop.Memory read short answer same = ended_memory same
+  ended_made bytes stop.Host read short answer same = absurd answer
+  ended_made bytes (stop.Fault fault) read short answer same = absurd answer
+  ended_made bytes (stop.Rejected text) read short answer same = ended_reject text (Whole bytes) (whole bytes read short) (Err text, answer, refl) same
+
+  wrote : (bytes text : List ℕ) (end : Result (Unit {0}) Stop) → get files file ≡ Some bytes → length bytes ≤ MAX_MODULE_BYTES → Makes conversion file bytes (Ok text) →
+      KeepsOthers (Some files) after out → Did file (made_of file out (Ok text)) files after faults faults' end → Came end
+  wrote bytes text end read short answer others did =
+      record { job = made_of file out (Ok text); is_job = its (made_of file out (Ok text)) (Whole bytes) (whole bytes read short) (Ok text, answer, refl); out = refl; did = did; kept = others }
+
+  pub ended_write : (bytes text : List ℕ) (end : Result (Unit {0}) Stop) → get files file ≡ Some bytes → length bytes ≤ MAX_MODULE_BYTES → Gives (Makes conversion file bytes) (Ok text) →
+      OnOk end (Sets (Some files) after out text) → KeepsOthers (Some files) after out → (end ≡ Err stop.Host → Rose faults faults' (Writing out)) →
+      ((fault : Fault) → end ≡ Err (stop.Fault fault) → ⊥) → ((line : List ℕ) → end ≡ Err (stop.Rejected line) → ⊥) → Came end
+  ended_write bytes text (Ok done) read short answer sets others rose sound quiet = wrote bytes text (Ok done) read short answer others (refl, refl, sets)
+  ended_write bytes text (Err stop.Host) read short answer sets others rose sound quiet =
+      wrote bytes text (Err stop.Host) read short answer others (Writing out, (1, omega arith, refl), rose refl)
+  ended_write bytes text (Err stop.Memory) read short answer sets others rose sound quiet = wrote bytes text (Err stop.Memory) read short answer others tt
+  ended_write bytes text (Err (stop.Fault fault)) read short answer sets others rose sound quiet = absurd (sound fault refl)
+  ended_write bytes text (Err (stop.Rejected line)) read short answer sets others rose sound quiet = absurd (quiet line refl)

@@ -1,0 +1,77 @@
+-- What the words of a command line ask for. The first word is the program's own name.
+use Rattle.std.specs.Prelude.{ℕ, Bool, false, ◌==◌, List, [], ◌∷◌, Option, Some, None, codes, if◌then◌else◌}
+use Rattle.std.specs.Option.{option_map}
+use Rattle.std.specs.Str.{bytes_eq}
+use Rattle.gsl_base.specs.declared.stage.Stage.{Stage}
+use Rattle.gsl_base.specs.declared.stage.Stage.TheVariants.{Compute}
+use Rattle.gsl_plan.specs.declared.command.Command.{Command}
+use Rattle.gsl_plan.specs.declared.command.Command.TheVariants as command
+
+-- the name of a file
+abbrev pub Name : Type 0
+Name = List ℕ
+
+-- A command with its arguments.
+pub data Plan : Type 0 where
+  Compile : (stage : Stage) (out : Name) (files : List Name) → Plan
+  -- `dis`: a module is shown as text
+  Disassemble : (file out : Name) → Plan
+  -- `asm`: a text is assembled to a module
+  Assemble : (file out : Name) → Plan
+
+-- whether a word begins with `-` and is not `-` alone
+abbrev pub is_option : Name → Bool
+is_option [] = false
+is_option (byte ∷ []) = false
+is_option (byte ∷ next ∷ word) = byte == 45
+
+-- The operands among the words behind a command: all but the first `--`, before which no other word is an option.
+abbrev pub operands : List Name → Option (List Name)
+operands [] = Some []
+operands (word ∷ words) =
+    if bytes_eq word (codes "--") then Some words else if is_option word then None else option_map (λ more. word ∷ more) (operands words)
+
+abbrev pub no_plan : Option Plan
+no_plan = None
+
+-- compute shaders alone are taken so far
+abbrev pub compile_for : Name → Name → Name → Option Plan
+compile_for stage out file = if bytes_eq stage (codes "comp") then Some (Compile Compute out (file ∷ [])) else None
+
+abbrev pub compile_of : List Name → Option Plan
+compile_of (stage ∷ out ∷ file ∷ []) = compile_for stage out file
+compile_of _ = None
+
+abbrev pub disassemble_of : List Name → Option Plan
+disassemble_of (file ∷ out ∷ []) = Some (Disassemble file out)
+disassemble_of _ = None
+
+abbrev pub assemble_of : List Name → Option Plan
+assemble_of (file ∷ out ∷ []) = Some (Assemble file out)
+assemble_of _ = None
+
+-- goes on with the operands, if there are some
+abbrev pub given : Option (List Name) → (List Name → Option Plan) → Option Plan
+given None f = None
+given (Some words) f = f words
+
+-- `compile comp OUT FILE`, `dis MODULE OUT`, `asm TEXT OUT`
+abbrev pub named : Name → List Name → Option Plan
+named command words =
+    if bytes_eq command (codes "compile") then compile_of words else if bytes_eq command (codes "dis") then disassemble_of words
+    else if bytes_eq command (codes "asm") then assemble_of words else None
+
+abbrev pub command_of : Name → List Name → Option Plan
+command_of command words = given (operands words) (named command)
+
+-- the command that the words are, if they are one
+abbrev pub plan_of : List Name → Option Plan
+plan_of (program ∷ command ∷ words) = command_of command words
+plan_of _ = None
+
+-- the plan of a command in the code
+abbrev pub plan_in : Command → Option Plan
+plan_in (command.Usage text) = None
+plan_in (command.Compile stage out file) = Some (Compile stage out (file ∷ []))
+plan_in (command.Disassemble file out) = Some (Disassemble file out)
+plan_in (command.Assemble file out) = Some (Assemble file out)

@@ -1,0 +1,15 @@
+//! The commands of the program.
+
+use gsl_base::{Bytes, Stage, Text};
+
+/// What the words of a command line ask for.
+#[derive(Drop)]
+pub enum Command {
+    /// The words are no command. This text says how the program is called.
+    Usage(Bytes),
+    Compile { stage: Stage, out: Text, file: Text },
+    /// Shows the module of a file as text.
+    Disassemble { file: Text, out: Text },
+    /// Writes the module of a text.
+    Assemble { file: Text, out: Text },
+}
