@@ -1,0 +1,4 @@
+pub mod Entering
+pub mod Extending
+pub mod Interning
+pub mod Appending
