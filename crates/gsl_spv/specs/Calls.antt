@@ -56,6 +56,13 @@ constant of.False = truth false
 constant (of.Word ty bits) = intern (d.word ty bits)
 constant (of.Null ty) = intern (d.null ty)
 
+-- the declaration of a constant, where the type of truth values has this id
+abbrev pub constant_by : PlainConst → ℕ → Declaration
+constant_by of.True truths = d.truth true truths
+constant_by of.False truths = d.truth false truths
+constant_by (of.Word ty bits) truths = d.word ty bits
+constant_by (of.Null ty) truths = d.null ty
+
 abbrev pub composite : ℕ → List ℕ → Sections → Out
 composite ty parts = intern (d.composite ty parts)
 

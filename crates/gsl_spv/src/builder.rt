@@ -1,6 +1,6 @@
 //! The builder, and the steps that its calls are made of.
 
-ghost use Rattle.std.specs.Prelude.{◌≡◌, ◌+◌, ◌≤◌, ◌<◌, [], ◌∷◌, ◌++◌, Ok, Err, true, false, IfOk, None, OnOk, IfErr, option_to_list};
+ghost use Rattle.std.specs.Prelude.{◌≡◌, ◌+◌, ◌≤◌, ◌<◌, ◌↔◌, IsTrue, [], ◌∷◌, ◌++◌, Ok, Err, true, false, IfOk, None, OnOk, IfErr, option_to_list};
 
 use crate::finishing::{append, head};
 use crate::globals::Globals;
@@ -12,6 +12,9 @@ use gsl_instr::op;
 use gsl_words::{Args, Instrs, Module, Target};
 use std::alloc::Global;
 use std::marker::Model;
+
+/// The number of instructions that a section stays below.
+const MOST: usize = 1 << 32;
 
 /// The sections of a module while it is made. After a call answered `Memory`, each call does.
 #[derive(Drop)]
@@ -46,8 +49,8 @@ impl Builder {
     ghost use Rattle.gsl_spv.specs.Declarations.{declaration, defining, type_by};
     ghost use Rattle.gsl_spv.specs.Once.{IsOnce, IsAnew, key_of, id_of};
     ghost use Rattle.gsl_spv.specs.Calls as spec;
-    ghost use Rattle.gsl_spv.specs.Calls.{Answers, Does};
-    ghost use Rattle.gsl_spv.specs.Growing.{Extends};
+    ghost use Rattle.gsl_spv.specs.Calls.{Answers, Does, importing};
+    ghost use Rattle.gsl_spv.specs.Growing.{AreOnce, Extends};
     ghost use Rattle.gsl_spv.specs.Finished.{AreFew, module_of};
     ghost use Rattle.gsl_spv.specs.declared.refusal.BuildRefusal.TheVariants.{TooManyIds, Memory as WantOfMemory};
 
@@ -250,6 +253,7 @@ impl Builder {
     /// The id of the import of GLSL's instructions.
     pub fn glsl_set(&mut self) -> Result<u32, BuildRefusal>
         ensures answer { Answers self.old result self.new (spec.glsl_set self.old) }
+        ensures stands { IfOk result (λ id. self.new.imports ≡ importing id ∷ []) }
         ensures full { result ≡ Err TooManyIds → self.new ≡ self.old }
         ensures grows { Extends self.old self.new }
     {
@@ -278,12 +282,31 @@ impl Builder {
         Ok(())
     }
 
+    /// No two plain types, function types or constants of a builder are the same.
+    pub fn declared_once(&self)
+        ensures { AreOnce self.now.globals }
+    {
+        self.globals.declared_once();
+    }
+
+    /// Whether each section has fewer than 2^32 instructions.
+    pub fn are_few(&self) -> bool
+        ensures { IsTrue result ↔ AreFew self.now }
+    {
+        self.names.len() < MOST
+            && self.decorations.len() < MOST
+            && self.globals.instrs().len() < MOST
+            && self.functions.len() < MOST
+    }
+
     /// The module, whose entry point `main` is the function of this id. The size of a work group serves the
     /// compute stage alone.
     pub fn finish(self, main: u32, local_size: [u32; 3]) -> Result<Module, Memory>
         requires { AreFew self }
-        ensures { IfOk result (λ m. (self.wanting ≡ false) × (m ≡ module_of self main local_size)) }
+        ensures ok { IfOk result (λ m. (self.wanting ≡ false) × (m ≡ module_of self main local_size)) }
+        ensures once { AreOnce self.globals }
     {
+        self.globals.declared_once();
         if self.wanting {
             return Err(Memory);
         }

@@ -5,6 +5,7 @@ ghost use Rattle.std.specs.Map.{lookup};
 ghost use Rattle.gsl_instr.specs.declared.enumerant.storage_class.TheConstants as storage_class;
 ghost use Rattle.gsl_instr.specs.declared.op.TheConstants as op;
 ghost use Rattle.gsl_spv.specs.Declarations.{defining, variable};
+ghost use Rattle.gsl_spv.specs.Growing.{AreOnce};
 ghost use Rattle.gsl_spv.specs.Once.{entries, entry_of, interface_at, interface_of, same, variable_interface};
 
 use crate::key::Key;
@@ -130,6 +131,13 @@ impl Globals {
         ensures { result.now ≡ interface_of self.now }
     {
         self.interface.as_slice()
+    }
+
+    /// No two of those that are declared once are the same.
+    pub fn declared_once(&self)
+        ensures { AreOnce self.now }
+    {
+        let _count = self.known.len();
     }
 
     /// The instructions.

@@ -10,10 +10,12 @@ mod calls;
 mod finishing;
 mod globals;
 mod key;
+mod laws;
 mod notes;
 mod plain;
 mod refusal;
 
 pub use builder::Builder;
+pub use laws::{answers_are_defined, definitions_last, growing_on, one_id};
 pub use plain::{PlainConst, PlainType};
 pub use refusal::{BuildRefusal, MOST_IDS};

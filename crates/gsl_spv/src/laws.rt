@@ -1,0 +1,44 @@
+//! Laws of the definitions: calls that do nothing, whose contracts are the laws.
+
+ghost use Rattle.std.specs.Prelude.{◌≡◌, ℕ, List, Option, Some};
+ghost use Rattle.std.specs.List.{Contains};
+ghost use Rattle.gsl_words.specs.declared.module.Instr.{Instr};
+ghost use Rattle.gsl_spv.specs.declared.plain.PlainType.{PlainType};
+ghost use Rattle.gsl_spv.specs.declared.plain.PlainType.TheVariants as plain;
+ghost use Rattle.gsl_spv.specs.declared.plain.PlainConst.{PlainConst};
+ghost use Rattle.gsl_spv.specs.Calls as calls;
+ghost use Rattle.gsl_spv.specs.Declarations as d;
+ghost use Rattle.gsl_spv.specs.Declarations.{Declaration, defining};
+ghost use Rattle.gsl_spv.specs.Once.{IsOnce, id_of};
+ghost use Rattle.gsl_spv.specs.Sections.{Sections};
+ghost use Rattle.gsl_spv.specs.Growing.{AreOnce, Defines, Extends, IsDefined, all_of};
+ghost use Rattle.gsl_spv.specs.Finished.{module_of};
+
+/// Where nothing is declared twice, equal types and constants have one id.
+pub fn one_id()
+    ensures { (code : List Instr) (d : Declaration) (a b : ℕ) → AreOnce code → IsOnce d → Contains code (defining d a) → Contains code (defining d b) → a ≡ b }
+{}
+
+/// Sections that grew grow on.
+pub fn growing_on()
+    ensures { (before between after : Sections) → Extends before between → Extends between after → Extends before after }
+{}
+
+/// What is defined stays so, as does the id of what is declared once; the module that is made has all of it.
+pub fn definitions_last()
+    ensures extends { (before after : Sections) (id : ℕ) (i : Instr) → Extends before after → Defines (all_of before) id i → Defines (all_of after) id i }
+    ensures known { (before after : Sections) (d : Declaration) (id : ℕ) → Extends before after → id_of d before.globals ≡ Some id → id_of d after.globals ≡ Some id }
+    ensures finish { (s : Sections) (main : ℕ) (local_size : List ℕ) (id : ℕ) (i : Instr) → Defines (all_of s) id i → Defines (module_of s main local_size).instrs id i }
+{}
+
+/// What each call answers is defined in the sections then.
+pub fn answers_are_defined()
+    ensures plain_type { (ty : PlainType) (s : Sections) → IsDefined (d.plain_type ty) (calls.plain_type ty s) }
+    ensures function_type { (answer : ℕ) (params : List ℕ) (s : Sections) → IsDefined (d.function_type answer params) (calls.function_type answer params s) }
+    ensures array_type { (element length : ℕ) (stride : Option ℕ) (s : Sections) → IsDefined (d.array_type element length) (calls.array_type element length stride s) }
+    ensures runtime_type { (element stride : ℕ) (s : Sections) → IsDefined (d.runtime_type element) (calls.runtime_type element stride s) }
+    ensures struct_type { (members : List ℕ) (s : Sections) → IsDefined (d.struct_type members) (calls.struct_type members s) }
+    ensures constant { (what : PlainConst) (s : Sections) → IsDefined (calls.constant_by what (calls.plain_type plain.Bool s).id) (calls.constant what s) }
+    ensures composite { (ty : ℕ) (parts : List ℕ) (s : Sections) → IsDefined (d.composite ty parts) (calls.composite ty parts s) }
+    ensures global { (pointer class : ℕ) (init : Option ℕ) (s : Sections) → IsDefined (d.variable pointer class init) (calls.global pointer class init s) }
+{}
