@@ -25,8 +25,9 @@ IsNumbered x = (id : ℕ) → option_and_then result_of (read x.op (defining x i
 
 of_global : (s : Sections) (id : ℕ) (i : Instr) → Contains s.globals i → option_and_then result_of (read i.op i.args) ≡ Some id → Defines (all_of s) id i
 of_global s id i h is = record {
-    stands = Contains-append_left (s.imports ++ s.names ++ s.decorations ++ s.globals) s.functions i (Contains-append_right (s.imports ++ s.names ++ s.decorations) s.globals i h);
-    result = is }
+  stands = Contains-append_left (s.imports ++ s.names ++ s.decorations ++ s.globals) s.functions i (Contains-append_right (s.imports ++ s.names ++ s.decorations) s.globals i h);
+  result = is;
+}
 
 of_intern : (x : Declaration) (s : Sections) → IsOnce x → IsNumbered x → IsDefined x (intern x s)
 unfolding IsNumbered

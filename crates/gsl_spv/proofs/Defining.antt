@@ -68,5 +68,6 @@ one_id code d a b distinct once first second = some_same a b (sym (at a first) �
     at : (id : ℕ) → Contains code (defining d id) → id_of d code ≡ Some id
     at id among = lookup-from_Contains nat_list_eq_equiv (key_of d) id (entries code) distinct
         (into_flat entry_of code (defining d id) (key_of d, id) among (subst (λ l. Contains l (key_of d, id)) (sym (once.entry id)) (first_in (key_of d, id) [])))
+
     some_same : (x y : ℕ) → Some x ≡ Some y → x ≡ y
     some_same x y e = cc

@@ -42,8 +42,8 @@ finished_stands s main local_size i =
     (both (s.imports ++ s.names) s.decorations (head ++ s.names) s.decorations i
     (both s.imports s.names head s.names i
     (λ h. Contains-append_left (capabilities ++ s.imports ++ memory_models ++ entry) (modes s.stage main local_size) i
-        (Contains-append_left (capabilities ++ s.imports ++ memory_models) entry i
-        (Contains-append_left (capabilities ++ s.imports) memory_models i (Contains-append_right capabilities s.imports i h))))
+    (Contains-append_left (capabilities ++ s.imports ++ memory_models) entry i
+    (Contains-append_left (capabilities ++ s.imports) memory_models i (Contains-append_right capabilities s.imports i h))))
     (λ h. h)) (λ h. h)) (λ h. h)) (λ h. h)
 
 pub defines_finish : (s : Sections) (main : ℕ) (local_size : List ℕ) (id : ℕ) (i : Instr) → Defines (all_of s) id i

@@ -40,7 +40,7 @@ modes Compute main local_size = instr op.EXECUTION_MODE (main ∷ execution_mode
 abbrev pub code_of : Sections → ℕ → List ℕ → List Instr
 code_of s main local_size =
     capabilities ++ s.imports ++ memory_models ++ entry_point s.stage main (interface_of s.globals) ∷ []
-        ++ modes s.stage main local_size ++ s.names ++ s.decorations ++ s.globals ++ s.functions
+    ++ modes s.stage main local_size ++ s.names ++ s.decorations ++ s.globals ++ s.functions
 
 abbrev pub module_of : Sections → ℕ → List ℕ → Module
 module_of s main local_size = record { version = version_of s.target; bound = s.last + 1; instrs = code_of s main local_size }

@@ -157,11 +157,7 @@ impl Builder {
     }
 
     /// Adds a declaration that may be made again, under a new id.
-    pub(crate) fn declare(
-        &mut self,
-        op: u16,
-        operands: &[u32],
-    ) -> Result<u32, BuildRefusal>
+    pub(crate) fn declare(&mut self, op: u16, operands: &[u32]) -> Result<u32, BuildRefusal>
         requires { IsAnew (type_by op operands.now) }
         ensures answer { Answers self.old result self.new (spec.declare (type_by op operands.now) self.old) }
         ensures full { result ≡ Err TooManyIds → self.new ≡ self.old }
@@ -311,7 +307,9 @@ impl Builder {
             return Err(Memory);
         }
         let interface = self.globals.interface();
-        let mut instrs = head(self.alloc, self.set, self.stage, main, interface, local_size)?;
+        let mut instrs = head(
+            self.alloc, self.set, self.stage, main, interface, local_size,
+        )?;
         append(&mut instrs, &self.names)?;
         append(&mut instrs, &self.decorations)?;
         append(&mut instrs, self.globals.instrs())?;

@@ -45,12 +45,7 @@ fn put_import(code: &mut Instrs, set: Option<u32>) -> Result<(), Memory>
 }
 
 /// The operands of the entry point.
-fn entry_operands(
-    alloc: Global,
-    stage: Stage,
-    main: u32,
-    interface: &[u32],
-) -> Result<Args, Memory>
+fn entry_operands(alloc: Global, stage: Stage, main: u32, interface: &[u32]) -> Result<Args, Memory>
     ensures { IfOk result (λ args. args ≡ (spec.entry_point stage main interface.now).args) }
 {
     let mut args = Args::from_slice(alloc, &[model_of(stage), main])?;
@@ -76,7 +71,10 @@ fn put_modes(code: &mut Instrs, stage: Stage, main: u32, size: [u32; 3]) -> Resu
     match stage {
         Stage::Vertex => Ok(()),
         Stage::Fragment => {
-            code.put(op::EXECUTION_MODE, &[main, execution_mode::ORIGIN_UPPER_LEFT])
+            code.put(
+                op::EXECUTION_MODE,
+                &[main, execution_mode::ORIGIN_UPPER_LEFT],
+            )
         }
         Stage::Compute => {
             let [x, y, z] = size;

@@ -19,3 +19,6 @@ pub use builder::Builder;
 pub use laws::{answers_are_defined, definitions_last, growing_on, one_id};
 pub use plain::{PlainConst, PlainType};
 pub use refusal::{BuildRefusal, MOST_IDS};
+
+#[cfg(test)]
+mod tests;
