@@ -1,5 +1,5 @@
 -- What each call answers is defined.
-use Rattle.std.proofs.Common.{◌≡◌, ℕ, ◌+◌, Bool, true, false, List, [], ◌∷◌, ◌++◌, Option, Some, None, refl}
+use Rattle.std.proofs.Common.{◌≡◌, ℕ, ◌+◌, true, false, List, ◌++◌, Option, Some, None, refl}
 use Rattle.std.proofs.lemmas.List.Elements.{Contains-append_left, Contains-append_right, Contains-push}
 use Rattle.std.specs.List.{Contains}
 use Rattle.std.specs.Prelude.{option_and_then}
@@ -75,10 +75,10 @@ constant_numbered (of.Null ty) truths = λ id. refl
 pub plain_defined : (ty : PlainType) (s : Sections) → IsDefined (d.plain_type ty) (calls.plain_type ty s)
 plain_defined ty s = of_intern (d.plain_type ty) s (plain_once ty) (plain_numbered ty)
 
-pub function_defined : (answer : ℕ) (params : List ℕ) (s : Sections) → IsDefined (d.function_type answer params) (calls.function_type answer params s)
+pub function_defined : (returned : ℕ) (params : List ℕ) (s : Sections) → IsDefined (d.function_type returned params) (calls.function_type returned params s)
 unfolding IsNumbered form_of
-function_defined answer params s =
-    of_intern (d.function_type answer params) s (record { entry = λ id. refl; interface = λ id. refl }) (λ id. refl)
+function_defined returned params s =
+    of_intern (d.function_type returned params) s (record { entry = λ id. refl; interface = λ id. refl }) (λ id. refl)
 
 pub array_defined : (element length : ℕ) (stride : Option ℕ) (s : Sections) → IsDefined (d.array_type element length) (calls.array_type element length stride s)
 unfolding IsNumbered form_of

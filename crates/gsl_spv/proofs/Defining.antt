@@ -1,6 +1,6 @@
 -- Where what a call answers is defined.
-use Rattle.std.proofs.Common.{◌≡◌, ℕ, ◌+◌, Bool, true, false, List, [], ◌∷◌, ◌++◌, Option, Some, None, sym, ap, subst, ◌∙◌, refl, if◌then◌else◌}
-use Rattle.std.proofs.lemmas.List.Elements.{Contains-append_left, Contains-append_right, Contains-push}
+use Rattle.std.proofs.Common.{◌≡◌, ℕ, ◌+◌, Bool, true, false, List, [], ◌∷◌, Option, Some, None, sym, ap, subst, ◌∙◌, refl, if◌then◌else◌}
+use Rattle.std.proofs.lemmas.List.Elements.{Contains-push}
 use Rattle.std.proofs.lemmas.Map.Views.{Contains-from_lookup, lookup-from_Contains}
 use Rattle.std.specs.Cmp.Lexicographic.{same_text, nat_list_eq_equiv}
 use Rattle.std.specs.List.{Contains}
@@ -8,7 +8,7 @@ use Rattle.gsl_words.specs.declared.module.Instr.{Instr}
 use Rattle.gsl_spv.specs.Declarations.{Declaration, instr, defining}
 use Rattle.gsl_spv.specs.Once.{Key, key_of, id_of, is_type, is_constant, type_entry, constant_entry, entries, entry_of, IsOnce}
 use Rattle.gsl_spv.specs.Sections.{Sections}
-use Rattle.gsl_spv.specs.Calls.{known, declare, intern}
+use Rattle.gsl_spv.specs.Calls.{known, intern}
 use Rattle.gsl_spv.specs.Growing.{AreOnce}
 use Rattle.gsl_spv.proofs.Contained.{nothing_in, only_in, first_in, from_flat, into_flat}
 

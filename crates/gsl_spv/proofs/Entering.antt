@@ -2,7 +2,6 @@
 use Rattle.std.proofs.Common.{◌≡◌, ℕ, List, [], ◌∷◌, ◌++◌, None, sym, ap, ◌∙◌, append-nil}
 use Rattle.std.proofs.lemmas.List.{flat_map_more}
 use Rattle.std.specs.Map.{lookup}
-use Rattle.std.specs.List.{flat_map}
 use Rattle.indexmap.specs.IndexMap.{IndexMap, insert_entry}
 use Rattle.indexmap.proofs.CallerLemmas.{insert_entry-new}
 use Rattle.gsl_words.specs.declared.module.Instr.{Instr}

@@ -1,14 +1,13 @@
 -- What calls leave as it was.
-use Rattle.std.proofs.Common.{◌≡◌, ℕ, ◌≤◌, Bool, true, false, List, [], ◌∷◌, ◌++◌, ◌⊎◌, inl, inr, Option, Some, None, sym, ap, subst, ◌∙◌, if◌then◌else◌}
+use Rattle.std.proofs.Common.{◌≡◌, ℕ, Bool, true, false, List, [], ◌∷◌, ◌++◌, ◌⊎◌, inl, inr, Some, None, sym, ap, subst, ◌∙◌, if◌then◌else◌}
 use Rattle.std.proofs.lemmas.List.Elements.{Contains-append_left, Contains-append_right, Contains-append_cases}
 use Rattle.std.proofs.lemmas.Grind.{flat_map-append}
 use Rattle.std.specs.List.{Contains}
 use Rattle.std.specs.Map.{lookup}
 use Rattle.gsl_words.specs.declared.module.Instr.{Instr}
-use Rattle.gsl_spv.specs.Declarations.{Declaration, instr, defining}
+use Rattle.gsl_spv.specs.Declarations.{Declaration}
 use Rattle.gsl_spv.specs.Once.{Key, key_of, id_of, entry_of, entries, same, interface_of}
 use Rattle.gsl_spv.specs.Sections.{Sections}
-use Rattle.gsl_spv.specs.Calls.{known, declare, intern}
 use Rattle.gsl_spv.specs.Growing.{Begins, Extends, Defines, all_of}
 use Rattle.gsl_spv.specs.Finished.{capabilities, memory_models, entry_point, modes, module_of}
 

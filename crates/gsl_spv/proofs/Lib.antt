@@ -6,3 +6,4 @@ pub mod Contained
 pub mod Defining
 pub mod Lasting
 pub mod Answering
+pub mod Filing

@@ -44,7 +44,7 @@ abbrev pub plain_type : PlainType → Sections → Out
 plain_type ty = intern (d.plain_type ty)
 
 abbrev pub function_type : ℕ → List ℕ → Sections → Out
-function_type result params = intern (d.function_type result params)
+function_type returned params = intern (d.function_type returned params)
 
 -- a truth value, whose type is declared with it
 abbrev pub truth : Bool → Sections → Out

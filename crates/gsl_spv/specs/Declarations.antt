@@ -37,7 +37,7 @@ plain_type (plain.Vector component count) = type_by op.TYPE_VECTOR (component �
 plain_type (plain.Pointer class pointee) = type_by op.TYPE_POINTER (class ∷ pointee ∷ [])
 
 abbrev pub function_type : ℕ → List ℕ → Declaration
-function_type result params = type_by op.TYPE_FUNCTION (result ∷ params)
+function_type returned params = type_by op.TYPE_FUNCTION (returned ∷ params)
 
 abbrev pub array_type : ℕ → ℕ → Declaration
 array_type element length = type_by op.TYPE_ARRAY (element ∷ length ∷ [])

@@ -1,9 +1,7 @@
 -- That sections only grow, and where an id is defined.
-use Rattle.std.specs.Prelude.{◌≡◌, ℕ, ◌≤◌, true, List, ◌++◌, Option, Some, option_and_then}
+use Rattle.std.specs.Prelude.{◌≡◌, ℕ, ◌≤◌, true, List, ◌++◌, Some, option_and_then}
 use Rattle.std.specs.List.{Contains, IsDistinct}
 use Rattle.std.specs.Map.{keys_of}
-use Rattle.gsl_base.specs.declared.stage.Stage.{Stage}
-use Rattle.gsl_words.specs.declared.target.Target.{Target}
 use Rattle.gsl_words.specs.declared.module.Instr.{Instr}
 use Rattle.gsl_instr.specs.Instructions.{read, result_of}
 use Rattle.gsl_spv.specs.Once.{entries, same}

@@ -173,16 +173,17 @@ impl Builder {
         Ok(id)
     }
 
-    /// The id of a type of functions, by the ids of their result's type and of their parameters' types.
-    pub fn function_type(&mut self, answer: u32, params: &[u32]) -> Result<u32, BuildRefusal>
-        ensures answer { Answers self.old result self.new (spec.function_type answer params.now self.old) }
+    /// The id of a type of functions, by the ids of the type that they return and of their parameters' types, which is
+    /// declared where it is not there.
+    pub fn function_type(&mut self, returned: u32, params: &[u32]) -> Result<u32, BuildRefusal>
+        ensures answer { Answers self.old result self.new (spec.function_type returned params.now self.old) }
         ensures full { result ≡ Err TooManyIds → self.new ≡ self.old }
         ensures grows { Extends self.old self.new }
     {
         if self.wanting {
             return Err(BuildRefusal::Memory);
         }
-        let Ok(operands) = args_of(self.alloc, None, answer, params) else {
+        let Ok(operands) = args_of(self.alloc, None, returned, params) else {
             return Err(self.lost());
         };
         self.intern(op::TYPE_FUNCTION, None, operands.as_slice())

@@ -1,4 +1,4 @@
-use Rattle.std.proofs.Common.{arith, subst, sym, ◌≡◌}
+use Rattle.std.proofs.Common.{arith, subst}
 use Rattle.std.proofs.lemmas.Grind.{common_steps}
 use Rattle.gsl_spv.specs.Growing.{Extends}
 use Rattle.gsl_spv.proofs.Extending.{extends_glsl_set}
