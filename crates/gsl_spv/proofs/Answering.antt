@@ -44,7 +44,7 @@ of_strided x None s numbered = of_declare x s numbered
 of_strided x (Some stride) s numbered =
     of_global (strided (Some stride) (declare x s)).sections (s.last + 1) (defining x (s.last + 1)) (Contains-push s.globals (defining x (s.last + 1))) (numbered (s.last + 1))
 
-plain_once : (ty : PlainType) → IsOnce (d.plain_type ty)
+pub plain_once : (ty : PlainType) → IsOnce (d.plain_type ty)
 plain_once plain.Void = record { entry = λ id. refl; interface = λ id. refl }
 plain_once plain.Bool = record { entry = λ id. refl; interface = λ id. refl }
 plain_once (plain.Int signed) = record { entry = λ id. refl; interface = λ id. refl }
@@ -59,7 +59,7 @@ plain_numbered (plain.Int signed) = λ id. refl
 plain_numbered (plain.Vector component count) = λ id. refl
 plain_numbered (plain.Pointer class pointee) = λ id. refl
 
-constant_once : (what : PlainConst) (truths : ℕ) → IsOnce (calls.constant_by what truths)
+pub constant_once : (what : PlainConst) (truths : ℕ) → IsOnce (calls.constant_by what truths)
 constant_once of.True truths = record { entry = λ id. refl; interface = λ id. refl }
 constant_once of.False truths = record { entry = λ id. refl; interface = λ id. refl }
 constant_once (of.Word ty bits) truths = record { entry = λ id. refl; interface = λ id. refl }
@@ -72,13 +72,19 @@ constant_numbered of.False truths = λ id. refl
 constant_numbered (of.Word ty bits) truths = λ id. refl
 constant_numbered (of.Null ty) truths = λ id. refl
 
+pub function_once : (returned : ℕ) (params : List ℕ) → IsOnce (d.function_type returned params)
+function_once returned params = record { entry = λ id. refl; interface = λ id. refl }
+
+pub composite_once : (ty : ℕ) (parts : List ℕ) → IsOnce (d.composite ty parts)
+composite_once ty parts = record { entry = λ id. refl; interface = λ id. refl }
+
 pub plain_defined : (ty : PlainType) (s : Sections) → IsDefined (d.plain_type ty) (calls.plain_type ty s)
 plain_defined ty s = of_intern (d.plain_type ty) s (plain_once ty) (plain_numbered ty)
 
 pub function_defined : (returned : ℕ) (params : List ℕ) (s : Sections) → IsDefined (d.function_type returned params) (calls.function_type returned params s)
 unfolding IsNumbered form_of
 function_defined returned params s =
-    of_intern (d.function_type returned params) s (record { entry = λ id. refl; interface = λ id. refl }) (λ id. refl)
+    of_intern (d.function_type returned params) s (function_once returned params) (λ id. refl)
 
 pub array_defined : (element length : ℕ) (stride : Option ℕ) (s : Sections) → IsDefined (d.array_type element length) (calls.array_type element length stride s)
 unfolding IsNumbered form_of
@@ -100,7 +106,7 @@ constant_defined (of.Null ty) s = of_intern (d.null ty) s (constant_once (of.Nul
 
 pub composite_defined : (ty : ℕ) (parts : List ℕ) (s : Sections) → IsDefined (d.composite ty parts) (calls.composite ty parts s)
 unfolding IsNumbered form_of
-composite_defined ty parts s = of_intern (d.composite ty parts) s (record { entry = λ id. refl; interface = λ id. refl }) (λ id. refl)
+composite_defined ty parts s = of_intern (d.composite ty parts) s (composite_once ty parts) (λ id. refl)
 
 pub global_defined : (pointer class : ℕ) (init : Option ℕ) (s : Sections) → IsDefined (d.variable pointer class init) (calls.global pointer class init s)
 unfolding IsNumbered form_of

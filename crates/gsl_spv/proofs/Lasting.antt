@@ -1,13 +1,16 @@
 -- What calls leave as it was.
-use Rattle.std.proofs.Common.{◌≡◌, ℕ, Bool, true, false, List, [], ◌∷◌, ◌++◌, ◌⊎◌, inl, inr, Some, None, sym, ap, subst, ◌∙◌, if◌then◌else◌}
+use Rattle.std.proofs.Common.{◌≡◌, ℕ, ◌+◌, Bool, true, false, List, [], ◌∷◌, ◌++◌, ◌⊎◌, inl, inr, Option, Some, None, refl, sym, ap, subst, ◌∙◌, if◌then◌else◌}
 use Rattle.std.proofs.lemmas.List.Elements.{Contains-append_left, Contains-append_right, Contains-append_cases}
 use Rattle.std.proofs.lemmas.Grind.{flat_map-append}
+use Rattle.std.proofs.lemmas.List.{flat_map_more}
+use Rattle.std.specs.Cmp.Lexicographic.{nat_list_eq_equiv}
 use Rattle.std.specs.List.{Contains}
 use Rattle.std.specs.Map.{lookup}
 use Rattle.gsl_words.specs.declared.module.Instr.{Instr}
-use Rattle.gsl_spv.specs.Declarations.{Declaration}
-use Rattle.gsl_spv.specs.Once.{Key, key_of, id_of, entry_of, entries, same, interface_of}
+use Rattle.gsl_spv.specs.Declarations.{Declaration, defining}
+use Rattle.gsl_spv.specs.Once.{Key, key_of, id_of, entry_of, entries, same, interface_of, IsOnce}
 use Rattle.gsl_spv.specs.Sections.{Sections}
+use Rattle.gsl_spv.specs.Calls.{known, intern}
 use Rattle.gsl_spv.specs.Growing.{Begins, Extends, Defines, all_of}
 use Rattle.gsl_spv.specs.Finished.{capabilities, memory_models, entry_point, modes, module_of}
 
@@ -66,3 +69,25 @@ ids_last a b d id p e =
     ap (λ l. lookup (same (key_of d)) (entries l)) p.globals.is
     ∙ ap (lookup (same (key_of d))) (flat_map-append entry_of a.globals p.globals.more)
     ∙ lookup_front (same (key_of d)) (entries a.globals) (entries p.globals.more) id e
+
+some_none : (id : ℕ) → Some id ≡ None → ⊥
+some_none id e = cc
+
+lookup_last : (test : Key → Bool) (xs : List (Key × ℕ)) (key : Key) (id : ℕ) → lookup test xs ≡ None → test key ≡ true → lookup test (xs ++ (key, id) ∷ []) ≡ Some id
+lookup_last test [] key id none passes = ap (λ t. if t then Some id else None) passes
+lookup_last test (x ∷ xs) key id none passes = by (test x.0) none (λ later. lookup_last test xs key id later passes)
+  where
+    by : (t : Bool) → (if t then Some x.1 else lookup test xs) ≡ None → (lookup test xs ≡ None → lookup test (xs ++ (key, id) ∷ []) ≡ Some id) → (if t then Some x.1 else lookup test (xs ++ (key, id) ∷ [])) ≡ Some id
+    by true p more = absurd (some_none x.1 p)
+    by false p more = more p
+
+-- what is interned is known
+pub interned_known : (d : Declaration) (s : Sections) → IsOnce d → id_of d (intern d s).sections.globals ≡ Some (intern d s).id
+unfolding intern
+interned_known d s once = by (id_of d s.globals) refl
+  where
+    by : (found : Option ℕ) → id_of d s.globals ≡ found → id_of d (known found d s).sections.globals ≡ Some (known found d s).id
+    by (Some id) is = is
+    by None is =
+        ap (lookup (same (key_of d))) (sym (flat_map_more entry_of [] s.globals (defining d (s.last + 1))) ∙ ap (λ l. entries s.globals ++ l) (once.entry (s.last + 1)))
+        ∙ lookup_last (same (key_of d)) (entries s.globals) (key_of d) (s.last + 1) is (nat_list_eq_equiv.refl (key_of d))

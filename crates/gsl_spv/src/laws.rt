@@ -16,6 +16,14 @@ ghost use Rattle.gsl_spv.specs.Sections.{Sections};
 ghost use Rattle.gsl_spv.specs.Growing.{AreOnce, Defines, Extends, IsDefined, all_of};
 ghost use Rattle.gsl_spv.specs.Finished.{module_of};
 
+/// Plain types, function types and constants are declared once.
+pub fn what_is_once()
+    ensures plain_type { (ty : PlainType) → IsOnce (d.plain_type ty) }
+    ensures function_type { (returned : ℕ) (params : List ℕ) → IsOnce (d.function_type returned params) }
+    ensures constant { (what : PlainConst) (truths : ℕ) → IsOnce (calls.constant_by what truths) }
+    ensures composite { (ty : ℕ) (parts : List ℕ) → IsOnce (d.composite ty parts) }
+{}
+
 /// Where nothing is declared twice, equal types and constants have one id.
 pub fn one_id()
     ensures { (code : List Instr) (d : Declaration) (a b : ℕ) → AreOnce code → IsOnce d → Contains code (defining d a) → Contains code (defining d b) → a ≡ b }
@@ -26,9 +34,11 @@ pub fn growing_on()
     ensures { (before between after : Sections) → Extends before between → Extends between after → Extends before after }
 {}
 
-/// What is defined stays so, as does the id of what is declared once; the module that is made has all of it.
+/// What is defined stays so, in the module that is made too; what is declared once is found under its id from then
+/// on.
 pub fn definitions_last()
     ensures extends { (before after : Sections) (id : ℕ) (i : Instr) → Extends before after → Defines (all_of before) id i → Defines (all_of after) id i }
+    ensures interned { (d : Declaration) (s : Sections) → IsOnce d → id_of d (calls.intern d s).sections.globals ≡ Some (calls.intern d s).id }
     ensures known { (before after : Sections) (d : Declaration) (id : ℕ) → Extends before after → id_of d before.globals ≡ Some id → id_of d after.globals ≡ Some id }
     ensures finish { (s : Sections) (main : ℕ) (local_size : List ℕ) (id : ℕ) (i : Instr) → Defines (all_of s) id i → Defines (module_of s main local_size).instrs id i }
 {}

@@ -16,7 +16,9 @@ mod plain;
 mod refusal;
 
 pub use builder::Builder;
-pub use laws::{answers_are_defined, definitions_last, growing_on, modules_have_files, one_id};
+pub use laws::{
+    answers_are_defined, definitions_last, growing_on, modules_have_files, one_id, what_is_once,
+};
 pub use plain::{PlainConst, PlainType};
 pub use refusal::{BuildRefusal, MOST_IDS};
 
