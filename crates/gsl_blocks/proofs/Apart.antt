@@ -1,10 +1,9 @@
 -- Words that differ, and lists that stand in others in the same order.
-use Rattle.std.proofs.Common.{◌≡◌, ℕ, ◌+◌, ◌<◌, Bool, true, false, not, ◌&&◌, ◌||◌, cond, List, [], ◌∷◌, ◌++◌, length, refl, ap, sym, ◌∙◌, subst, append_assoc, append-nil, arith}
-use Rattle.std.specs.Prelude.{nat_eq, nat_lt}
+use Rattle.std.proofs.Common.{◌≡◌, ℕ, ◌+◌, ◌<◌, Bool, true, false, not, ◌||◌, cond, List, [], ◌∷◌, ◌++◌, length, refl, ap, sym, ◌∙◌, append_assoc, append-nil, arith}
+use Rattle.std.specs.Prelude.{nat_eq}
 use Rattle.std.specs.List.{list_any, position_or_len}
 use Rattle.std.proofs.lemmas.Bool.{true≢false, and_parts, or_left, or_right, or_from, eqb-true, eq-eqb}
-use Rattle.gsl_blocks.specs.Reading.{stands_before, is_earlier}
-use Rattle.gsl_blocks.specs.Targets.{differ_from, once_from, with_word}
+use Rattle.gsl_blocks.specs.Targets.{differ_from, once_from}
 
 -- no word is one of those behind it
 abbrev pub Apart : List ℕ → Type 0

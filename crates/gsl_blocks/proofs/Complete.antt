@@ -1,6 +1,5 @@
 -- What is in order is read.
-use Rattle.std.proofs.Common.{◌≡◌, ℕ, ◌+◌, Bool, true, false, cond, max, List, [], ◌∷◌, ◌++◌, Option, Some, None, refl, sym, ap, ◌∙◌, subst, append_assoc, append-nil}
-use Rattle.std.specs.Prelude.{nat_eq, map}
+use Rattle.std.proofs.Common.{◌≡◌, ℕ, ◌+◌, cond, max, List, [], ◌∷◌, ◌++◌, Some, None, refl, sym, ap, ◌∙◌, subst, append_assoc}
 use Rattle.std.proofs.lemmas.Bool.{eq-eqb}
 use Rattle.gsl_blocks.specs.declared.block.Merge.{Merge}
 use Rattle.gsl_blocks.specs.declared.block.Merge.TheVariants.{Nothing, Selection, Loop}
@@ -9,11 +8,10 @@ use Rattle.gsl_blocks.specs.declared.block.End.TheVariants.{Branch, Conditional,
 use Rattle.gsl_blocks.specs.declared.block.Block.{Block}
 use Rattle.gsl_blocks.specs.declared.around.Around.{Around}
 use Rattle.gsl_blocks.specs.declared.around.Due.{Due}
-use Rattle.gsl_blocks.specs.Around.{may_end, may_turn, in_case}
 use Rattle.gsl_blocks.specs.Blocks.{labels}
-use Rattle.gsl_blocks.specs.Order.{block, run, arm, cases, first_or, parts_of_loop, may_fork, IsRun, ends, leaves, turns, selects, chooses, loops, goes, AreRuns, done, more}
-use Rattle.gsl_blocks.specs.Reading.{asks, asks_on, arms_of, depth_at, depth_on, then_reads, reads, put_in}
-use Rattle.gsl_blocks.specs.Targets.{firsts, all_differ, mentioned, lone_default, AreArms}
+use Rattle.gsl_blocks.specs.Order.{block, run, arm, cases, parts_of_loop, IsRun, ends, leaves, turns, selects, chooses, loops, goes, AreRuns, done, more}
+use Rattle.gsl_blocks.specs.Reading.{asks, arms_of, depth_at, then_reads, reads}
+use Rattle.gsl_blocks.specs.Targets.{mentioned, lone_default, AreArms}
 use Rattle.gsl_blocks.proofs.Apart.{Apart, StandIn, nothing, this, in_longer, in_behind}
 use Rattle.gsl_blocks.proofs.Arms.{found}
 use Rattle.gsl_blocks.proofs.Greatest.{max_assoc, max_zero}

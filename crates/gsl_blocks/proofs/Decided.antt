@@ -1,12 +1,12 @@
 -- The reader decides the order.
-use Rattle.std.proofs.Common.{◌≡◌, ℕ, true, max, List, [], ◌∷◌, ◌++◌, Option, Some, None, refl, sym, ap, ◌∙◌, subst, append-nil, arith}
+use Rattle.std.proofs.Common.{◌≡◌, ℕ, true, max, List, [], ◌∷◌, Option, Some, refl, sym, ap, ◌∙◌, subst, append-nil, arith}
 use Rattle.gsl_blocks.specs.declared.block.Block.{Block}
 use Rattle.gsl_blocks.specs.Around.{outside}
 use Rattle.gsl_blocks.specs.Blocks.{labels}
 use Rattle.gsl_blocks.specs.Correct.{IsNesting, Decides}
 use Rattle.gsl_blocks.specs.Order.{run, IsRun, IsOrdered, ordered}
 use Rattle.gsl_blocks.specs.Reading.{reads, reads_with, nesting_of}
-use Rattle.gsl_blocks.specs.Targets.{all_differ, once}
+use Rattle.gsl_blocks.specs.Targets.{all_differ}
 use Rattle.gsl_blocks.proofs.Apart.{apart, once_is}
 use Rattle.gsl_blocks.proofs.Complete.{run_read}
 use Rattle.gsl_blocks.proofs.Sound.{Read, sound, one}

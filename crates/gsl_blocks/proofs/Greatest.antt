@@ -1,5 +1,5 @@
 -- The greater of numbers.
-use Rattle.std.proofs.Common.{◌≡◌, ℕ, ◌≤◌, max, arith}
+use Rattle.std.proofs.Common.{◌≡◌, ℕ, max, arith}
 
 pub max_assoc : (a b c : ℕ) → max (max a b) c ≡ max a (max b c)
 max_assoc a b c = omega arith

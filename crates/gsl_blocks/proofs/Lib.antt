@@ -3,6 +3,7 @@ pub mod Arms
 pub mod Cases
 pub mod Complete
 pub mod Decided
+mod Example
 pub mod Greatest
 pub mod Instructions
 pub mod Onto

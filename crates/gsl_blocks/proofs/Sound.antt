@@ -11,7 +11,7 @@ use Rattle.gsl_blocks.specs.declared.around.Around.{Around}
 use Rattle.gsl_blocks.specs.declared.around.Due.{Due}
 use Rattle.gsl_blocks.specs.Around.{may_end, may_turn}
 use Rattle.gsl_blocks.specs.Order.{block, run, arm, cases, parts_of_loop, may_fork, IsRun, ends, leaves, turns, selects, chooses, loops, goes, AreRuns, done, more}
-use Rattle.gsl_blocks.specs.Reading.{asks, asks_on, arms_of, depth_at, depth_on, then_reads, reads}
+use Rattle.gsl_blocks.specs.Reading.{asks, arms_of, depth_at, then_reads, reads}
 use Rattle.gsl_blocks.specs.Targets.{firsts, all_differ, mentioned, lone_default}
 use Rattle.gsl_blocks.proofs.Arms.{are_arms}
 use Rattle.gsl_blocks.proofs.Greatest.{max_assoc, max_zero}

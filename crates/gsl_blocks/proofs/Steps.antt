@@ -1,5 +1,5 @@
 -- Reading, block by block.
-use Rattle.std.proofs.Common.{◌≡◌, ℕ, suc, ◌∷◌, Bool, true, false, max, List, [], length, Option, Some, None, refl, ap, sym, subst, ◌∙◌, IsTrue}
+use Rattle.std.proofs.Common.{◌≡◌, ℕ, ◌∷◌, Bool, true, false, max, List, [], length, Option, Some, None, refl, ap, sym, subst, ◌∙◌, IsTrue}
 use Rattle.std.specs.Prelude.{◌↔◌, MatchOption}
 use Rattle.gsl_blocks.specs.declared.block.Block.{Block}
 use Rattle.gsl_blocks.specs.declared.around.Due.{Due}

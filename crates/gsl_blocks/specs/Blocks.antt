@@ -6,7 +6,6 @@ use Rattle.gsl_instr.specs.Instructions.{read}
 use Rattle.gsl_words.specs.declared.module.Instr.{Instr}
 use Rattle.gsl_blocks.specs.declared.block.Merge.{Merge}
 use Rattle.gsl_blocks.specs.declared.block.Merge.TheVariants.{Nothing, Selection, Loop}
-use Rattle.gsl_blocks.specs.declared.block.End.{End}
 use Rattle.gsl_blocks.specs.declared.block.End.TheVariants.{Branch, Conditional, Switch, Leave}
 use Rattle.gsl_blocks.specs.declared.block.Block.{Block}
 use Rattle.gsl_blocks.specs.declared.block.Role.{Role}

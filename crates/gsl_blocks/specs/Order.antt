@@ -1,5 +1,5 @@
 -- V12: the blocks of a function are structured (SPIR-V 1.0, 2.11, and narrower).
-use Rattle.std.specs.Prelude.{ℕ, ◌+◌, max, Bool, not, ◌==◌, ◌||◌, ◌≢◌, if◌then◌else◌, IsTrue, ◌≡◌, true, false, List, [], ◌∷◌, ◌++◌}
+use Rattle.std.specs.Prelude.{ℕ, ◌+◌, max, Bool, not, ◌==◌, ◌||◌, if◌then◌else◌, ◌≡◌, true, false, List, [], ◌∷◌, ◌++◌}
 use Rattle.gsl_blocks.specs.declared.block.Merge.{Merge}
 use Rattle.gsl_blocks.specs.declared.block.Merge.TheVariants.{Nothing, Selection, Loop}
 use Rattle.gsl_blocks.specs.declared.block.End.{End}

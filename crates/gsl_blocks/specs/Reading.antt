@@ -1,5 +1,5 @@
 -- The order of blocks, read block by block over a stack of the runs that are due: the end of a block decides its case.
-use Rattle.std.specs.Prelude.{ℕ, ◌+◌, ◌^◌, ◌<◌, max, Bool, true, false, not, ◌==◌, ◌&&◌, nat_lt, nat_eq, if◌then◌else◌, List, [], ◌∷◌, filter, position, Option, Some, None}
+use Rattle.std.specs.Prelude.{ℕ, ◌+◌, ◌^◌, ◌<◌, max, Bool, true, false, ◌==◌, nat_lt, nat_eq, if◌then◌else◌, List, [], ◌∷◌, position, Option, Some, None}
 use Rattle.std.specs.List.{AllByRecursion}
 use Rattle.gsl_blocks.specs.declared.block.Merge.{Merge}
 use Rattle.gsl_blocks.specs.declared.block.Merge.TheVariants.{Nothing, Selection, Loop}
@@ -8,7 +8,7 @@ use Rattle.gsl_blocks.specs.declared.block.End.TheVariants.{Branch, Conditional,
 use Rattle.gsl_blocks.specs.declared.block.Block.{Block}
 use Rattle.gsl_blocks.specs.declared.around.Around.{Around}
 use Rattle.gsl_blocks.specs.declared.around.Due.{Due}
-use Rattle.gsl_blocks.specs.Around.{may_end, may_turn, in_arm, in_case, outside}
+use Rattle.gsl_blocks.specs.Around.{may_end, may_turn, outside}
 use Rattle.gsl_blocks.specs.Blocks.{labels}
 use Rattle.gsl_blocks.specs.Order.{run, arm, cases, parts_of_loop, may_fork}
 use Rattle.gsl_blocks.specs.Targets.{firsts, all_differ, once, mentioned, lone_default}

@@ -1,4 +1,4 @@
-use Rattle.std.proofs.Common.{◌≡◌, ap, sym, ◌∙◌}
+use Rattle.std.proofs.Common.{ap, sym, ◌∙◌}
 use Rattle.gsl_blocks.specs.Reading as reading
 use Rattle.gsl_blocks.proofs.Steps.{read_on, read_none, ends, lacks}
 use Rattle.gsl_blocks.proofs.order.read_all.Goals as goal

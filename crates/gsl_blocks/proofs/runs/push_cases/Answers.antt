@@ -1,4 +1,4 @@
-use Rattle.std.proofs.Common.{◌≡◌, ◌∷◌, ap, sym, ◌∙◌}
+use Rattle.std.proofs.Common.{◌∷◌, ap, sym, ◌∙◌}
 use Rattle.gsl_blocks.specs.Order as spec
 use Rattle.gsl_blocks.proofs.Cases.{cases_last}
 use Rattle.gsl_blocks.proofs.runs.push_cases.Goals as goal

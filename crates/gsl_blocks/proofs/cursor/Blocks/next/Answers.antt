@@ -1,4 +1,4 @@
-use Rattle.std.proofs.Common.{◌≡◌, ◌≤◌, length, sym, ◌∙◌, arith}
+use Rattle.std.proofs.Common.{◌≤◌, length, sym, ◌∙◌, arith}
 use Rattle.gsl_blocks.proofs.Instructions.{at_role, at_end}
 use Rattle.gsl_blocks.proofs.cursor.Blocks.next.Goals as goal
 
