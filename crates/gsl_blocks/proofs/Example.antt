@@ -1,6 +1,5 @@
 -- Functions whose blocks are in order, with how many constructs stand within each other, and some whose blocks are not.
-use Rattle.std.proofs.Common.{◌≡◌, ℕ, List, [], ◌∷◌, Option, Some, None, refl}
-use Rattle.gsl_blocks.specs.declared.block.Block.{Block}
+use Rattle.std.proofs.Common.{◌≡◌, [], ◌∷◌, Some, None, refl}
 use Rattle.gsl_blocks.specs.declared.block.Merge.TheVariants.{Nothing, Selection, Loop}
 use Rattle.gsl_blocks.specs.declared.block.End.TheVariants.{Branch, Conditional, Switch, Leave}
 use Rattle.gsl_blocks.specs.Order.{block}
