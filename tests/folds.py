@@ -4,13 +4,17 @@
 Each case is a line of four fields with tabs between: its kind, its title, what goes in, what is wanted.
 - fold: a GLSL expression. Wanted: 'known TYPE w w ..' with the words of the leaves as eight hexadecimal digits, 'free' where only what
   the language leaves open stands against it, or 'not constant'. The variables: `const int seven = 7;`, `const ivec3 three = ivec3(1, 2, 3);`,
-  `const int row[3] = int[](4, 5, 6);`, `const int open = 1 / 0;` (a local), `int x;` and `int f(int n)`.
+  `const int row[3] = int[](4, 5, 6);`, `const int open = 1 / 0;` (locals), `int x;`, `int f(int n)`, and the globals
+  `const uint nine = 9u;`, `int y;`.
 - choose: candidates, each a list of parameters, with '; ' between, and then '<-' and the types of the arguments. Wanted: the place from 0,
   'no match' or 'ambiguous'.
 
-No program here reads them yet: they wait for the checker, which types the expressions.
+`folds.py cases` prints the same as lines that `gsl_folds` reads (`docs/CASES.md`), each expression typed and in postfix form, and
+`folds.py wanted` what is to be printed of them.
 """
 import itertools
+import re
+import sys
 M = 1 << 32
 
 def w(n):
@@ -142,6 +146,9 @@ fold('a variable that is not constant', 'x')
 fold('one that is skipped counts', 'true || x == 0')
 fold('not constant, and left open', 'x + 1 / 0')
 fold('not constant, and left open', 'open + x')
+fold('a global that is known', 'nine + 1u', 'uint', [10])
+fold('a global and a local', 'nine + seven', 'uint', [16])
+fold('a global that is not constant', 'y')
 
 for e in ['f(1)', 'x = 1', 'x += 1', 'x++', '--x', '(1, 2)', 'f(1) + 1', 'ivec2(1, f(2))']:
     fold('no form of a constant', e)
@@ -276,5 +283,184 @@ for c in itertools.permutations([ins('uint', 'uint', 'int'), ins('uint', 'int', 
 choose('no candidate', [], ['int'])
 choose('the same twice', [ins('int'), ins('int')], ['int'])
 
-for case in out:
-    print('\t'.join(case))
+
+# ---- the same as typed expressions in postfix form
+
+TOKEN = re.compile(r'\s*(0x[0-9a-f]+u?|\d+u?|\w+|<<|>>|<=|>=|==|!=|&&|\|\||\^\^|\+\+|--|\+=|[-+*/%&|^~!<>=?:().,\[\]])')
+LEVELS = [['||'], ['^^'], ['&&'], ['|'], ['^'], ['&'], ['==', '!='], ['<', '<=', '>', '>='], ['<<', '>>'], ['+', '-'], ['*', '/', '%']]
+NAMES = {'seven': ('local@0', 'int'), 'three': ('local@1', 'ivec3'), 'row': ('local@2', 'int[3]'), 'open': ('local@3', 'int'), 'x': ('local@4', 'int'),
+         'nine': ('global@0', 'uint'), 'y': ('global@1', 'int')}
+GIVEN = ['local const@7:int', 'local const@1:int const@2:int const@3:int build@3:ivec3',
+         'local const@4:int const@5:int const@6:int build@3:int[3]', 'local const@1:int const@0:int /:int', 'local param@0:int',
+         'global const@9:uint', 'global param@0:int']
+TYPES = {vt(t, n) for t in ('int', 'uint', 'bool') for n in (1, 2, 3, 4)}
+
+def base(t):
+    return {'i': 'int', 'u': 'uint', 'b': 'bool'}[t[0]]
+
+def size(t):
+    return int(t[-1]) if t[-1].isdigit() else 1
+
+def as_base(e, b):
+    """An expression, converted from int to uint where that is wanted; an expression is its words and its type."""
+    if b == 'uint' and base(e[1]) == 'int':
+        t = vt('uint', size(e[1]))
+        return (e[0] + ['convert:' + t], t)
+    return e
+
+class Reader:
+    def __init__(self, text):
+        self.words = TOKEN.findall(text)
+        assert ''.join(self.words) == re.sub(r'\s', '', text), text
+
+    def next_is(self, word):
+        if self.words and self.words[0] == word:
+            self.words.pop(0)
+            return True
+        return False
+
+    def want(self, word):
+        assert self.next_is(word), (word, self.words)
+
+    def args(self, close):
+        found = []
+        while not self.next_is(close):
+            found.append(self.assigned())
+            self.next_is(',')
+        return found
+
+    def assigned(self):
+        left = self.chosen()
+        for op in ('=', '+='):
+            if self.next_is(op):
+                right = as_base(self.assigned(), base(left[1]))
+                return (left[0] + right[0] + [f'{op}:{left[1]}'], left[1])
+        return left
+
+    def chosen(self):
+        test = self.level(0)
+        if not self.next_is('?'):
+            return test
+        first = self.assigned()
+        self.want(':')
+        other = self.assigned()
+        assert first[1] == other[1]
+        return (test[0] + first[0] + other[0] + ['choose:' + first[1]], first[1])
+
+    def level(self, k):
+        if k == len(LEVELS):
+            return self.unary()
+        left = self.level(k + 1)
+        while self.words and self.words[0] in LEVELS[k]:
+            op = self.words.pop(0)
+            left = joined(op, left, self.level(k + 1))
+        return left
+
+    def unary(self):
+        for op, name in (('-', 'negate'), ('~', '~'), ('!', '!'), ('++', '++a'), ('--', '--a')):
+            if self.next_is(op):
+                e = self.unary()
+                return (e[0] + [f'{name}:{e[1]}'], e[1])
+        e = self.primary()
+        while True:
+            if self.next_is('['):
+                at = self.assigned()
+                self.want(']')
+                t = e[1].split('[')[0] if '[' in e[1] else base(e[1])
+                e = (e[0] + at[0] + ['index:' + t], t)
+            elif self.next_is('.'):
+                name = self.words.pop(0)
+                if name == 'length':
+                    self.want('(')
+                    self.want(')')
+                    e = (e[0] + ['length:int'], 'int')
+                else:
+                    at = [max(names.find(c) for names in ('xyzw', 'rgba', 'stpq')) for c in name]
+                    t = vt(base(e[1]), len(at))
+                    e = (e[0] + ['swizzle@' + ''.join(map(str, at)) + ':' + t], t)
+            elif self.next_is('++'):
+                e = (e[0] + ['a++:' + e[1]], e[1])
+            else:
+                return e
+
+    def primary(self):
+        word = self.words.pop(0)
+        if word == '(':
+            found = self.args(')')
+            if len(found) == 1:
+                return found[0]
+            return (sum((e[0] for e in found), []) + [f'comma@{len(found)}:{found[-1][1]}'], found[-1][1])
+        if word in ('true', 'false'):
+            return ([f'const@{int(word == "true"):x}:bool'], 'bool')
+        if word[0].isdigit():
+            t = 'uint' if word[-1] == 'u' else 'int'
+            return ([f'const@{int(word.rstrip("u"), 0):x}:{t}'], t)
+        if word in NAMES:
+            name, t = NAMES[word]
+            return ([f'{name}:{t}'], t)
+        array = self.next_is('[')
+        if array and not self.next_is(']'):
+            self.words.pop(0)
+            self.want(']')
+        self.want('(')
+        found = self.args(')')
+        if word in TYPES:
+            name, t = 'build', word + (f'[{len(found)}]' if array else '')
+        elif word == 'f':
+            name, t = 'call', 'int'
+        else:
+            name, t = word, called(word, found)
+        return (sum((e[0] for e in found), []) + [f'{name}@{len(found)}:{t}'], t)
+
+def joined(op, a, b):
+    if op in ('&&', '||', '^^'):
+        return (a[0] + b[0] + [op + ':bool'], 'bool')
+    if op in ('<<', '>>'):
+        return (a[0] + b[0] + [f'{op}:{a[1]}'], a[1])
+    if '[' not in a[1] and base(a[1]) != base(b[1]):
+        a, b = as_base(a, 'uint'), as_base(b, 'uint')
+    t = 'bool' if op in ('==', '!=', '<', '<=', '>', '>=') else vt(base(a[1]), max(size(a[1]), size(b[1])))
+    return (a[0] + b[0] + [f'{op}:{t}'], t)
+
+def called(name, args):
+    first = args[0][1]
+    if name in ('any', 'all'):
+        return 'bool'
+    if name in ('bitCount', 'findLSB', 'findMSB'):
+        return vt('int', size(first))
+    if name in ('lessThan', 'lessThanEqual', 'greaterThan', 'greaterThanEqual', 'equal', 'notEqual', 'not'):
+        return vt('bool', size(first))
+    return first
+
+def line(kind, text, want):
+    """The line of a case."""
+    if kind == 'choose':
+        left, right = text.split('<-')
+        parts = ['none' if not part.strip() else ' '.join(p.strip().replace(' ', ':') for p in part.split(',')) for part in left.split(';')]
+        several = want != 'no match' or left.strip()
+        return 'choose ' + (' ; '.join(parts) + ' ' if several else '') + '<- ' + right.replace(',', ' ').strip().replace('  ', ' ')
+    reader = Reader(text)
+    e = reader.assigned()
+    assert not reader.words, (text, reader.words)
+    assert not want.startswith('known') or want.split()[1] == e[1], (text, want, e[1])
+    return 'fold ' + ' '.join(e[0])
+
+def answer(want):
+    return 'known ' + ' '.join(want.split()[2:]) if want.startswith('known') else want
+
+mode = sys.argv[1] if len(sys.argv) > 1 else ''
+if mode == 'cases':
+    print('# Constant expressions and calls, by tests/folds.py.')
+    print('\n'.join(GIVEN))
+    last = None
+    for kind, title, text, want in out:
+        if title != last:
+            print('# ' + title)
+            last = title
+        print(line(kind, text, want))
+elif mode == 'wanted':
+    for kind, title, text, want in out:
+        print(answer(want))
+else:
+    for case in out:
+        print('\t'.join(case))

@@ -202,6 +202,16 @@ words_behind : (a more : List ℕ) → AreWords (a ++ more) → AreWords more
 words_behind [] more fit = fit
 words_behind (x ∷ a) more fit = words_behind a more fit.1
 
+-- an operand of one word in front of others
+lead_word : (target : Target) (r : Rest) (slot : Slot) (slots : List Slot) (last w : ℕ) (left args : List ℕ) → args ≡ w ∷ left → is_single slot ≡ true → AreWords args →
+    parts_from (slot ∷ slots) r false (w ∷ left) ≡ record { slot = slot; words = w ∷ [] } ∷ parts_from slots r false left →
+    (AreWords left → WritesAll target r slots w left (parts_from slots r false left)) → WritesAll target r (slot ∷ slots) last args (parts_from (slot ∷ slots) r false args)
+lead_word target r slot slots last w left args is one fit front later =
+    let f : AreWords (w ∷ left) = subst AreWords is fit in
+    subst (λ a. WritesAll target r (slot ∷ slots) last a (parts_from (slot ∷ slots) r false a)) (sym is)
+    (subst (WritesAll target r (slot ∷ slots) last (w ∷ left)) (sym front)
+    (lead target r slot slots last (w ∷ []) left (parts_from slots r false left) (writes target last slot w one f.0) (later f.1)))
+
 writes_all : (target : Target) (r : Rest) (slots : List Slot) (last : ℕ) (args more : List ℕ) → no_result slots ≡ true → singles r ≡ true → Fill slots args more → AreWords args → allows r (length more) ≡ true →
     WritesAll target r slots last args (parts_from slots r false args)
 writes_all target r [] last args more none one fill fit few =
@@ -209,30 +219,15 @@ writes_all target r [] last args more none one fill fit few =
     record { words = m.words; are = AreOperands.behind last m.words args m.are (ap (λ l. allows r (length l)) fill ∙ few); text = m.text; fine = m.fine }
 writes_all target r (Result ∷ slots) last args more none one fill fit few = absurd (cc)
 writes_all target r (Id ∷ slots) last args more none one fill fit few =
-    let words : List ℕ = fill.0 ∷ fill.1 in
-    let f : AreWords words = subst AreWords fill.2 fit in
-    subst (λ a. WritesAll target r (Id ∷ slots) last a (parts_from (Id ∷ slots) r false a)) (sym fill.2)
-    (lead target r Id slots last (fill.0 ∷ []) fill.1 (parts_from slots r false fill.1) (writes target last Id fill.0 refl f.0) (writes_all target r slots fill.0 fill.1 more none one fill.3 f.1 few))
+    lead_word target r Id slots last fill.0 fill.1 args fill.2 refl fit refl (λ f. writes_all target r slots fill.0 fill.1 more none one fill.3 f few)
 writes_all target r (Forward ∷ slots) last args more none one fill fit few =
-    let words : List ℕ = fill.0 ∷ fill.1 in
-    let f : AreWords words = subst AreWords fill.2 fit in
-    subst (λ a. WritesAll target r (Forward ∷ slots) last a (parts_from (Forward ∷ slots) r false a)) (sym fill.2)
-    (lead target r Forward slots last (fill.0 ∷ []) fill.1 (parts_from slots r false fill.1) (writes target last Forward fill.0 refl f.0) (writes_all target r slots fill.0 fill.1 more none one fill.3 f.1 few))
+    lead_word target r Forward slots last fill.0 fill.1 args fill.2 refl fit refl (λ f. writes_all target r slots fill.0 fill.1 more none one fill.3 f few)
 writes_all target r (Number ∷ slots) last args more none one fill fit few =
-    let words : List ℕ = fill.0 ∷ fill.1 in
-    let f : AreWords words = subst AreWords fill.2 fit in
-    subst (λ a. WritesAll target r (Number ∷ slots) last a (parts_from (Number ∷ slots) r false a)) (sym fill.2)
-    (lead target r Number slots last (fill.0 ∷ []) fill.1 (parts_from slots r false fill.1) (writes target last Number fill.0 refl f.0) (writes_all target r slots fill.0 fill.1 more none one fill.3 f.1 few))
+    lead_word target r Number slots last fill.0 fill.1 args fill.2 refl fit refl (λ f. writes_all target r slots fill.0 fill.1 more none one fill.3 f few)
 writes_all target r (Named kind ∷ slots) last args more none one fill fit few =
-    let words : List ℕ = fill.0 ∷ fill.1 in
-    let f : AreWords words = subst AreWords fill.2 fit in
-    subst (λ a. WritesAll target r (Named kind ∷ slots) last a (parts_from (Named kind ∷ slots) r false a)) (sym fill.2)
-    (lead target r (Named kind) slots last (fill.0 ∷ []) fill.1 (parts_from slots r false fill.1) (writes target last (Named kind) fill.0 refl f.0) (writes_all target r slots fill.0 fill.1 more none one fill.3 f.1 few))
+    lead_word target r (Named kind) slots last fill.0 fill.1 args fill.2 refl fit refl (λ f. writes_all target r slots fill.0 fill.1 more none one fill.3 f few)
 writes_all target r (OfDecoration ∷ slots) last args more none one fill fit few =
-    let words : List ℕ = fill.0 ∷ fill.1 in
-    let f : AreWords words = subst AreWords fill.2 fit in
-    subst (λ a. WritesAll target r (OfDecoration ∷ slots) last a (parts_from (OfDecoration ∷ slots) r false a)) (sym fill.2)
-    (lead target r OfDecoration slots last (fill.0 ∷ []) fill.1 (parts_from slots r false fill.1) (writes target last OfDecoration fill.0 refl f.0) (writes_all target r slots fill.0 fill.1 more none one fill.3 f.1 few))
+    lead_word target r OfDecoration slots last fill.0 fill.1 args fill.2 refl fit refl (λ f. writes_all target r slots fill.0 fill.1 more none one fill.3 f few)
 writes_all target r (Text ∷ slots) last args more none one fill fit few =
     let text : List ℕ = fill.0 in
     let behind : List ℕ = fill.1 in

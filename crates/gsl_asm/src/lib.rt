@@ -1,7 +1,7 @@
 //! Modules as text: one instruction a line.
 //!
 //! `specs/Texts.antt` says which module a text is and where a text is wrong, over `Words.antt`, `Operands.antt` and
-//! `Instructions.antt`. `specs/Reading.antt` is how the code reads, which `assemble` carries; `specs/Shown.antt` is what
+//! `Instructions.antt`; `assemble` and `show` carry it. `specs/Reading.antt` is how the code reads, `specs/Shown.antt` what
 //! `show` writes.
 #![tactic(auto)]
 

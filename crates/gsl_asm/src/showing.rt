@@ -1,15 +1,17 @@
 //! The text that shows a module.
 
 ghost use Rattle.std.specs.Prelude.{◌≡◌, [], ◌∷◌, ◌++◌, ◌<◌, ◌^◌, length, slice_index, codes, IfOk, OnOk};
-ghost use Rattle.std.specs.List.{flat_map};
+ghost use Rattle.std.specs.List.{flat_map, AllByRecursion};
 ghost use Rattle.std.specs.Option.{unwrap_or};
 ghost use Rattle.std.specs.Fmt.{decimal};
 ghost use Rattle.gsl_instr.specs.Texts as texts;
 ghost use Rattle.gsl_asm.specs.Names as names;
+ghost use Rattle.gsl_words.specs.Faults.{FitsInstr, FitsTypes};
 ghost use Rattle.gsl_words.specs.Instructions.{HasFile};
 ghost use Rattle.gsl_asm.specs.Words as words;
 ghost use Rattle.gsl_asm.specs.Instructions as instructions;
 ghost use Rattle.gsl_asm.specs.Shown as spec;
+ghost use Rattle.gsl_asm.specs.Texts.{IsTextOf};
 
 use crate::names::{name_of, opcode_name};
 use crate::place::{Place, place_of};
@@ -19,11 +21,22 @@ use gsl_instr::{Enumeration, Parts, Slot, form_of, slots, text_at};
 use gsl_words::{Instrs, Module, Target};
 use std::alloc::Global;
 
-/// The text that shows a module.
+/// The text that shows a module, which is one of its texts.
 pub fn show(alloc: Global, module: &Module) -> Result<Bytes, Memory>
     requires file { HasFile «module».now }
     requires few { length «module».now.instrs < 2 ^ 32 }
-    ensures { IfOk result (λ text. text ≡ spec.shown «module».now) }
+    ensures shown { IfOk result (λ text. text ≡ spec.shown «module».now) }
+    ensures text { IfOk result (λ text. IsTextOf text «module».now) }
+{
+    let text = written(alloc, module)?;
+    Ok(text)
+}
+
+/// Writes the version and the bound, and then the instructions.
+fn written(alloc: Global, module: &Module) -> Result<Bytes, Memory>
+    requires { length «module».now.instrs < 2 ^ 32 }
+    ensures text { IfOk result (λ text. text ≡ spec.shown «module».now) }
+    ensures fits { IfOk result (λ _. FitsTypes «module».now) }
 {
     let target = Target::of_version(module.version).unwrap_or(Target::V10);
     let mut out = Bytes::new(alloc);
@@ -53,7 +66,8 @@ fn version_name(target: Target) -> &'static [u8]
 
 fn put_instrs(alloc: Global, target: Target, instrs: &Instrs, out: &mut Bytes) -> Result<(), Memory>
     requires { length instrs.now < 2 ^ 32 }
-    ensures { OnOk result (out.new ≡ out.old ++ flat_map (spec.instr_text target) instrs.now) }
+    ensures text { OnOk result (out.new ≡ out.old ++ flat_map (spec.instr_text target) instrs.now) }
+    ensures fits { OnOk result (AllByRecursion FitsInstr instrs.now) }
 {
     for i in 0..instrs.len() {
         put_instr(
@@ -75,7 +89,8 @@ fn put_instr(
     args: &[u32],
     out: &mut Bytes,
 ) -> Result<(), Memory>
-    ensures { OnOk result (out.new ≡ out.old ++ spec.instr_text target (record { op = op; args = args.now })) }
+    ensures text { OnOk result (out.new ≡ out.old ++ spec.instr_text target (record { op = op; args = args.now })) }
+    ensures fits { FitsInstr (record { op = op; args = args.now }) }
 {
     let Some(form) = form_of(op) else {
         return Ok(());

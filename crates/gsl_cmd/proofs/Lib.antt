@@ -16,6 +16,7 @@ pub mod Quiet
 pub mod ValidUses
 pub mod ValidSections
 pub mod ValidTypes
+pub mod ValidBlocks
 pub mod ValidShape
 pub mod Decorated
 pub mod ValidDecorations

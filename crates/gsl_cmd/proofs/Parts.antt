@@ -1,5 +1,5 @@
 -- The sections of a program's module, one behind the other.
-use Rattle.std.proofs.Common.{◌≡◌, ℕ, zero, suc, ◌+◌, ◌<◌, ◌≤◌, Bool, false, List, [], ◌∷◌, ◌++◌, length, get_or, map, append_assoc, refl, ap, sym, subst, ◌∙◌, inl, inr, arith}
+use Rattle.std.proofs.Common.{◌≡◌, ℕ, zero, suc, ◌+◌, ◌<◌, ◌≤◌, Bool, false, List, [], ◌∷◌, ◌++◌, length, drop, get_or, map, append_assoc, refl, ap, sym, subst, ◌∙◌, inl, inr, arith}
 use Rattle.std.specs.List.{list_any, range_with_len}
 use Rattle.std.proofs.lemmas.List.Folds.{list_any-append}
 use Rattle.std.proofs.lemmas.Bool.{or_from, or_parts, cases_order}
@@ -9,13 +9,13 @@ use Rattle.gsl_words.specs.declared.module.Instr.{Instr}
 use Rattle.gsl_instr.specs.declared.op.TheConstants as op
 use Rattle.gsl_instr.specs.declared.enumerant.decoration.TheConstants as decoration
 use Rattle.gsl_instr.specs.Strings.{string_words}
-use Rattle.gsl_valid.specs.Search.{Test, passed, Passes}
-use Rattle.gsl_valid.proofs.Searching.{passes_append}
+use Rattle.gsl_valid.specs.Search.{Test, passed, from_here, Passes}
+use Rattle.gsl_valid.proofs.Searching.{passed_append, passes_append, behind_front}
 use Rattle.gsl_valid.proofs.Lookups.{Has, has_left, has_right}
 use Rattle.gsl_form.specs.declared.program.Program.{Program}
 use Rattle.gsl_cmd.specs.declared.lowering.id.TheConstants as id
 use Rattle.gsl_form.specs.Form.{Name, name_of}
-use Rattle.gsl_cmd.specs.Lowering.{Code, instr, function_code, constant_code, preamble, name_code, decoration_code, type_code, variable_code, code_of, constants_of}
+use Rattle.gsl_cmd.specs.Lowering.{Code, instr, function_code, constant_code, preamble, name_code, decoration_code, type_code, variable_code, code_of, constants_of, module_of}
 
 -- the instructions of sections that are made from numbers
 abbrev pub member_name : List Name → ℕ → Instr
@@ -88,6 +88,27 @@ module _ (p : Program) where
       let g = the_function in
       append_assoc ((((a ++ b) ++ c) ++ d) ++ e) f g ∙ append_assoc (((a ++ b) ++ c) ++ d) e (f ++ g)
       ∙ append_assoc ((a ++ b) ++ c) d (e ++ (f ++ g)) ∙ append_assoc (a ++ b) c (d ++ (e ++ (f ++ g))) ∙ append_assoc a b (c ++ (d ++ (e ++ (f ++ g))))
+
+  -- all sections before the function
+  abbrev pub front : Code
+  front = ((((preamble ++ name_code p.members) ++ decoration_code (length p.members)) ++ type_code (length p.members)) ++ constant_code (constants_of p)) ++ variable_code
+
+  front_is : passed [] front ≡ before_function
+  front_is =
+      let a = preamble in
+      let b = name_code p.members in
+      let c = decoration_code (length p.members) in
+      let d = type_code (length p.members) in
+      let e = constant_code (constants_of p) in
+      let f = variable_code in
+      passed_append [] ((((a ++ b) ++ c) ++ d) ++ e) f
+      ∙ ap (λ z. passed z f)
+      (passed_append [] (((a ++ b) ++ c) ++ d) e
+      ∙ ap (λ z. passed z e) (passed_append [] ((a ++ b) ++ c) d ∙ ap (λ z. passed z d) (passed_append [] (a ++ b) c ∙ ap (λ z. passed z c) (passed_append [] a b))))
+
+  -- Behind them stands the function.
+  pub from_function : from_here (module_of p) before_function ≡ the_function
+  from_function = ap (λ z. drop (length z) (code_of p)) (sym front_is) ∙ behind_front front the_function
 
   -- What passes section by section passes.
   pub passes_from_names : (test : Test) → Passes test before_names (name_code p.members) →

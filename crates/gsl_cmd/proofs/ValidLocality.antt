@@ -7,7 +7,8 @@ use Rattle.gsl_instr.specs.declared.enumerant.capability.TheConstants as capabil
 use Rattle.gsl_instr.specs.declared.enumerant.memory_model.TheConstants as memory_model
 use Rattle.gsl_valid.specs.Search.{passed, Passes}
 use Rattle.gsl_valid.specs.Ids.{defined, definition}
-use Rattle.gsl_valid.specs.LocalityRules.{uses_near, is_near, near_as, of_block, back_to, bounds_block, bounds_function}
+use Rattle.gsl_valid.specs.LocalityRules.{uses_near, is_near, near_as, of_block}
+use Rattle.gsl_valid.specs.Where.{Where, where_at}
 use Rattle.gsl_form.specs.declared.program.Program.{Program}
 use Rattle.gsl_cmd.specs.declared.lowering.id.TheConstants as id
 use Rattle.gsl_form.specs.Form.{IsProgram}
@@ -20,11 +21,14 @@ use Rattle.gsl_cmd.proofs.Facts.{Facts, facts}
 use Rattle.gsl_cmd.proofs.Quiet.{main_entry, names_pass, decorations_pass, types_pass, constants_pass}
 use Rattle.gsl_cmd.proofs.ValidUses.{all_same, two_defined, three_defined}
 
--- An id that the block, and so the function, has defined so far.
-abbrev Close : ℕ → Code → Type 0
-Close id before = (defined (back_to bounds_block before) id ≡ true) × (defined (back_to bounds_function before) id ≡ true)
-
 module _ (p : Program) (fits : IsProgram p) where
+  abbrev here : Code → Where
+  here = where_at (module_of p)
+
+  -- An id that the block, and so the function, has defined so far.
+  abbrev Close : ℕ → Code → Type 0
+  Close id before = (defined (here before).block id ≡ true) × (defined (here before).body id ≡ true)
+
   abbrev known : Facts p
   known = facts p fits
 
@@ -36,31 +40,31 @@ module _ (p : Program) (fits : IsProgram p) where
       cond_both (of_block (definition (code_of p) id)) _ _ (λ b. b ≡ true) (λ e. close.0) (λ e. or_right _ _ close.1)
 
   near_void : (before : Code) → near before id.VOID ≡ true
-  near_void before = ap (near_as before id.VOID) known.void
+  near_void before = ap (near_as (here before) id.VOID) known.void
 
   near_main_type : (before : Code) → near before id.MAIN_TYPE ≡ true
-  near_main_type before = ap (near_as before id.MAIN_TYPE) known.main_type
+  near_main_type before = ap (near_as (here before) id.MAIN_TYPE) known.main_type
 
   near_int : (before : Code) → near before id.INT ≡ true
-  near_int before = ap (near_as before id.INT) known.int
+  near_int before = ap (near_as (here before) id.INT) known.int
 
   near_block : (before : Code) → near before id.BLOCK ≡ true
-  near_block before = ap (near_as before id.BLOCK) known.block
+  near_block before = ap (near_as (here before) id.BLOCK) known.block
 
   near_block_pointer : (before : Code) → near before id.BLOCK_POINTER ≡ true
-  near_block_pointer before = ap (near_as before id.BLOCK_POINTER) known.block_pointer
+  near_block_pointer before = ap (near_as (here before) id.BLOCK_POINTER) known.block_pointer
 
   near_member_pointer : (before : Code) → near before id.MEMBER_POINTER ≡ true
-  near_member_pointer before = ap (near_as before id.MEMBER_POINTER) known.member_pointer
+  near_member_pointer before = ap (near_as (here before) id.MEMBER_POINTER) known.member_pointer
 
   near_buffer : (before : Code) → near before id.BUFFER ≡ true
-  near_buffer before = ap (near_as before id.BUFFER) known.buffer
+  near_buffer before = ap (near_as (here before) id.BUFFER) known.buffer
 
   near_main : (before : Code) → near before id.MAIN ≡ true
-  near_main before = ap (near_as before id.MAIN) known.main
+  near_main before = ap (near_as (here before) id.MAIN) known.main
 
   near_constant : (v : ℕ) (before : Code) → among (constants_of p) v ≡ true → near before (constant_id (constants_of p) v) ≡ true
-  near_constant v before there = ap (near_as before (constant_id (constants_of p) v)) (known.constant v there)
+  near_constant v before there = ap (near_as (here before) (constant_id (constants_of p) v)) (known.constant v there)
 
   -- one id that is near
   one : (before : Code) (id : ℕ) → near before id ≡ true → (list_all (near before) (id ∷ []) && true) ≡ true

@@ -14,7 +14,8 @@ use Rattle.gsl_cmd.proofs.ValidUses.{uses_kept}
 use Rattle.gsl_cmd.proofs.ValidTypes.{types_made, constants_typed, globals_kept, limits_kept}
 use Rattle.gsl_cmd.proofs.ValidDecorations.{decorations_kept, layout_kept}
 use Rattle.gsl_cmd.proofs.ValidEntry.{entry_point_kept}
-use Rattle.gsl_cmd.proofs.ValidShape.{shape_none, structure_none, void_returned}
+use Rattle.gsl_cmd.proofs.ValidShape.{shape_none, void_returned}
+use Rattle.gsl_cmd.proofs.ValidBlocks.{order_kept}
 use Rattle.gsl_cmd.proofs.ValidLocality.{near_kept}
 use Rattle.gsl_cmd.proofs.ValidMemory.{operands_kept, memory_is_kept}
 
@@ -47,7 +48,7 @@ module_valid p fits =
                           (
                             refl,
                             (
-                              structure_none p fits,
+                              kept _ (order_kept p fits),
                               (
                                 kept _ (near_kept p fits),
                                 (

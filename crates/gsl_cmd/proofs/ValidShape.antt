@@ -1,27 +1,35 @@
--- The function of a program's module is one block, and returns nothing.
-use Rattle.std.proofs.Common.{◌≡◌, ℕ, ◌+◌, Bool, true, false, not, eqb, [], ◌∷◌, ◌++◌, length, append-nil, map, None, refl, ap, subst, ◌∙◌, arith}
+-- The function of a program's module has the shape of one, and returns nothing.
+use Rattle.std.proofs.Common.{◌≡◌, ℕ, true, [], ◌∷◌, length, map, None, refl, ap, ◌∙◌, arith}
 use Rattle.std.specs.List.{range_with_len}
-use Rattle.std.proofs.lemmas.Bool.{and_from, or_left, cond-true}
+use Rattle.std.proofs.lemmas.Bool.{and_from}
 use Rattle.gsl_instr.specs.declared.enumerant.storage_class.TheConstants as storage_class
-use Rattle.gsl_words.specs.Instructions.{word_count}
-use Rattle.gsl_valid.specs.Instruction.{Instruction, Function, Label, FunctionEnd, read}
-use Rattle.gsl_valid.specs.Placed.{placed_from, header_size, count_of_words}
-use Rattle.gsl_valid.specs.Search.{Test, passed, whole, unless, Passes, ◌otherwise◌}
-use Rattle.gsl_valid.specs.Types.{function_begins, void_type}
-use Rattle.gsl_valid.specs.FunctionRules.{function_shape, in_shape, standing, Outside, Begun, outside, may_be_variable, may_begin, in_block, gives, parameters_of}
-use Rattle.gsl_valid.specs.StructureRules.{structure, no_run, is_run, blocks, blocks_with}
-use Rattle.gsl_valid.specs.ReturnRules.{returns_kept, function_at, gives_void}
-use Rattle.gsl_valid.proofs.Searching.{passed_append, passes_append, passes_range, none_broken}
+use Rattle.gsl_words.specs.declared.module.Module.{Module}
+use Rattle.gsl_valid.specs.Instruction.{Instruction, Function}
+use Rattle.gsl_valid.specs.Placed.{count_of_words}
+use Rattle.gsl_valid.specs.Search.{passed, whole, unless, Passes, ◌otherwise◌}
+use Rattle.gsl_valid.specs.Types.{void_type}
+use Rattle.gsl_valid.specs.FunctionRules.{function_shape, in_shape, outside, may_be_variable, may_begin, in_block, gives}
+use Rattle.gsl_valid.specs.Where.{Standing, Outside, Begun, where_at, parameters_of}
+use Rattle.gsl_valid.specs.ReturnRules.{returns_kept, gives_void}
+use Rattle.gsl_valid.proofs.Searching.{passed_append, passes_range, none_broken}
 use Rattle.gsl_form.specs.declared.program.Program.{Program}
 use Rattle.gsl_cmd.specs.declared.lowering.id.TheConstants as id
 use Rattle.gsl_form.specs.Form.{IsProgram}
-use Rattle.gsl_cmd.specs.Lowering.{Code, code_of, constants_of, constant_code, decoration_code, first_id, module_of, name_code, preamble, type_code, variable_code}
+use Rattle.gsl_cmd.specs.Lowering.{Code, code_of, constants_of, first_id, module_of}
 use Rattle.gsl_cmd.proofs.Known.{program_known}
 use Rattle.gsl_cmd.proofs.Walks.{Walk, statements_pass}
-use Rattle.gsl_cmd.proofs.Parts.{member_name, member_offset, constant_at, before_names, before_decorations, before_types, before_constants, before_variable, before_code, ending, the_function, passes_parts}
+use Rattle.gsl_cmd.proofs.Parts.{member_name, member_offset, constant_at, before_names, before_decorations, before_types, before_constants, before_variable, before_code, ending, passes_parts}
 use Rattle.gsl_cmd.proofs.ValidIds.{bound_of}
 use Rattle.gsl_cmd.proofs.Facts.{facts}
-use Rattle.gsl_cmd.proofs.Quiet.{behind_all, block_name, block_decoration, set_decoration, binding_decoration, main_function, main_label, the_code, names_pass, decorations_pass, constants_pass, code_pass}
+use Rattle.gsl_cmd.proofs.Quiet.{behind_all, block_name, block_decoration, set_decoration, binding_decoration, names_pass, decorations_pass, constants_pass}
+
+-- where the code stands in its function
+abbrev standing : Module → Code → Standing
+standing m before = (where_at m before).standing
+
+-- the nearest Function
+abbrev function_at : Module → Code → Instruction
+function_at m before = (where_at m before).function
 
 -- Where the code stands -------------------------------------------------------------------------------------------
 
@@ -88,7 +96,7 @@ module _ (p : Program) where
 
   abbrev returns_walk : Walk (constants_of p) (length p.members) (bound_of p) (λ i. Unit {0}) (returns_kept (module_of p))
   returns_walk = record {
-    ready = λ n before. function_at before ≡ Function id.VOID id.MAIN 0 id.MAIN_TYPE;
+    ready = λ n before. function_at (module_of p) before ≡ Function id.VOID id.MAIN 0 id.MAIN_TYPE;
     value = λ v before. Unit {0};
     points = λ v before. Unit {0};
     chain = λ n k before within room here now. (refl, now, tt);
@@ -116,71 +124,3 @@ module _ (p : Program) where
               (λ end behind e now. (ap (gives_void (module_of p)) now ∙ ap void_type known.void, (refl, tt))),
         ),
       )
-
--- Blocks ----------------------------------------------------------------------------------------------------------
-
-abbrev no_function : Test
-no_function before i = not (function_begins (read i))
-
-abbrev is_label : Instruction → Bool
-is_label (Label r) = true
-is_label _ = false
-
-abbrev no_label : Test
-no_label before i = not (is_label (read i))
-
-none_begun : (before code rest : Code) (at : ℕ) → Passes no_function before code → ((later : ℕ) → no_run (placed_from later rest) ≡ None) → no_run (placed_from at (code ++ rest)) ≡ None
-none_begun before [] rest at all each = each at
-none_begun before (i ∷ code) rest at all each =
-    cond-true _ _ _ (or_left _ _ all.0) ∙ none_begun (i ∷ before) code rest (at + word_count i) all.1 each
-
-no_block : (d : Instruction) (later : ℕ) → not (is_label d) ≡ true → later ≡ 0 → blocks_with later d ≡ 0
-no_block (Label r) later none e = absurd (cc)
-no_block FunctionEnd later none e = refl
-no_block d later none e = e
-
-none_labelled : (before code : Code) (at : ℕ) → Passes no_label before code → blocks (placed_from at code) ≡ 0
-none_labelled before [] at all = refl
-none_labelled before (i ∷ code) at all = no_block (read i) _ all.0 (none_labelled (i ∷ before) code (at + word_count i) all.1)
-
-module _ (p : Program) (fits : IsProgram p) where
-  one_block : (at : ℕ) → is_run (placed_from at (main_label ∷ the_code p)) ≡ true
-  one_block at =
-      ap (λ n. eqb (1 + n) 1)
-      (none_labelled [] (the_code p) (at + word_count main_label)
-      (code_pass no_label p fits [] (λ n k b. refl) (λ n q b. refl) (λ n a c b. refl) (λ q v b. refl) (λ b. refl) (λ b. refl)))
-
-  code_none : (at : ℕ) → no_run (placed_from at (the_code p)) ≡ None
-  code_none at =
-      subst (λ code. no_run (placed_from at code) ≡ None) (append-nil (the_code p))
-      (none_begun [] (the_code p) [] at (code_pass no_function p fits [] (λ n k b. refl) (λ n q b. refl) (λ n a c b. refl) (λ q v b. refl) (λ b. refl) (λ b. refl)) (λ later. refl))
-
-  function_none : (at : ℕ) → no_run (placed_from at (the_function p)) ≡ None
-  function_none at = cond-true _ _ _ (one_block (at + word_count main_function)) ∙ code_none ((at + word_count main_function) + word_count main_label)
-
-  front : Code
-  front =
-      ((((preamble ++ name_code p.members) ++ decoration_code (length p.members)) ++ type_code (length p.members)) ++ constant_code (constants_of p)) ++ variable_code
-
-  front_passes : Passes no_function [] front
-  unfolding front
-  front_passes =
-      let a = preamble in
-      let ab = a ++ name_code p.members in
-      let abc = ab ++ decoration_code (length p.members) in
-      let abcd = abc ++ type_code (length p.members) in
-      let abcde = abcd ++ constant_code (constants_of p) in
-      passes_append no_function [] abcde variable_code
-      (passes_append no_function [] abcd (constant_code (constants_of p))
-      (passes_append no_function [] abc (type_code (length p.members))
-      (passes_append no_function [] ab (decoration_code (length p.members))
-      (passes_append no_function [] a (name_code p.members) (refl, (refl, (refl, (refl, tt))))
-      (names_pass no_function p.members (passed [] a) (λ b. refl) (λ k b. refl)))
-      (decorations_pass no_function (length p.members) (passed [] ab) (λ b. refl) (λ k within b. refl) (λ b. refl) (λ b. refl)))
-      (refl, (refl, (refl, (refl, (refl, (refl, tt)))))))
-      (constants_pass no_function (constants_of p) (passed [] abcd) (λ k within b. refl)))
-      (refl, tt)
-
-  pub structure_none : structure (module_of p) ≡ None
-  unfolding front
-  structure_none = none_begun [] front (the_function p) header_size front_passes function_none

@@ -9,14 +9,15 @@ use Rattle.gsl_valid.specs.Types.{void_type, int_type, struct_type, value_type, 
 use Rattle.gsl_valid.specs.TypeRules.{type_made, same_type}
 use Rattle.gsl_valid.specs.ConstantRules.{constant_typed}
 use Rattle.gsl_valid.specs.GlobalRules.{global_kept, is_global_of}
-use Rattle.gsl_valid.specs.LimitRules.{within_limits, most_members, most_height}
+use Rattle.gsl_valid.specs.LimitRules.{within_limits, nests_within, most_members, most_height}
 use Rattle.gsl_form.specs.declared.program.Program.{Program}
 use Rattle.gsl_cmd.specs.declared.lowering.id.TheConstants as id
 use Rattle.gsl_form.specs.Form.{IsProgram}
 use Rattle.gsl_cmd.specs.Lowering.{code_of, constants_of, module_of}
 use Rattle.gsl_cmd.proofs.Parts.{before_names, before_decorations, before_types, before_constants, before_function, passes_parts, none_before_types, none_in_decorations}
 use Rattle.gsl_cmd.proofs.Facts.{Facts, facts}
-use Rattle.gsl_cmd.proofs.Quiet.{void_made, main_made, int_made, block_pointer_made, member_pointer_made, names_pass, decorations_pass, constants_pass, function_pass}
+use Rattle.gsl_cmd.proofs.Quiet.{void_made, main_made, int_made, block_pointer_made, member_pointer_made, names_pass, decorations_pass, constants_pass, function_pass, code_pass, main_function, main_label}
+use Rattle.gsl_cmd.proofs.ValidBlocks.{nesting_is}
 use Rattle.gsl_cmd.proofs.ValidUses.{all_same}
 
 module _ (p : Program) (fits : IsProgram p) where
@@ -83,16 +84,19 @@ module _ (p : Program) (fits : IsProgram p) where
   highest_few f x most first zero low high = low
   highest_few f x most first (suc count) low high = highest_few f x most (max first (f x)) count (omega arith) high
 
-  pub limits_kept : Passes within_limits [] (code_of p)
+  pub limits_kept : Passes (within_limits (module_of p)) [] (code_of p)
   limits_kept =
+      let test = within_limits (module_of p) in
       let int = int_made ∷ main_made ∷ void_made ∷ before_types p in
       let members = length p.members in
       let some = fits.most in
       let few : length (replicate members id.INT) ≤ most_members = simp length-replicate (omega arith) in
       let one : height int id.INT ≤ 1 = omega arith in
       let low : 1 + highest (map (height int) (replicate members id.INT)) ≤ most_height = omega (arith, highest_few (height int) id.INT 1 0 members (omega arith) one) in
-      passes_parts p within_limits (refl, (refl, (refl, (refl, tt)))) (names_pass within_limits p.members before_names (λ b. refl) (λ k b. refl))
-      (decorations_pass within_limits (length p.members) (before_decorations p) (λ b. refl) (λ k within b. refl) (λ b. refl) (λ b. refl))
+      passes_parts p test (refl, (refl, (refl, (refl, tt)))) (names_pass test p.members before_names (λ b. refl) (λ k b. refl))
+      (decorations_pass test (length p.members) (before_decorations p) (λ b. refl) (λ k within b. refl) (λ b. refl) (λ b. refl))
       (refl, (refl, (refl, (and_from _ _ (le-leb _ _ few) (le-leb _ _ low), (refl, (refl, tt))))))
-      (constants_pass within_limits (constants_of p) (before_constants p) (λ k within b. refl)) (refl, tt)
-      (function_pass within_limits p fits (before_function p) (λ b. refl) (λ b. refl) (λ n k b. refl) (λ n q b. refl) (λ n a c b. refl) (λ q v b. refl) (λ b. refl) (λ b. refl))
+      (constants_pass test (constants_of p) (before_constants p) (λ k within b. refl)) (refl, tt) (
+        ap nests_within (nesting_is p),
+        (refl, code_pass test p fits (main_label ∷ main_function ∷ before_function p) (λ n k b. refl) (λ n q b. refl) (λ n a c b. refl) (λ q v b. refl) (λ b. refl) (λ b. refl)),
+      )

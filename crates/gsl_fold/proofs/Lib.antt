@@ -1,1 +1,3 @@
 pub mod Several
+pub mod Steady
+pub mod Drawn

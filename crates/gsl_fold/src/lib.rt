@@ -5,11 +5,15 @@
 #![tactic(auto)]
 
 mod folding;
+mod laws;
 mod standing;
 mod stop;
 mod value;
 
 pub use folding::constant;
+pub use laws::{
+    known_whatever_the_choices, left_open_where_choices_count, not_constant_by_form_or_index,
+};
 pub use gsl_tree::{Consts, Folded, Foldeds};
 
 #[cfg(test)]

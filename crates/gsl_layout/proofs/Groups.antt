@@ -1,5 +1,5 @@
 -- Members one behind another: what holds of their measures, and of the group that they make.
-use Rattle.std.proofs.Common.{◌≡◌, refl, ap, ℕ, zero, suc, ◌^◌, ◌<◌, ◌≤◌, inl, inr, max, List, [], ◌∷◌, ◌++◌, slice_get, Some, IsTrue, arith}
+use Rattle.std.proofs.Common.{◌≡◌, refl, sym, ap, subst, ◌∙◌, drop, get_or, length, ℕ, zero, suc, ◌^◌, ◌<◌, ◌≤◌, inl, inr, List, [], ◌∷◌, ◌++◌, slice_get, Some, IsTrue, arith}
 use Rattle.std.specs.Prelude.{Bool, true, false, nat_le, if◌then◌else◌}
 use Rattle.std.specs.List.{AllByRecursion}
 use Rattle.std.proofs.lemmas.Option.{none-some, get_or_from_slice_get}
@@ -13,22 +13,15 @@ use Rattle.gsl_types.proofs.Everywhere.{meaning_holds, members_meaning_hold}
 use Rattle.gsl_layout.specs.Extents.{AreMembers, extent, most_bytes, open_stride, open_strides, plain}
 use Rattle.gsl_layout.specs.Gathers.{IsMeasured, IsShut}
 use Rattle.gsl_layout.specs.Layout.{Layout, Leaf, Array, Runtime, Group, AreParts, closed, all_closed, may_end}
-use Rattle.gsl_layout.specs.Measures.{block, components_align, end_of, group_size, largest_align, last_first, measure, measuring, parts_behind}
+use Rattle.gsl_layout.specs.Measures.{block, components_align, group_align, group_size, measure, measuring, placed_members}
+use Rattle.gsl_layout.specs.Placings.{Placed, end_of, free, largest_actual, largest_base, last_first, parts_behind, placed}
 use Rattle.gsl_layout.specs.Rules.{IsAlignment, Raises}
 use Rattle.gsl_layout.specs.declared.measured.Measured.{Measured}
+use Rattle.gsl_layout.specs.declared.placing.Placing.{Placing}
 use Rattle.gsl_layout.proofs.Bounds.{need_le_size}
-use Rattle.gsl_layout.proofs.Multiples.{multiple_whole, not_below}
-
-pub max_alignment : (a b : ℕ) → IsAlignment a → IsAlignment b → IsAlignment (max a b)
-max_alignment a b (inl x) (inl y) = inl (omega (arith, x, y))
-max_alignment a b (inl x) (inr (inl y)) = inr (inl (omega (arith, x, y)))
-max_alignment a b (inl x) (inr (inr y)) = inr (inr (omega (arith, x, y)))
-max_alignment a b (inr (inl x)) (inl y) = inr (inl (omega (arith, x, y)))
-max_alignment a b (inr (inl x)) (inr (inl y)) = inr (inl (omega (arith, x, y)))
-max_alignment a b (inr (inl x)) (inr (inr y)) = inr (inr (omega (arith, x, y)))
-max_alignment a b (inr (inr x)) (inl y) = inr (inr (omega (arith, x, y)))
-max_alignment a b (inr (inr x)) (inr (inl y)) = inr (inr (omega (arith, x, y)))
-max_alignment a b (inr (inr x)) (inr (inr y)) = inr (inr (omega (arith, x, y)))
+use Rattle.gsl_layout.proofs.Multiples.{not_below}
+use Rattle.gsl_layout.proofs.Placements.{AllAligned, AreRight, actual_free, actual_least, base_aligned, last_first_append, later, max_alignment, offset_whole, placed_aligned, right_append, stands_behind}
+use Rattle.gsl_layout.proofs.Placements.{placed_append as append_placed}
 
 either : (b : Bool) (x y : ℕ) → IsAlignment x → IsAlignment y → IsAlignment (if b then x else y)
 either true x y p q = p
@@ -36,19 +29,6 @@ either false x y p q = q
 
 components_aligned : (n : ℕ) → IsAlignment (components_align n)
 components_aligned n = either (nat_le n 1) 4 _ (inl refl) (either (nat_le n 2) 8 16 (inr (inl refl)) (inr (inr refl)))
-
-pub largest_aligned : (members : List (List ℕ × Measured)) → AllByRecursion (λ (e : List ℕ × Measured). IsAlignment e.1.align) members → IsAlignment (largest_align members)
-largest_aligned [] all = inl refl
-largest_aligned (member ∷ members) all = max_alignment member.1.align (largest_align members) all.0 (largest_aligned members all.1)
-
--- members end no earlier than those before them, and than each of them
-pub later : (members : List (List ℕ × Measured)) (before : List Measured) → AllByRecursion (λ (e : List ℕ × Measured). IsAlignment e.1.align) members → end_of before ≤ end_of (last_first before members)
-later [] before all = omega arith
-later (member ∷ members) before all = omega (arith, later members (member.1 ∷ before) all.1, not_below member.1.align (end_of before) all.0)
-
-last_first_append : (xs ys : List (List ℕ × Measured)) (before : List Measured) → last_first before (xs ++ ys) ≡ last_first (last_first before xs) ys
-last_first_append [] ys before = refl
-last_first_append (x ∷ xs) ys before = last_first_append xs ys (x.1 ∷ before)
 
 -- closed layouts may end a group
 pub closed_ends : (layout : Layout) → IsTrue (closed layout) → IsTrue (may_end layout)
@@ -67,72 +47,102 @@ module _ (raise : ℕ → ℕ) (raises : (align : ℕ) → IsAlignment align →
   abbrev pub meanings : List Member → List (List ℕ × Measured)
   meanings = members_meaning (measuring raise) structs
 
+  -- members with what is said of their places
+  abbrev pub placed_of : List Member → List Placing → List Placed
+  placed_of = placed_members raise structs
+
+  group_aligned : (named : List (List ℕ × Measured)) → AllByRecursion (λ (e : List ℕ × Measured). IsAlignment e.1.align) named → IsAlignment (group_align raise (placed [] named))
+  group_aligned named all =
+      let base = base_aligned (placed [] named) (placed_aligned named [] all) in
+      max_alignment (largest_actual (placed [] named)) (raise (largest_base (placed [] named))) (subst IsAlignment (sym (actual_free named)) base) (raises (largest_base (placed [] named)) base).alignment
+
   -- every type has an alignment
   pub aligned : (ty : Ty) → IsAlignment (measure raise structs ty).align
   aligned = meaning_holds (measuring raise) (λ m. IsAlignment m.align) (inl refl) (inl refl) (λ s. inl refl) (λ s n. components_aligned n)
-      (λ a n is. (raises a.align is).alignment) (λ a is. (raises a.align is).alignment) (λ name members all. (raises (largest_align members) (largest_aligned members all)).alignment) structs
+      (λ a n is. (raises a.align is).alignment) (λ a is. (raises a.align is).alignment) (λ name members all. group_aligned members all) structs
 
-  pub members_aligned : (members : List Member) → AllByRecursion (λ (e : List ℕ × Measured). IsAlignment e.1.align) (meanings members)
-  members_aligned = members_meaning_hold (measuring raise) (λ m. IsAlignment m.align) (inl refl) (inl refl) (λ s. inl refl) (λ s n. components_aligned n)
-      (λ a n is. (raises a.align is).alignment) (λ a is. (raises a.align is).alignment) (λ name members all. (raises (largest_align members) (largest_aligned members all)).alignment) structs
+  pub members_aligned : (members : List Member) (placings : List Placing) → AllAligned (placed_of members placings)
+  members_aligned members placings =
+      placed_aligned (meanings members) placings (members_meaning_hold (measuring raise) (λ m. IsAlignment m.align) (inl refl) (inl refl) (λ s. inl refl) (λ s n. components_aligned n)
+      (λ a n is. (raises a.align is).alignment) (λ a is. (raises a.align is).alignment) (λ name members all. group_aligned members all) structs members)
+
+  -- the alignment of a group is not 0
+  pub group_some : (members : List Placed) → 1 ≤ group_align raise members
+  group_some members = omega (arith, actual_least members)
 
   -- the size of a group is not below the end of its members
-  pub end_le_size : (members : List Member) → end_of (last_first [] (meanings members)) ≤ group_size raise (meanings members)
-  end_le_size members = not_below (raise (largest_align (meanings members))) (end_of (last_first [] (meanings members)))
-      (raises (largest_align (meanings members)) (largest_aligned (meanings members) (members_aligned members))).alignment
+  pub end_le_size : (members : List Placed) → end_of (last_first [] members) ≤ group_size raise members
+  end_le_size members = not_below (group_align raise members) (end_of (last_first [] members)) (group_some members)
 
-  pub member_within : (members : List Member) (before : List Measured) (k : ℕ) (x : Member) → slice_get members k ≡ Some x
-      → ((measure raise structs x.ty).size ≤ end_of (last_first before (meanings members))) × (open_stride (measure raise structs x.ty).laid ≤ open_strides (parts_behind before (meanings members)))
-  member_within [] before k x found = elim (none-some _ found) [ ]
-  member_within (y ∷ members) before zero x found =
+  pub member_within : (members : List Member) (placings : List Placing) (before : List Placed) → AreRight before (placed_of members placings) → (k : ℕ) (x : Member) → slice_get members k ≡ Some x
+      → ((measure raise structs x.ty).size ≤ end_of (last_first before (placed_of members placings))) × (open_stride (measure raise structs x.ty).laid ≤ open_strides (parts_behind before (placed_of members placings)))
+  member_within [] placings before right k x found = elim (none-some _ found) [ ]
+  member_within (y ∷ members) placings before right zero x found =
       let is = get_or_from_slice_get (y ∷ members) 0 x x found in
-      let behind = later (meanings members) (measure raise structs y.ty ∷ before) (members_aligned members) in
+      let behind = later (placed_of members (drop 1 placings)) ((get_or placings 0 free, measure raise structs y.ty) ∷ before) (members_aligned members (drop 1 placings)) right.1 in
       (omega (arith, ap (λ z. (measure raise structs z.ty).size) is, behind), omega (arith, ap (λ z. open_stride (measure raise structs z.ty).laid) is))
-  member_within (y ∷ members) before (suc k) x found =
-      let rest = member_within members (measure raise structs y.ty ∷ before) k x found in
-      (rest.0, omega (arith, rest.1))
+  member_within (y ∷ members) placings before right (suc k) x found =
+      let within = member_within members (drop 1 placings) ((get_or placings 0 free, measure raise structs y.ty) ∷ before) right.1 k x found in
+      (within.0, omega (arith, within.1))
 
   -- a group's extent is not below that of a member
-  pub member_extent : (members : List Member) (k : ℕ) (x : Member) → slice_get members k ≡ Some x → extent (measure raise structs x.ty) ≤ extent (block raise structs members)
-  member_extent members k x found = let within = member_within members [] k x found in omega (arith, within.0, within.1, end_le_size members)
+  pub member_extent : (members : List Member) (placings : List Placing) → AreRight [] (placed_of members placings) → (k : ℕ) (x : Member) → slice_get members k ≡ Some x
+      → extent (measure raise structs x.ty) ≤ extent (block raise structs members placings)
+  member_extent members placings right k x found =
+      let within = member_within members placings [] right k x found in omega (arith, within.0, within.1, end_le_size (placed_of members placings))
+
+  pub placed_append : (first rest : List Member) (placings : List Placing)
+      → placed_of (first ++ rest) placings ≡ placed_of first placings ++ placed_of rest (drop (length (meanings first)) placings)
+  placed_append first rest placings =
+      ap (placed placings) (map-append (λ (member : Member). (member.name, measure raise structs member.ty)) first rest) ∙ append_placed (meanings first) (meanings rest) placings
 
   -- nor below the end of its first members
-  pub first_extent : (first rest : List Member) → end_of (last_first [] (meanings first)) ≤ extent (block raise structs (first ++ rest))
-  first_extent first rest =
-      let joined = last_first_append (meanings first) (meanings rest) [] in
-      let split = ap (λ ms. end_of (last_first [] ms)) (map-append (λ (member : Member). (member.name, measure raise structs member.ty)) first rest) in
-      omega (arith, later (meanings rest) (last_first [] (meanings first)) (members_aligned rest), ap end_of joined, split, end_le_size (first ++ rest))
+  pub first_extent : (first rest : List Member) (placings : List Placing) → AreRight [] (placed_of (first ++ rest) placings)
+      → end_of (last_first [] (placed_of first placings)) ≤ extent (block raise structs (first ++ rest) placings)
+  first_extent first rest placings right =
+      let more = drop (length (meanings first)) placings in
+      let split = placed_append first rest placings in
+      let joined = last_first_append (placed_of first placings) (placed_of rest more) [] in
+      let behind = right_append (placed_of first placings) (placed_of rest more) [] (subst (AreRight []) split right) in
+      omega (
+        arith,
+        later (placed_of rest more) (last_first [] (placed_of first placings)) (members_aligned rest more) behind,
+        ap end_of joined,
+        ap (λ ms. end_of (last_first [] ms)) split,
+        end_le_size (placed_of (first ++ rest) placings),
+      )
 
-  pub parts_stand : (members : List Member) (before : List Measured) (from end : ℕ) → from ≤ end_of before → end_of (last_first before (meanings members)) ≤ end → end < 2 ^ 31
-      → AreMembers members → AllByRecursion (IsPlaced raise structs) members → AreParts from (parts_behind before (meanings members)) end
-  parts_stand [] before from end low high small are placed = elim are [ ]
-  parts_stand (x ∷ []) before from end low high small are placed =
-      let m = measure raise structs x.ty in
-      let o = not_below m.align (end_of before) (aligned x.ty) in (
-        omega (arith, low, o),
-        multiple_whole m.align (end_of before) (aligned x.ty),
+  pub parts_stand : (members : List Member) (placings : List Placing) (before : List Placed) (from end : ℕ) → from ≤ end_of before → end_of (last_first before (placed_of members placings)) ≤ end
+      → end < 2 ^ 31 → AreMembers members → AllByRecursion (IsPlaced raise structs) members → AreRight before (placed_of members placings) → AreParts from (parts_behind before (placed_of members placings)) end
+  parts_stand [] placings before from end low high small are placed right = elim are [ ]
+  parts_stand (x ∷ []) placings before from end low high small are placed right =
+      let m : Placed = (get_or placings 0 free, measure raise structs x.ty) in (
+        omega (arith, low, stands_behind m (aligned x.ty) (end_of before) right.0),
+        offset_whole m (aligned x.ty) (end_of before) right.0,
         placed.0.measured.layout,
         omega (arith, placed.0.measured.size, high, small),
         placed.0.ends,
         omega (arith, placed.0.measured.size, high),
       )
-  parts_stand (x ∷ y ∷ members) before from end low high small are placed =
-      let m = measure raise structs x.ty in
-      let o = not_below m.align (end_of before) (aligned x.ty) in
-      let behind = later (meanings (y ∷ members)) (m ∷ before) (members_aligned (y ∷ members)) in (
-        omega (arith, low, o),
-        multiple_whole m.align (end_of before) (aligned x.ty),
+  parts_stand (x ∷ y ∷ members) placings before from end low high small are placed right =
+      let m : Placed = (get_or placings 0 free, measure raise structs x.ty) in
+      let behind = later (placed_of (y ∷ members) (drop 1 placings)) (m ∷ before) (members_aligned (y ∷ members) (drop 1 placings)) right.1 in (
+        omega (arith, low, stands_behind m (aligned x.ty) (end_of before) right.0),
+        offset_whole m (aligned x.ty) (end_of before) right.0,
         placed.0.measured.layout,
         omega (arith, placed.0.measured.size, high, small, behind),
         (placed.0.shut are.0).shut,
-        parts_stand (y ∷ members) (m ∷ before) _ end (omega (arith, need_le_size m.laid placed.0.measured.layout, placed.0.measured.size)) high small are.1 placed.1,
+        parts_stand (y ∷ members) (drop 1 placings) (m ∷ before) _ end (omega (arith, need_le_size m.1.laid placed.0.measured.layout, placed.0.measured.size)) high small are.1 placed.1 right.1,
       )
 
-  pub strides_small : (members : List Member) (before : List Measured) → AllByRecursion (IsPlaced raise structs) members → open_strides (parts_behind before (meanings members)) ≤ most_bytes
-  strides_small [] before placed = omega arith
-  strides_small (member ∷ members) before placed = omega (arith, placed.0.measured.extent, strides_small members ((measure raise structs member.ty) ∷ before) placed.1)
+  pub strides_small : (members : List Member) (placings : List Placing) (before : List Placed) → AllByRecursion (IsPlaced raise structs) members
+      → open_strides (parts_behind before (placed_of members placings)) ≤ most_bytes
+  strides_small [] placings before placed = omega arith
+  strides_small (member ∷ members) placings before placed =
+      omega (arith, placed.0.measured.extent, strides_small members (drop 1 placings) ((get_or placings 0 free, measure raise structs member.ty) ∷ before) placed.1)
 
-  pub all_shut : (members : List Member) (before : List Measured) → AllByRecursion (λ (member : Member). IsTrue (plain member.ty)) members → AllByRecursion (IsPlaced raise structs) members
-      → IsTrue (all_closed (parts_behind before (meanings members)))
-  all_shut [] before plain placed = refl
-  all_shut (member ∷ members) before plain placed = and_from _ _ (placed.0.shut plain.0).shut (all_shut members ((measure raise structs member.ty) ∷ before) plain.1 placed.1)
+  pub all_shut : (members : List Member) (placings : List Placing) (before : List Placed) → AllByRecursion (λ (member : Member). IsTrue (plain member.ty)) members
+      → AllByRecursion (IsPlaced raise structs) members → IsTrue (all_closed (parts_behind before (placed_of members placings)))
+  all_shut [] placings before plain placed = refl
+  all_shut (member ∷ members) placings before plain placed =
+      and_from _ _ (placed.0.shut plain.0).shut (all_shut members (drop 1 placings) ((get_or placings 0 free, measure raise structs member.ty) ∷ before) plain.1 placed.1)

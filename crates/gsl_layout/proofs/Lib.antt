@@ -1,9 +1,11 @@
 pub mod Bounds
 pub mod Multiples
+pub mod Placements
 pub mod Pushes
 pub mod Arrays
 pub mod Groups
 pub mod Refusals
+pub mod Outlined
 pub mod Order
 pub mod Sound
 pub mod Sixteens

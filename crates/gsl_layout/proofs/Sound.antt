@@ -19,13 +19,15 @@ use Rattle.gsl_types.proofs.Structs.{numbered_is}
 use Rattle.gsl_layout.specs.Extents.{AreMembers, ArePlain, extent, last_open, may_be_last, most_bytes, plain, plain_kind}
 use Rattle.gsl_layout.specs.Gathers.{IsMeasured, IsShut}
 use Rattle.gsl_layout.specs.Layout.{IsLayout, may_end}
-use Rattle.gsl_layout.specs.Measures.{arrayed, block, group_size, measure, measuring, run}
+use Rattle.gsl_layout.specs.Measures.{arrayed, block, group_size, measure, measuring, misplaced_in, run}
 use Rattle.gsl_layout.specs.Rules.{IsAlignment, Raises, least_multiple}
 use Rattle.gsl_layout.specs.declared.measured.Measured.{Measured}
+use Rattle.gsl_layout.specs.declared.placing.Placing.{Placing}
 use Rattle.gsl_layout.proofs.Arrays.{counted_array, open_array}
-use Rattle.gsl_layout.proofs.Groups.{IsPlaced, aligned, all_shut, closed_ends, end_le_size, meanings, member_extent, member_within, parts_stand}
+use Rattle.gsl_layout.proofs.Groups.{IsPlaced, aligned, all_shut, closed_ends, end_le_size, meanings, member_extent, member_within, parts_stand, placed_of}
 use Rattle.std.proofs.Math.Nat.{mul-le-mul_left}
-use Rattle.gsl_layout.proofs.Multiples.{not_below}
+use Rattle.gsl_layout.proofs.Multiples.{alignment_small, not_below}
+use Rattle.gsl_layout.proofs.Placements.{AreRight, free_right, right_from}
 use Rattle.gsl_layout.proofs.Refusals.{array_extent, plain_last, plain_members, runtime_extent}
 
 abbrev named : Ty → Member
@@ -88,7 +90,7 @@ module _ (raise : ℕ → ℕ) (raises : (align : ℕ) → IsAlignment align →
         let align = (raises m.align (aligned raise raises structs e.0)).alignment in
         let some = leb-true 1 c parts.0 in
         let whole = ap extent is in
-        let wide = not_below (raise m.align) m.size align in
+        let wide = not_below (raise m.align) m.size (omega (arith, (alignment_small _ align).0)) in
         let grown = mul-le-mul_left (least_multiple (raise m.align) m.size) some in
         fits_rolled x (arrayed raise m (Some c)) is (record {
           measured = record { layout = counted_array (raise m.align) align m inner.measured shut.shut shut.some c some (omega (arith, whole, small)); size = refl; extent = omega (arith, whole, small) };
@@ -129,40 +131,52 @@ module _ (raise : ℕ → ℕ) (raises : (align : ℕ) → IsAlignment align →
     members_place n below le (y ∷ members) sound.1 are.1 (λ k z found. small (suc k) z found),
   )
 
-  block_stands : (members : List Member) → AreMembers members → AllByRecursion (IsPlaced raise structs) members → extent (block raise structs members) ≤ most_bytes → IsMeasured (block raise structs members)
-  block_stands members are placed small =
-      let size : group_size raise (meanings raise raises structs members) < 2 ^ 31 = omega (arith, small) in
-      record { layout = (parts_stand raise raises structs members [] 0 _ (omega arith) (end_le_size raise raises structs members) size are placed, size); size = refl; extent = small }
+  block_stands : (members : List Member) (placings : List Placing) → AreMembers members → AllByRecursion (IsPlaced raise structs) members
+      → AreRight [] (placed_of raise raises structs members placings) → extent (block raise structs members placings) ≤ most_bytes → IsMeasured (block raise structs members placings)
+  block_stands members placings are placed right small =
+      let all = placed_of raise raises structs members placings in
+      let size : group_size raise all < 2 ^ 31 = omega (arith, small) in record {
+        layout = (parts_stand raise raises structs members placings [] 0 _ (omega arith) (end_le_size raise raises structs all) size are placed right, size);
+        size = refl;
+        extent = small;
+      }
 
   some_leaf : (members : List Member) → AreMembers members → AllByRecursion (λ (member : Member). IsTrue (plain member.ty)) members → AllByRecursion (IsPlaced raise structs) members
-      → 4 ≤ group_size raise (meanings raise raises structs members)
+      → 4 ≤ group_size raise (placed_of raise raises structs members [])
   some_leaf [] are all placed = elim are [ ]
-  some_leaf (x ∷ members) are all placed = omega (arith, (placed.0.shut all.0).some, (member_within raise raises structs (x ∷ members) [] 0 x refl).0, end_le_size raise raises structs (x ∷ members))
+  some_leaf (x ∷ members) are all placed = omega (
+    arith,
+    (placed.0.shut all.0).some,
+    (member_within raise raises structs (x ∷ members) [] [] (free_right (meanings raise raises structs (x ∷ members)) []) 0 x refl).0,
+    end_le_size raise raises structs (placed_of raise raises structs (x ∷ members) []),
+  )
 
   structs_fit : (n : ℕ) (k : ℕ) → k < n → n ≤ length structs → extent (measure raise structs (ty.Struct k)) ≤ most_bytes → IsPlaced raise structs (named (ty.Struct k))
   structs_fit zero k less le small = let never : ⊥ = omega (arith, less) in elim never [ ]
   structs_fit (suc n) k less le small =
       let found = slice_found structs k (omega (arith, less, le)) in
       let s = found.0 in
-      let is : measure raise structs (ty.Struct k) ≡ block raise structs s.members
+      let is : measure raise structs (ty.Struct k) ≡ block raise structs s.members []
       = over_struct (measuring raise) (numbered (measuring raise) structs) k ∙ numbered_is (measuring raise) structs k s found.1 (known k s found.1).earlier in
       let are = plain_members s.members (known k s found.1).some (plains k s found.1) in
-      let bound : extent (block raise structs s.members) ≤ most_bytes = subst (λ (m : Measured). extent m ≤ most_bytes) is small in
+      let bound : extent (block raise structs s.members []) ≤ most_bytes = subst (λ (m : Measured). extent m ≤ most_bytes) is small in
+      let right = free_right (meanings raise raises structs s.members) [] in
       let placed = members_place k (λ j j_less j_le j_small. structs_fit n j (omega (arith, j_less, less)) (omega (arith, le)) j_small) (omega (arith, less, le)) s.members (known k s found.1).earlier are
-      (λ j x at. omega (arith, bound, member_extent raise raises structs s.members j x at)) in
-      let shut : IsShut (block raise structs s.members) = record {
-        shut = all_shut raise raises structs s.members [] (plains k s found.1) placed;
+      (λ j x at. omega (arith, bound, member_extent raise raises structs s.members [] right j x at)) in
+      let shut : IsShut (block raise structs s.members []) = record {
+        shut = all_shut raise raises structs s.members [] [] (plains k s found.1) placed;
         some = some_leaf s.members are (plains k s found.1) placed;
       } in
       record {
-        measured = subst IsMeasured (sym is) (block_stands s.members are placed bound);
-        ends = subst (λ (m : Measured). IsTrue (may_end m.laid)) (sym is) (closed_ends (block raise structs s.members).laid shut.shut);
+        measured = subst IsMeasured (sym is) (block_stands s.members [] are placed right bound);
+        ends = subst (λ (m : Measured). IsTrue (may_end m.laid)) (sym is) (closed_ends (block raise structs s.members []).laid shut.shut);
         shut = λ _. subst IsShut (sym is) shut;
       }
 
   -- the layout of a block that is not too large is well formed
-  pub block_layout : (members : List Member) → AllByRecursion (λ (member : Member). IsSound (length structs) member.ty) members → AreMembers members → extent (block raise structs members) ≤ most_bytes
-      → IsLayout (block raise structs members).laid
-  block_layout members sound are small =
-      (block_stands members are (members_place (length structs) (structs_fit (length structs)) (omega arith) members sound are
-      (λ k x found. omega (arith, small, member_extent raise raises structs members k x found))) small).layout
+  pub block_layout : (members : List Member) (placings : List Placing) → AllByRecursion (λ (member : Member). IsSound (length structs) member.ty) members → AreMembers members
+      → misplaced_in raise structs members placings ≡ None → extent (block raise structs members placings) ≤ most_bytes → IsLayout (block raise structs members placings).laid
+  block_layout members placings sound are none small =
+      let right = right_from (placed_of raise raises structs members placings) [] 0 none in
+      let placed = members_place (length structs) (structs_fit (length structs)) (omega arith) members sound are (λ k x found. omega (arith, small, member_extent raise raises structs members placings right k x found)) in
+      (block_stands members placings are placed right small).layout

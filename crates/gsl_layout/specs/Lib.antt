@@ -5,7 +5,9 @@ pub mod Nodes
 pub mod Falls
 pub mod Rules
 pub mod Raising
+pub mod Placings
 pub mod Measures
 pub mod Extents
 pub mod Gathers
+pub mod Outlines
 pub mod Sixteens

@@ -1,11 +1,13 @@
 -- The alignment, size and layout of types, by equations (GLSL 4.50, 4.4.5; OpenGL 4.5, 7.6.2.2).
-use Rattle.std.specs.Prelude.{ℕ, ◌+◌, ◌*◌, nat_le, if◌then◌else◌, List, [], ◌∷◌, Option, Some, None, max}
+use Rattle.std.specs.Prelude.{ℕ, ◌*◌, nat_le, if◌then◌else◌, List, [], Option, Some, None, max}
 use Rattle.gsl_types.specs.declared.ty.Ty.TheOpen.{Ty-F}
 use Rattle.gsl_types.specs.declared.ty.Ty.{Ty}
 use Rattle.gsl_types.specs.declared.ty.Member.{Member}
 use Rattle.gsl_types.specs.declared.ty.StructType.{StructType}
 use Rattle.gsl_types.specs.Structs.{Meaning, meaning, members_meaning}
-use Rattle.gsl_layout.specs.Layout.{Leaf, Group, Parts, End, Part, array, size}
+use Rattle.gsl_layout.specs.Layout.{Leaf, Group, array, size}
+use Rattle.gsl_layout.specs.Placings.{Placed, end_of, first_misplaced, largest_actual, largest_base, last_first, parts_behind, placed}
+use Rattle.gsl_layout.specs.declared.placing.Placing.{Placing}
 use Rattle.gsl_layout.specs.Rules.{least_multiple}
 use Rattle.gsl_layout.specs.declared.measured.Measured.{Measured}
 
@@ -25,33 +27,17 @@ abbrev pub arrayed : (ℕ → ℕ) → Measured → Option ℕ → Measured
 arrayed raise element count =
     record { align = raise element.align; size = size (array (stride_of raise element) count element.laid); laid = array (stride_of raise element) count element.laid }
 
--- the end of members that stand one behind another, the last of them first: each at the least multiple of its alignment that is not below the end of the one before
-abbrev pub end_of : List Measured → ℕ
-end_of [] = 0
-end_of (member ∷ before) = least_multiple member.align (end_of before) + member.size
+-- A group has the largest base alignment of its members, raised, or their largest actual alignment where that is larger. Its size is its
+-- end rounded up to that.
+abbrev pub group_align : (ℕ → ℕ) → List Placed → ℕ
+group_align raise members = max (largest_actual members) (raise (largest_base members))
 
--- members in their order, behind others of which the last comes first
-abbrev pub parts_behind : List Measured → List (List ℕ × Measured) → Parts
-parts_behind before [] = End
-parts_behind before (member ∷ members) = Part (least_multiple member.1.align (end_of before)) member.1.laid (parts_behind (member.1 ∷ before) members)
+abbrev pub group_size : (ℕ → ℕ) → List Placed → ℕ
+group_size raise members = least_multiple (group_align raise members) (end_of (last_first [] members))
 
--- all members, the last first
-abbrev pub last_first : List Measured → List (List ℕ × Measured) → List Measured
-last_first before [] = before
-last_first before (member ∷ members) = last_first (member.1 ∷ before) members
-
--- the largest alignment of members, which is at least 4
-abbrev pub largest_align : List (List ℕ × Measured) → ℕ
-largest_align [] = 4
-largest_align (member ∷ members) = max member.1.align (largest_align members)
-
--- a struct has the alignment of its largest member, raised, and its size is its end rounded up to that
-abbrev pub group_size : (ℕ → ℕ) → List (List ℕ × Measured) → ℕ
-group_size raise members = least_multiple (raise (largest_align members)) (end_of (last_first [] members))
-
-abbrev pub grouped : (ℕ → ℕ) → List (List ℕ × Measured) → Measured
+abbrev pub grouped : (ℕ → ℕ) → List Placed → Measured
 grouped raise members =
-    record { align = raise (largest_align members); size = group_size raise members; laid = Group (parts_behind [] members) (group_size raise members) }
+    record { align = group_align raise members; size = group_size raise members; laid = Group (parts_behind [] members) (group_size raise members) }
 
 abbrev pub measure_of_kind : (ℕ → ℕ) → Ty-F Measured → Measured
 measure_of_kind raise (Ty-F.One s) = run 1
@@ -61,12 +47,20 @@ measure_of_kind raise (Ty-F.Runtime element) = arrayed raise element None
 measure_of_kind raise _ = run 1
 
 abbrev pub measuring : (ℕ → ℕ) → Meaning Measured
-measuring raise = record { kind = measure_of_kind raise; struct = λ name members. grouped raise members; none = run 1 }
+measuring raise = record { kind = measure_of_kind raise; struct = λ name members. grouped raise (placed [] members); none = run 1 }
 
 -- the alignment, size and layout of a type by a rule
 abbrev pub measure : (ℕ → ℕ) → List StructType → Ty → Measured
 measure raise structs ty = meaning (measuring raise) structs ty
 
--- those of a block of members
-abbrev pub block : (ℕ → ℕ) → List StructType → List Member → Measured
-block raise structs members = grouped raise (members_meaning (measuring raise) structs members)
+-- the members of a block, with what is said of their places
+abbrev pub placed_members : (ℕ → ℕ) → List StructType → List Member → List Placing → List Placed
+placed_members raise structs members placings = placed placings (members_meaning (measuring raise) structs members)
+
+-- the alignment, size and layout of a block
+abbrev pub block : (ℕ → ℕ) → List StructType → List Member → List Placing → Measured
+block raise structs members placings = grouped raise (placed_members raise structs members placings)
+
+-- the number of its first member that may not stand where its placing says
+abbrev pub misplaced_in : (ℕ → ℕ) → List StructType → List Member → List Placing → Option ℕ
+misplaced_in raise structs members placings = first_misplaced [] 0 (placed_members raise structs members placings)

@@ -1,4 +1,4 @@
-//! Where each leaf of a block lies in its bytes, by the rules std140 and std430.
+//! Where each leaf of a block lies in its bytes, by the rules std140 and std430 and by what is said of its members' places.
 #![tactic(auto)]
 
 mod gathered;
@@ -6,17 +6,21 @@ mod laid;
 mod laws;
 mod measured;
 mod measuring;
+mod misplaced;
+mod outline;
+mod placing;
 mod refusal;
 mod rules;
 
 pub use gathered::MOST_BYTES;
 pub use laid::{Laid, Laids, Offsets};
 pub use laws::{
-    blocks_are_well_formed, members_stand_apart, need_is_within_size, places_are_rounded_up,
-    rules_raise, std140_counts_in_16,
+    blocks_are_well_formed, members_stand_apart, members_stand_where_they_are_placed,
+    need_is_within_size, places_are_rounded_up, rules_raise, std140_counts_in_16,
 };
-pub use measuring::lay;
-pub use refusal::LayRefusal;
+pub use measuring::{lay, lay_placed};
+pub use placing::{Placing, Placings};
+pub use refusal::{LayRefusal, PlaceRefusal};
 pub use rules::{Rules, Std140, Std430};
 
 #[cfg(test)]

@@ -1,17 +1,19 @@
-ghost use Rattle.std.specs.Prelude.{◌≡◌, ◌≤◌, ℕ, IfOk, IsTrue, MatchOption, Option, Some, length, ⊤};
+ghost use Rattle.std.specs.Prelude.{◌≡◌, ◌<◌, ◌≤◌, ◌^◌, [], None, ℕ, IfOk, IsTrue, MatchOption, Option, Some, length, ⊤};
 ghost use Rattle.std.specs.List.{AllByRecursion};
 ghost use Rattle.gsl_types.specs.Known.{AreStructs, IsSound};
 ghost use Rattle.gsl_layout.specs.Extents.{AreMembers, ArePlain, most_bytes, may_be_last, plain};
-ghost use Rattle.gsl_layout.specs.Gathers.{IsMeasured, IsShut, LaysOut, Measures};
+ghost use Rattle.gsl_layout.specs.Gathers.{IsMeasured, IsShut, LaysOut, Measures, Places};
 ghost use Rattle.gsl_layout.specs.Layout.{closed, may_end};
-ghost use Rattle.gsl_layout.specs.Measures.{arrayed, block, measure, run};
+ghost use Rattle.gsl_layout.specs.Measures.{arrayed, block, measure, misplaced_in, run};
 ghost use Rattle.gsl_layout.specs.Parts.{parts_of};
 ghost use Rattle.gsl_layout.specs.Rules.{IsAlignment, least_multiple};
 
-use crate::gathered::{Gathered, MOST_BYTES, round_up};
+use crate::gathered::{Gathered, MOST_BYTES, placing_at, round_up};
 use crate::laid::Laid;
-use crate::measured::Measured;
-use crate::refusal::LayRefusal;
+use crate::measured::{Measured, components_align};
+use crate::misplaced::first_misplaced;
+use crate::placing::Placings;
+use crate::refusal::{LayRefusal, PlaceRefusal};
 use crate::rules::Rules;
 use gsl_types::{Members, Structs, Ty};
 use std::alloc::Global;
@@ -24,13 +26,7 @@ fn run_of(count: u32) -> Measured
     ensures measured { IsMeasured result }
 {
     Measured {
-        align: if count <= 1 {
-            4
-        } else if count <= 2 {
-            8
-        } else {
-            16
-        },
+        align: components_align(count),
         size: 4 * count,
         laid: Laid::leaf(count),
     }
@@ -51,15 +47,15 @@ fn array_of<R: Rules>(
     ensures { Measures result (arrayed (R.raised rules.now) element count) }
 {
     let align = rules.raise(element.align);
-    let stride = round_up(element.size, align);
+    let stride = round_up(element.size as u64, align);
     let size = match count {
-        Some(count) => stride as u64 * count as u64,
+        Some(count) => stride * count as u64,
         None => 0,
     };
     if size > MOST_BYTES as u64 {
         return Err(LayRefusal::TooLarge);
     }
-    let laid = Laid::array(alloc, stride, count, element.laid)?;
+    let laid = Laid::array(alloc, stride as u32, count, element.laid)?;
     Ok(Measured {
         align,
         size: size as u32,
@@ -95,7 +91,9 @@ fn lay_type<R: Rules>(
             array_of(alloc, rules, element, None)
         }
         Ty::Struct(number) => {
-            lay_members(alloc, rules, structs, &structs[*number as usize].members)
+            let members = &structs[*number as usize].members;
+            let free = Placings::new(alloc);
+            lay_members(alloc, rules, structs, members, &free)
         }
         Ty::Void => unreachable!(),
     }
@@ -108,18 +106,20 @@ fn lay_members<R: Rules>(
     rules: &R,
     structs: &Structs,
     members: &Members,
+    placings: &Placings,
 ) -> Result<Measured, LayRefusal>
     requires known { AreStructs structs.now }
     requires plain { ArePlain structs.now }
     requires sound { AllByRecursion (λ member. IsSound (length structs.now) member.ty) members.now }
     requires members { AreMembers members.now }
-    ensures measure { Measures result (block (R.raised rules.now) structs.now members.now) }
+    requires placed { misplaced_in (R.raised rules.now) structs.now members.now placings.now ≡ None }
+    ensures measure { Measures result (block (R.raised rules.now) structs.now members.now placings.now) }
     ensures shut { AllByRecursion (λ member. IsTrue (plain member.ty)) members.now → IfOk result IsShut }
 {
     let mut gathered = Gathered::new(alloc);
     for k in 0..members.len() {
         let measured = lay_type(alloc, rules, structs, &members[k].ty)?;
-        gathered.add(measured)?;
+        gathered.add(placing_at(placings, k), measured)?;
     }
     gathered.close(rules)
 }
@@ -137,8 +137,37 @@ pub fn lay<R: Rules>(
     requires plain { ArePlain structs.now }
     requires sound { AllByRecursion (λ member. IsSound (length structs.now) member.ty) members.now }
     requires members { AreMembers members.now }
-    ensures { LaysOut result (block (R.raised rules.now) structs.now members.now) }
+    ensures { LaysOut result (block (R.raised rules.now) structs.now members.now []) }
 {
-    let block = lay_members(alloc, rules, structs, members)?;
+    let free = Placings::new(alloc);
+    let block = lay_members(alloc, rules, structs, members, &free)?;
     Ok(block.laid)
+}
+
+/// Where the members of a block lie by a layout rule and by what is said of their places, in their order; nothing is said of
+/// those that are left (GLSL 4.50, 4.4.5). `Misplaced` comes exactly where an `align` is no power of two, or an `offset` is no
+/// multiple of the member's base alignment or below the end of the member before it, with the number of the first such
+/// member; `TooLarge` exactly where there is none and `lay` would answer it.
+pub fn lay_placed<R: Rules>(
+    alloc: Global,
+    rules: &R,
+    structs: &Structs,
+    members: &Members,
+    placings: &Placings,
+) -> Result<Laid, PlaceRefusal>
+    requires known { AreStructs structs.now }
+    requires plain { ArePlain structs.now }
+    requires sound { AllByRecursion (λ member. IsSound (length structs.now) member.ty) members.now }
+    requires members { AreMembers members.now }
+    requires few { length members.now < 2 ^ 32 }
+    ensures { Places result (misplaced_in (R.raised rules.now) structs.now members.now placings.now) (block (R.raised rules.now) structs.now members.now placings.now) }
+{
+    if let Some(number) = first_misplaced(alloc, rules, structs, members, placings)? {
+        return Err(PlaceRefusal::Misplaced(number));
+    }
+    match lay_members(alloc, rules, structs, members, placings) {
+        Ok(block) => Ok(block.laid),
+        Err(LayRefusal::TooLarge) => Err(PlaceRefusal::TooLarge),
+        Err(LayRefusal::Memory) => Err(PlaceRefusal::Memory),
+    }
 }

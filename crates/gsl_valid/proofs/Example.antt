@@ -7,7 +7,10 @@ use Rattle.gsl_words.specs.declared.target.TheConstants.{VERSION_1_0}
 use Rattle.gsl_instr.specs.declared.op.TheConstants as op
 use Rattle.gsl_instr.specs.declared.enumerant.decoration.TheConstants as decoration
 use Rattle.gsl_instr.specs.declared.enumerant.storage_class.TheConstants as storage_class
+use Rattle.gsl_instr.specs.Forms.{form_of}
 use Rattle.gsl_instr.specs.Strings.{string_words}
+use Rattle.gsl_blocks.specs.Blocks.{blocks_from}
+use Rattle.gsl_blocks.specs.Reading.{reads}
 use Rattle.gsl_valid.specs.Placed.{Code}
 use Rattle.gsl_valid.specs.Valid.{broken}
 
@@ -84,82 +87,109 @@ main = begun 1 4 ++ sum 12 10 ++ store 13 ++ returned ++ ended
 -- What is broken first, and where ------------------------------------------------------------------------------
 
 example_is_valid : broken (module_with 14 (front ++ decorations ++ globals ++ main)) ≡ None
+unfolding form_of blocks_from reads
 example_is_valid = refl
 
 no_bound : broken (module_with 0 (front ++ decorations ++ globals ++ main)) ≡ Some (1, 3)
+unfolding form_of blocks_from reads
 no_bound = refl
 
 names_after_decorations : broken (module_with 14 (head (1 ∷ 1 ∷ 1 ∷ []) ++ decorations ++ names ++ globals ++ main)) ≡ Some (1, 37)
+unfolding form_of blocks_from reads
 names_after_decorations = refl
 
 no_entry_point : broken (module_with 14 (i op.CAPABILITY (1 ∷ []) ∷ i op.MEMORY_MODEL (0 ∷ 1 ∷ []) ∷ [])) ≡ Some (1, 10)
+unfolding form_of blocks_from reads
 no_entry_point = refl
 
 variable_behind_the_function : broken (module_with 15 (front ++ decorations ++ globals ++ main ++ i op.VARIABLE (7 ∷ 14 ∷ storage_class.UNIFORM ∷ []) ∷ [])) ≡ Some (1, 98)
+unfolding form_of blocks_from reads
 variable_behind_the_function = refl
 
 unknown_opcode : broken (module_with 14 (front ++ decorations ++ globals ++ begun 1 4 ++ i op.KILL [] ∷ ended)) ≡ Some (1, 79)
+unfolding form_of blocks_from reads
 unknown_opcode = refl
 
 bound_too_small : broken (module_with 13 (front ++ decorations ++ globals ++ main)) ≡ Some (2, 88)
+unfolding form_of blocks_from reads
 bound_too_small = refl
 
 id_defined_twice : broken (module_with 14 (front ++ decorations ++ types 3 ++ constant 5 ++ buffer storage_class.UNIFORM ++ main)) ≡ Some (2, 46)
+unfolding form_of blocks_from reads
 id_defined_twice = refl
 
 used_before_its_definition : broken (module_with 14 (front ++ decorations ++ globals ++ begun 1 4 ++ sum 13 10 ++ store 13 ++ returned ++ ended)) ≡ Some (3, 88)
+unfolding form_of blocks_from reads
 used_before_its_definition = refl
 
 type_declared_twice : broken (module_with 15 (front ++ decorations ++ globals ++ i op.TYPE_INT (14 ∷ 32 ∷ 1 ∷ []) ∷ main)) ≡ Some (4, 72)
+unfolding form_of blocks_from reads
 type_declared_twice = refl
 
 constant_of_void : broken (module_with 14 (front ++ decorations ++ types 2 ++ constant 2 ++ buffer storage_class.UNIFORM ++ main)) ≡ Some (5, 64)
+unfolding form_of blocks_from reads
 constant_of_void = refl
 
 class_other_than_the_pointers : broken (module_with 14 (front ++ decorations ++ types 2 ++ constant 5 ++ buffer storage_class.PUSH_CONSTANT ++ main)) ≡ Some (6, 68)
+unfolding form_of blocks_from reads
 class_other_than_the_pointers = refl
 
 no_set : broken (module_with 14 (front ++ block decoration.BUFFER_BLOCK 0 ++ binding ++ globals ++ main)) ≡ Some (7, 64)
+unfolding form_of blocks_from reads
 no_set = refl
 
 set_twice : broken (module_with 14 (front ++ decorations ++ set ++ globals ++ main)) ≡ Some (7, 44)
+unfolding form_of blocks_from reads
 set_twice = refl
 
 offset_of_two : broken (module_with 14 (front ++ block decoration.BUFFER_BLOCK 2 ++ set ++ binding ++ globals ++ main)) ≡ Some (8, 53)
+unfolding form_of blocks_from reads
 offset_of_two = refl
 
 size_of_none : broken (module_with 14 (head (1 ∷ 0 ∷ 1 ∷ []) ++ names ++ decorations ++ globals ++ main)) ≡ Some (9, 10)
+unfolding form_of blocks_from reads
 size_of_none = refl
 
 block_without_end : broken (module_with 14 (front ++ decorations ++ globals ++ begun 1 4 ++ sum 12 10 ++ store 13 ++ ended)) ≡ Some (10, 96)
+unfolding form_of blocks_from reads
 block_without_end = refl
 
 function_without_end : broken (module_with 14 (front ++ decorations ++ globals ++ begun 1 4 ++ sum 12 10 ++ store 13 ++ returned)) ≡ Some (10, 97)
+unfolding form_of blocks_from reads
 function_without_end = refl
 
 two_blocks : broken (module_with 15 (front ++ decorations ++ globals ++ begun 1 4 ++ returned ++ i op.LABEL (14 ∷ []) ∷ returned ++ ended)) ≡ Some (12, 72)
+unfolding form_of blocks_from reads
 two_blocks = refl
 
 value_of_another_function : broken (module_with 16 (front ++ decorations ++ globals ++ main ++ begun 14 15 ++ store 12 ++ returned ++ ended)) ≡ Some (13, 105)
+unfolding form_of blocks_from reads
 value_of_another_function = refl
 
 variable_without_initialiser : broken (module_with 16 (front ++ decorations ++ globals ++ i op.TYPE_POINTER (14 ∷ storage_class.FUNCTION ∷ 5 ∷ []) ∷ begun 1 4 ++ i op.VARIABLE (14 ∷ 15 ∷ storage_class.FUNCTION ∷ []) ∷ returned ++ ended)) ≡ Some (10, 83)
+unfolding form_of blocks_from reads
 variable_without_initialiser = refl
 
 variable_of_a_function : broken (module_with 16 (front ++ decorations ++ globals ++ i op.TYPE_POINTER (14 ∷ storage_class.FUNCTION ∷ 5 ∷ []) ∷ begun 1 4 ++ i op.VARIABLE (14 ∷ 15 ∷ storage_class.FUNCTION ∷ 10 ∷ []) ∷ i op.STORE (15 ∷ 10 ∷ []) ∷ returned ++ ended)) ≡ None
+unfolding form_of blocks_from reads
 variable_of_a_function = refl
 
 sum_of_a_pointer : broken (module_with 14 (front ++ decorations ++ globals ++ begun 1 4 ++ sum 11 10 ++ store 13 ++ returned ++ ended)) ≡ Some (14, 88)
+unfolding form_of blocks_from reads
 sum_of_a_pointer = refl
 
 store_of_a_pointer : broken (module_with 14 (front ++ decorations ++ globals ++ begun 1 4 ++ sum 12 10 ++ store 11 ++ returned ++ ended)) ≡ Some (15, 93)
+unfolding form_of blocks_from reads
 store_of_a_pointer = refl
 
 store_in_a_uniform_block : broken (module_with 14 (front ++ block decoration.BLOCK 0 ++ set ++ binding ++ globals ++ main)) ≡ Some (15, 93)
+unfolding form_of blocks_from reads
 store_in_a_uniform_block = refl
 
 nothing_returned : broken (module_with 18 (front ++ decorations ++ globals ++ i op.TYPE_FUNCTION (14 ∷ 5 ∷ []) ∷ main ++ i op.FUNCTION (5 ∷ 15 ∷ 0 ∷ 14 ∷ []) ∷ i op.LABEL (16 ∷ []) ∷ returned ++ ended)) ≡ Some (16, 108)
+unfolding form_of blocks_from reads
 nothing_returned = refl
 
 too_many_parameters : broken (module_with 15 (front ++ decorations ++ globals ++ i op.TYPE_FUNCTION (14 ∷ 2 ∷ replicate 256 5) ∷ main)) ≡ Some (18, 72)
+unfolding form_of blocks_from reads
 too_many_parameters = refl

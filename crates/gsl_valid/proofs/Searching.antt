@@ -1,9 +1,10 @@
 -- The search finds nothing exactly where each instruction passes, and goes over code part by part.
-use Rattle.std.proofs.Common.{◌≡◌, ℕ, ◌+◌, Bool, true, false, cond, IsTrue, [], ◌∷◌, ◌++◌, Option, Some, None, refl, ap, ◌∙◌}
+use Rattle.std.proofs.Common.{◌≡◌, ℕ, ◌+◌, Bool, true, false, cond, IsTrue, [], ◌∷◌, ◌++◌, length, drop, Option, Some, None, refl, ap, ◌∙◌}
 use Rattle.std.specs.List.{range_with_len}
 use Rattle.std.specs.Prelude.{map, zero, suc, ◌≤◌, ◌<◌}
 use Rattle.std.proofs.Common.{subst, arith}
 use Rattle.std.proofs.lemmas.Bool.{cond-true}
+use Rattle.std.proofs.lemmas.List.Prefix.{front_rest}
 use Rattle.gsl_words.specs.declared.module.Instr.{Instr}
 use Rattle.gsl_words.specs.declared.module.Module.{Module}
 use Rattle.gsl_words.specs.Instructions.{word_count}
@@ -13,6 +14,14 @@ use Rattle.gsl_valid.specs.Search.{Test, broken_from, first_broken, passed, ◌o
 pub passed_append : (before a b : Code) → passed before (a ++ b) ≡ passed (passed before a) b
 passed_append before [] b = refl
 passed_append before (i ∷ a) b = passed_append (i ∷ before) a b
+
+length_passed : (before a : Code) → length (passed before a) ≡ length before + length a
+length_passed before [] = let e : length before ≡ length before + 0 = omega arith in e
+length_passed before (i ∷ a) = let h = length_passed (i ∷ before) a in omega (arith, h)
+
+-- What stands behind some code is what follows it.
+pub behind_front : (a b : Code) → drop (length (passed [] a)) (a ++ b) ≡ b
+behind_front a b = ap (λ n. drop n (a ++ b)) (length_passed [] a ∙ (let e : 0 + length a ≡ length a = omega arith in e)) ∙ front_rest (a ++ b) a b refl
 
 module _ (test : Test) where
   pub broken_none : (before : Code) (at : ℕ) (code : Code) → Passes test before code → broken_from test before (placed_from at code) ≡ None

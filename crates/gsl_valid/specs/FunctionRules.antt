@@ -1,5 +1,5 @@
 -- V10: functions, their blocks, and the variables at their heads.
-use Rattle.std.specs.Prelude.{ℕ, Bool, true, false, ◌==◌, ◌&&◌, List, [], ◌∷◌, Option, Some, None}
+use Rattle.std.specs.Prelude.{ℕ, Bool, true, false, ◌==◌, ◌&&◌, List, [], Option, Some, None}
 use Rattle.gsl_words.specs.declared.module.Instr.{Instr}
 use Rattle.gsl_words.specs.declared.module.Module.{Module}
 use Rattle.gsl_instr.specs.declared.enumerant.storage_class.TheConstants as storage_class
@@ -7,46 +7,7 @@ use Rattle.gsl_valid.specs.Instruction.{Instruction, TypeFunction, Variable, Fun
 use Rattle.gsl_valid.specs.Placed.{Code, count_of_words}
 use Rattle.gsl_valid.specs.Search.{first_broken, whole, unless, ◌otherwise◌}
 use Rattle.gsl_valid.specs.Types.{Target, target_of, defined_as, initialises}
-
--- Where the code stands.
-pub data Standing : Type 0 where
-  -- between functions, or before the first
-  Outside : Standing
-  -- behind a Function, with so many parameters still to come
-  Begun : (parameters : List ℕ) → Standing
-  -- in a function's first block, where nothing but variables has come
-  AtHead : Standing
-  -- in a block
-  InBlock : Standing
-  -- behind the last instruction of a block
-  Behind : Standing
-
--- the parameters of a function type
-abbrev pub parameters_of : Instruction → List ℕ
-parameters_of (TypeFunction r returned parameters) = parameters
-parameters_of _ = []
-
--- where the code stands behind the label of a block
-abbrev pub block_begun : Standing → Standing
-block_begun (Begun parameters) = AtHead
-block_begun _ = InBlock
-
--- where the code stands behind an instruction
-abbrev pub standing_after : Module → Standing → Instruction → Standing
-standing_after m standing (Function type r control function_type) = Begun (parameters_of (defined_as m function_type))
-standing_after m standing (Label r) = block_begun standing
-standing_after m standing (AccessChain type r base indexes) = InBlock
-standing_after m standing (Load type r pointer) = InBlock
-standing_after m standing (IAdd type r a b) = InBlock
-standing_after m standing (Store pointer value) = InBlock
-standing_after m standing Return = Behind
-standing_after m standing FunctionEnd = Outside
-standing_after m standing _ = standing
-
--- where it stands behind these instructions, the last first
-abbrev pub standing : Module → Code → Standing
-standing m [] = Outside
-standing m (i ∷ before) = standing_after m (standing m before) (read i)
+use Rattle.gsl_valid.specs.Where.{Standing, Outside, Begun, AtHead, InBlock, Behind, where_at}
 
 -- whether it stands outside functions
 abbrev pub outside : Standing → Bool
@@ -101,8 +62,8 @@ may_stand_here m standing _ = true
 
 -- whether V10 is kept by an instruction
 abbrev pub in_shape : Module → Code → Instr → Bool
-in_shape m before i = may_stand_here m (standing m before) (read i)
+in_shape m before i = may_stand_here m (where_at m before).standing (read i)
 
 -- the first instruction that breaks V10, or the end where a FunctionEnd must still come
 abbrev pub function_shape : Module → Option ℕ
-function_shape m = first_broken (in_shape m) m otherwise unless (outside (standing m (whole m))) (count_of_words m)
+function_shape m = first_broken (in_shape m) m otherwise unless (outside (where_at m (whole m)).standing) (count_of_words m)

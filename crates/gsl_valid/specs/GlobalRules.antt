@@ -6,7 +6,8 @@ use Rattle.gsl_instr.specs.declared.enumerant.storage_class.TheConstants as stor
 use Rattle.gsl_valid.specs.Instruction.{Instruction, Variable, read}
 use Rattle.gsl_valid.specs.Placed.{Code}
 use Rattle.gsl_valid.specs.Search.{first_broken}
-use Rattle.gsl_valid.specs.Types.{Target, target_of, defined_as, is_int, is_struct, is_value_type, initialises, in_function}
+use Rattle.gsl_valid.specs.Types.{Target, target_of, defined_as, is_int, is_struct, is_value_type, initialises}
+use Rattle.gsl_valid.specs.Where.{where_at}
 
 -- whether a global variable of a class may hold values of a type
 abbrev pub holds : Module → ℕ → ℕ → Bool
@@ -33,7 +34,7 @@ is_global m _ = true
 
 -- whether V6 is kept by an instruction
 abbrev pub global_kept : Module → Code → Instr → Bool
-global_kept m before i = in_function before || is_global m (read i)
+global_kept m before i = (where_at m before).inside || is_global m (read i)
 
 -- the first instruction that breaks V6
 abbrev pub globals : Module → Option ℕ

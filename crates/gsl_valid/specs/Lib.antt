@@ -3,6 +3,7 @@ pub mod Placed
 pub mod Search
 pub mod Ids
 pub mod Types
+pub mod Where
 pub mod Sections
 pub mod IdsDefinedOnce
 pub mod DefinedBeforeUse

@@ -1,5 +1,5 @@
 -- The search that every rule is built from: for the first instruction of a module that breaks a test.
-use Rattle.std.specs.Prelude.{ℕ, Bool, true, false, IsTrue, List, [], ◌∷◌, Option, Some, None, if◌then◌else◌}
+use Rattle.std.specs.Prelude.{ℕ, Bool, true, false, IsTrue, List, [], ◌∷◌, length, drop, Option, Some, None, if◌then◌else◌}
 use Rattle.gsl_words.specs.declared.module.Instr.{Instr}
 use Rattle.gsl_words.specs.declared.module.Module.{Module}
 use Rattle.gsl_valid.specs.Placed.{Code, Placed, placed}
@@ -25,6 +25,10 @@ passed before (i ∷ code) = passed (i ∷ before) code
 -- all of a module's instructions, the last first
 abbrev pub whole : Module → Code
 whole m = passed [] m.instrs
+
+-- a module's instructions from the one on that stands behind these
+abbrev pub from_here : Module → Code → Code
+from_here m before = drop (length before) m.instrs
 
 -- a place, unless the test passes
 abbrev pub unless : Bool → ℕ → Option ℕ

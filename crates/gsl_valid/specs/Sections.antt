@@ -10,67 +10,14 @@ use Rattle.gsl_instr.specs.declared.enumerant.execution_mode.TheConstants as exe
 use Rattle.gsl_instr.specs.declared.enumerant.storage_class.TheConstants as storage_class
 use Rattle.gsl_instr.specs.declared.enumerant.decoration.TheConstants as decoration
 use Rattle.gsl_instr.specs.declared.enumerant.built_in.TheConstants as built_in
-use Rattle.gsl_valid.specs.Instruction.{Instruction, Capability, MemoryModel, EntryPoint, ExecutionMode, Name, MemberName, Decorate, MemberDecorate, TypeVoid, TypeInt, TypeStruct, TypePointer, TypeFunction, Constant, Variable, Function, Unknown, read}
+use Rattle.gsl_valid.specs.Instruction.{Instruction, Capability, MemoryModel, EntryPoint, ExecutionMode, Decorate, MemberDecorate, TypeInt, TypePointer, Variable, Function, Unknown, read}
 use Rattle.gsl_valid.specs.Placed.{Code, count_of_words, bound_place}
-use Rattle.gsl_valid.specs.Types.{in_function}
+use Rattle.gsl_valid.specs.Where.{where_at, section_of, capabilities, memory_models, entry_points, modes}
 use Rattle.gsl_valid.specs.Search.{first_broken, whole, unless, ◌otherwise◌}
 
 -- the most that a bound can be
 abbrev pub most_bound : ℕ
 most_bound = 4194303
-
--- The sections, by their numbers.
-abbrev pub capabilities : ℕ
-capabilities = 1
-
-abbrev pub imports : ℕ
-imports = 2
-
-abbrev pub memory_models : ℕ
-memory_models = 3
-
-abbrev pub entry_points : ℕ
-entry_points = 4
-
-abbrev pub modes : ℕ
-modes = 5
-
-abbrev pub names : ℕ
-names = 6
-
-abbrev pub decorations : ℕ
-decorations = 7
-
--- types, constants and global variables
-abbrev pub globals : ℕ
-globals = 8
-
-abbrev pub functions : ℕ
-functions = 9
-
--- the section to which an instruction belongs, in a function or outside: a Variable belongs to one or to the globals
-abbrev pub section_of : Bool → Instruction → ℕ
-section_of inside (Capability c) = capabilities
-section_of inside (MemoryModel addressing memory) = memory_models
-section_of inside (EntryPoint model function name interface) = entry_points
-section_of inside (ExecutionMode function mode parts) = modes
-section_of inside (Name target text) = names
-section_of inside (MemberName target member text) = names
-section_of inside (Decorate target d literals) = decorations
-section_of inside (MemberDecorate target member d literals) = decorations
-section_of inside (TypeVoid r) = globals
-section_of inside (TypeInt r width signedness) = globals
-section_of inside (TypeStruct r members) = globals
-section_of inside (TypePointer r class pointee) = globals
-section_of inside (TypeFunction r returned parameters) = globals
-section_of inside (Constant type r value) = globals
-section_of inside (Variable type r class initialiser) = if inside then functions else globals
-section_of inside _ = functions
-
--- the section that these instructions have reached, the last first
-abbrev pub reached : Code → ℕ
-reached [] = 0
-reached (i ∷ before) = section_of (in_function before) (read i)
 
 -- whether an instruction of a section may come where one is reached. The first four have one instruction each, of
 -- which the import may be left out; each of the others has any number.
@@ -120,12 +67,12 @@ has_numbers Unknown = false
 has_numbers _ = true
 
 -- whether an instruction stands in its section, with numbers that it may have
-abbrev pub in_section : Code → Instr → Bool
-in_section before i = may_come (reached before) (section_of (in_function before) (read i)) && has_numbers (read i)
+abbrev pub in_section : Module → Code → Instr → Bool
+in_section m before i = may_come (where_at m before).section (section_of (where_at m before).inside (read i)) && has_numbers (read i)
 
 -- whether the sections that must stand are there
 abbrev pub is_complete : Module → Bool
-is_complete m = nat_le entry_points (reached (whole m))
+is_complete m = nat_le entry_points (where_at m (whole m)).section
 
 -- whether the header's bound is one that it may be
 abbrev pub has_bound : Module → Bool
@@ -133,4 +80,4 @@ has_bound m = nat_le 1 m.bound && nat_le m.bound most_bound
 
 -- the header, the first instruction or the end that breaks V1
 abbrev pub sections : Module → Option ℕ
-sections m = unless (has_bound m) bound_place otherwise first_broken in_section m otherwise unless (is_complete m) (count_of_words m)
+sections m = unless (has_bound m) bound_place otherwise first_broken (in_section m) m otherwise unless (is_complete m) (count_of_words m)

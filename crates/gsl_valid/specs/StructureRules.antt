@@ -1,30 +1,27 @@
--- V12: the blocks of a function are one run.
-use Rattle.std.specs.Prelude.{ℕ, ◌+◌, Bool, ◌==◌, ◌||◌, not, List, [], ◌∷◌, Option, Some, None, if◌then◌else◌}
+-- V12: the blocks of each function are structured.
+use Rattle.std.specs.Prelude.{ℕ, Bool, true, false, ◌||◌, not, Option, Some, None}
+use Rattle.gsl_words.specs.declared.module.Instr.{Instr}
 use Rattle.gsl_words.specs.declared.module.Module.{Module}
-use Rattle.gsl_valid.specs.Instruction.{Instruction, Label, FunctionEnd, read}
-use Rattle.gsl_valid.specs.Placed.{Placed, placed}
+use Rattle.gsl_blocks.specs.Blocks.{blocks_of}
+use Rattle.gsl_blocks.specs.Reading.{nesting_of}
+use Rattle.gsl_valid.specs.Instruction.{read}
+use Rattle.gsl_valid.specs.Placed.{Code}
+use Rattle.gsl_valid.specs.Search.{first_broken, from_here}
 use Rattle.gsl_valid.specs.Types.{function_begins}
 
--- how many blocks come from an instruction on
-abbrev pub blocks_with : ℕ → Instruction → ℕ
-blocks_with later (Label r) = 1 + later
-blocks_with later FunctionEnd = 0
-blocks_with later _ = later
+-- how many constructs stand within each other in the function that begins behind some code, if its blocks are structured
+abbrev pub nesting : Module → Code → Option ℕ
+nesting m before = nesting_of (blocks_of (from_here m before))
 
--- how many blocks come before the end of the function
-abbrev pub blocks : List Placed → ℕ
-blocks [] = 0
-blocks (p ∷ code) = blocks_with (blocks code) (read p.instr)
+-- whether blocks are structured
+abbrev pub is_structured : Option ℕ → Bool
+is_structured None = false
+is_structured (Some depth) = true
 
--- A known block ends with Return, and a run that begins with such a block is that block.
-abbrev pub is_run : List Placed → Bool
-is_run body = blocks body == 1
-
--- the place of the first Function whose blocks are no run
-abbrev pub no_run : List Placed → Option ℕ
-no_run [] = None
-no_run (p ∷ code) = if not (function_begins (read p.instr)) || is_run code then no_run code else Some p.at
+-- whether V12 is kept by an instruction
+abbrev pub begins_structured : Module → Code → Instr → Bool
+begins_structured m before i = not (function_begins (read i)) || is_structured (nesting m before)
 
 -- the first Function that breaks V12
 abbrev pub structure : Module → Option ℕ
-structure m = no_run (placed m)
+structure m = first_broken (begins_structured m) m

@@ -2,7 +2,7 @@
 use Rattle.std.specs.Prelude.{ℕ, ◌+◌, Bool, true, false, ◌==◌, List, [], ◌∷◌, Option, Some, None, max, fold, map, if◌then◌else◌}
 use Rattle.gsl_words.specs.declared.module.Module.{Module}
 use Rattle.gsl_instr.specs.declared.enumerant.storage_class.TheConstants as storage_class
-use Rattle.gsl_valid.specs.Instruction.{Instruction, TypeVoid, TypeInt, TypeStruct, TypePointer, Constant, Variable, Function, AccessChain, Load, IAdd, FunctionEnd, read}
+use Rattle.gsl_valid.specs.Instruction.{Instruction, TypeVoid, TypeInt, TypeStruct, TypePointer, Constant, Variable, Function, AccessChain, Load, IAdd, read}
 use Rattle.gsl_valid.specs.Placed.{Code}
 use Rattle.gsl_valid.specs.Ids.{defines, definition}
 
@@ -114,17 +114,6 @@ variable_of class _ = false
 abbrev pub function_begins : Instruction → Bool
 function_begins (Function type r control function_type) = true
 function_begins _ = false
-
--- whether code stands in a function behind an instruction, where it did so, or not, before
-abbrev pub in_function_after : Bool → Instruction → Bool
-in_function_after inside (Function type r control function_type) = true
-in_function_after inside FunctionEnd = false
-in_function_after inside _ = inside
-
--- whether it stands in a function behind these instructions, the last first
-abbrev pub in_function : Code → Bool
-in_function [] = false
-in_function (i ∷ before) = in_function_after (in_function before) (read i)
 
 -- Heights --------------------------------------------------------------------------------------------------------
 

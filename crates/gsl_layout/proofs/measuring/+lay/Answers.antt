@@ -1,4 +1,4 @@
-use Rattle.std.proofs.Common.{◌≡◌, ◌∙◌, ◌∷◌, [], ◌++◌, ◌≤◌, ℕ, Err, List, sym, ap, subst, take, length, IsTrue, arith}
+use Rattle.std.proofs.Common.{◌≡◌, ◌∙◌, ◌∷◌, [], ◌++◌, ◌≤◌, ℕ, Ok, Err, None, Result, List, get_or, sym, ap, subst, take, length, IsTrue, arith}
 use Rattle.std.specs.List.{AllByRecursion}
 use Rattle.std.proofs.lemmas.Result.{err_from_is_err_and}
 use Rattle.std.proofs.lemmas.List.{take_all}
@@ -13,16 +13,25 @@ use Rattle.gsl_types.proofs.Structs.{member_sound, numbered_is}
 use Rattle.gsl_layout.specs.Extents.{plain}
 use Rattle.gsl_layout.specs.Gathers.{Adds, Gathers, IsShut, Measures}
 use Rattle.gsl_layout.specs.Layout.{may_end}
-use Rattle.gsl_layout.specs.Measures.{block, measure, measuring}
+use Rattle.gsl_layout.specs.Measures.{block, measure, measuring, misplaced_in}
+use Rattle.gsl_layout.specs.Placings.{Placed, free}
 use Rattle.gsl_layout.specs.Rules.{IsAlignment}
+use Rattle.gsl_layout.specs.declared.gathered.Gathered.{Gathered}
 use Rattle.gsl_layout.specs.declared.measured.Measured.{Measured}
-use Rattle.gsl_layout.proofs.Groups.{IsPlaced, aligned, largest_aligned, meanings, member_extent, members_aligned}
-use Rattle.gsl_layout.proofs.Refusals.{added_extent, array_extent, carried, closes_measures, closes_shut, group_layout, meanings_taken, member_last, plain_members, runtime_extent, taken_all, too_far}
+use Rattle.gsl_layout.specs.declared.placing.Placing.{Placing}
+use Rattle.gsl_layout.specs.declared.refusal.LayRefusal.{LayRefusal}
+use Rattle.gsl_layout.proofs.Groups.{IsPlaced, aligned, meanings, member_extent, placed_of}
+use Rattle.gsl_layout.proofs.Placements.{actual_least, none_misplaced, right_from}
+use Rattle.gsl_layout.proofs.Refusals.{added_extent, array_extent, carried, closes_measures, closes_shut, group_layout, placed_taken, member_last, plain_members, runtime_extent, taken_all, too_far}
 use Rattle.gsl_layout.proofs.measuring.+lay.Goals as goal
 
 all_stay : (few many : ℕ) → few ≤ many → (members : List Member) → AllByRecursion (λ (member : Member). IsSound few member.ty) members → AllByRecursion (λ (member : Member). IsSound many member.ty) members
 all_stay few many le [] all = tt
 all_stay few many le (member ∷ members) all = (sound_stays few many le member.ty all.0, all_stay few many le members all.1)
+
+-- what was added, by equal placings and measures
+added_as : (r : Result Unit LayRefusal) (before now : Gathered) (p q : Placing) (m n : Measured) → p ≡ q → m ≡ n → Adds r before now (p, m) → Adds r before now (q, n)
+added_as r before now p q m n is same adds = subst (λ y. Adds r before now (q, y)) same (subst (λ x. Adds r before now (x, m)) is adds)
 
 pub lay_members-lay_type-requires : goal.lay_members-lay_type-requires
 lay_members-lay_type-requires g t c κs within =
@@ -48,12 +57,14 @@ lay_members-returns-in_err-measured-clause-measure g t c =
     let raises = g.met.R.Rules.raises c.args.rules.now in
     let structs = c.args.structs.now in
     let members = c.args.members.now in
+    let placings = c.args.placings.now in
     let k = c.loop-k.k in
     let x = c.index.result.now in
     let p = err_from_is_err_and c.from_residual.result c.from_residual.ensures.1 in
-    let whole = block raise structs members in
+    let whole = block raise structs members placings in
+    let right = right_from (placed_of raise raises structs members placings) [] 0 c.requires.placed in
     subst (λ r. Measures r whole) (sym (p.1 ∙ ap Err p.2))
-    (carried c.in_err-measured.field-0.0 (measure raise structs x.ty) whole (member_extent raise raises structs members k x c.index.ensures) c.in_err-measured.ensures.measure)
+    (carried c.in_err-measured.field-0.0 (measure raise structs x.ty) whole (member_extent raise raises structs members placings right k x c.index.ensures) c.in_err-measured.ensures.measure)
 
 pub lay_members-add-requires-clause-align : goal.lay_members-add-requires-clause-align
 lay_members-add-requires-clause-align g t c =
@@ -66,16 +77,18 @@ lay_members-returns-in_err-add-clause-measure g t c =
     let raises = g.met.R.Rules.raises c.args.rules.now in
     let structs = c.args.structs.now in
     let members = c.args.members.now in
+    let placings = c.args.placings.now in
     let k = c.loop-k.k in
     let x = c.index.result.now in
     let p = err_from_is_err_and c.from_residual-in_err-add.result c.from_residual-in_err-add.ensures.1 in
-    let whole = block raise structs members in
-    let first = meanings raise raises structs (take k members) in
-    let adds : Adds (Err c.in_err-add.field-0.0) c.loop-k.gathered c.add.new.self (measure raise structs x.ty)
-    = subst (Adds (Err c.in_err-add.field-0.0) c.loop-k.gathered c.add.new.self) c.in_ok-measured.ensures.measure.0 c.in_err-add.ensures in
+    let whole = block raise structs members placings in
+    let right = right_from (placed_of raise raises structs members placings) [] 0 c.requires.placed in
+    let member : Placed = (get_or placings k free, measure raise structs x.ty) in
+    let adds : Adds (Err c.in_err-add.field-0.0) c.loop-k.gathered c.add.new.self member
+    = added_as (Err c.in_err-add.field-0.0) c.loop-k.gathered c.add.new.self _ _ _ _ c.placing_at.ensures c.in_ok-measured.ensures.measure.0 c.in_err-add.ensures in
     subst (λ r. Measures r whole) (sym (p.1 ∙ ap Err p.2))
-    (too_far c.in_err-add.field-0.0 c.loop-k.gathered c.add.new.self (measure raise structs x.ty) whole first x.name c.loop-k.invariant.0
-    (added_extent raise raises structs members k x c.index.ensures) adds)
+    (too_far c.in_err-add.field-0.0 c.loop-k.gathered c.add.new.self member whole (placed_of raise raises structs (take k members) placings) c.loop-k.invariant.0
+    (added_extent raise raises structs members placings right k x c.index.ensures) adds)
 
 pub lay_members-loop-k-preserved : goal.lay_members-loop-k-preserved
 lay_members-loop-k-preserved g t c =
@@ -83,42 +96,45 @@ lay_members-loop-k-preserved g t c =
     let raises = g.met.R.Rules.raises c.args.rules.now in
     let structs = c.args.structs.now in
     let members = c.args.members.now in
+    let placings = c.args.placings.now in
     let k = c.loop-k.k in
     let x = c.index.result.now in
     let got = c.in_ok-measured.ensures in
-    let m = measure raise structs x.ty in
-    let first = meanings raise raises structs (take k members) in
-    let gathers : Gathers c.add.new.self (first ++ (x.name, m) ∷ [])
-    = subst (λ (z : Measured). Gathers c.add.new.self (first ++ (x.name, z) ∷ [])) got.measure.0 (c.in_ok-add.ensures first x.name c.loop-k.invariant.0) in
-    let placed : IsPlaced raise structs x = record {
+    let member : Placed = (get_or placings k free, measure raise structs x.ty) in
+    let first = placed_of raise raises structs (take k members) placings in
+    let adds : Adds (Ok c.in_ok-add.field-0) c.loop-k.gathered c.add.new.self member
+    = added_as (Ok c.in_ok-add.field-0) c.loop-k.gathered c.add.new.self _ _ _ _ c.placing_at.ensures got.measure.0 c.in_ok-add.ensures in
+    let gathers : Gathers c.add.new.self (first ++ member ∷ []) = adds first c.loop-k.invariant.0 in
+    let fits : IsPlaced raise structs x = record {
       measured = got.measure.1;
       ends = subst (λ (z : Measured). IsTrue (may_end z.laid)) got.measure.0 got.ends;
       shut = λ (is : IsTrue (plain x.ty)). subst IsShut got.measure.0 (got.shut is);
     } in (
-      subst (Gathers c.add.new.self) (sym (meanings_taken raise raises structs members k x c.index.ensures)) gathers,
-      taken_all members k (IsPlaced raise structs) x c.index.ensures c.loop-k.invariant.1 placed,
+      subst (Gathers c.add.new.self) (sym (placed_taken raise raises structs members placings k x c.index.ensures)) gathers,
+      taken_all members k (IsPlaced raise structs) x c.index.ensures c.loop-k.invariant.1 fits,
       omega (arith, c.loop-k-test.true, c.len-k-end.ensures),
     )
 
-pub lay_members-close-requires-clause-align : goal.lay_members-close-requires-clause-align
-lay_members-close-requires-clause-align g t c =
+pub lay_members-close-requires-clause-base : goal.lay_members-close-requires-clause-base
+lay_members-close-requires-clause-base g t c =
     let raise = g.R.Rules.raised c.args.rules.now in
     let raises = g.met.R.Rules.raises c.args.rules.now in
-    let first = take c.loop-k.k c.args.members.now in
-    subst IsAlignment (sym c.loop-k.invariant.0.align) (largest_aligned (meanings raise raises c.args.structs.now first) (members_aligned raise raises c.args.structs.now first))
+    omega (arith, c.loop-k.invariant.0.align, actual_least (placed_of raise raises c.args.structs.now (take c.loop-k.k c.args.members.now) c.args.placings.now))
 
 pub lay_members-close-requires-clause-layout : goal.lay_members-close-requires-clause-layout
-lay_members-close-requires-clause-layout g t c =
+lay_members-close-requires-clause-layout g t c few =
     let raise = g.R.Rules.raised c.args.rules.now in
     let raises = g.met.R.Rules.raises c.args.rules.now in
     let structs = c.args.structs.now in
     let members = c.args.members.now in
+    let placings = c.args.placings.now in
     let k = c.loop-k.k in
     let all : take k members ≡ members = take_all k members (omega (arith, c.loop-k-test.false, c.len-k-end.ensures)) in
-    let gathers : Gathers c.loop-k.gathered (meanings raise raises structs members)
-    = subst (λ ms. Gathers c.loop-k.gathered (meanings raise raises structs ms)) all c.loop-k.invariant.0 in
-    let placed : AllByRecursion (IsPlaced raise structs) members = subst (AllByRecursion (IsPlaced raise structs)) all c.loop-k.invariant.1 in
-    group_layout raise raises structs members c.loop-k.gathered gathers c.requires.members placed
+    let gathers : Gathers c.loop-k.gathered (placed_of raise raises structs members placings)
+    = subst (λ ms. Gathers c.loop-k.gathered (placed_of raise raises structs ms placings)) all c.loop-k.invariant.0 in
+    let fits : AllByRecursion (IsPlaced raise structs) members = subst (AllByRecursion (IsPlaced raise structs)) all c.loop-k.invariant.1 in
+    let right = right_from (placed_of raise raises structs members placings) [] 0 c.requires.placed in
+    group_layout raise raises structs members placings c.loop-k.gathered gathers c.requires.members fits right few
 
 pub lay_members-returns-clause-measure : goal.lay_members-returns-clause-measure
 lay_members-returns-clause-measure g t c =
@@ -126,12 +142,14 @@ lay_members-returns-clause-measure g t c =
     let raises = g.met.R.Rules.raises c.args.rules.now in
     let structs = c.args.structs.now in
     let members = c.args.members.now in
+    let placings = c.args.placings.now in
     let k = c.loop-k.k in
     let all : take k members ≡ members = take_all k members (omega (arith, c.loop-k-test.false, c.len-k-end.ensures)) in
-    let gathers : Gathers c.loop-k.gathered (meanings raise raises structs members)
-    = subst (λ ms. Gathers c.loop-k.gathered (meanings raise raises structs ms)) all c.loop-k.invariant.0 in
-    let placed : AllByRecursion (IsPlaced raise structs) members = subst (AllByRecursion (IsPlaced raise structs)) all c.loop-k.invariant.1 in
-    closes_measures raise raises structs members c.loop-k.gathered gathers c.requires.members placed c.close.result c.close.ensures
+    let gathers : Gathers c.loop-k.gathered (placed_of raise raises structs members placings)
+    = subst (λ ms. Gathers c.loop-k.gathered (placed_of raise raises structs ms placings)) all c.loop-k.invariant.0 in
+    let fits : AllByRecursion (IsPlaced raise structs) members = subst (AllByRecursion (IsPlaced raise structs)) all c.loop-k.invariant.1 in
+    let right = right_from (placed_of raise raises structs members placings) [] 0 c.requires.placed in
+    closes_measures raise raises structs members placings c.loop-k.gathered gathers c.requires.members fits right c.close.result c.close.ensures
 
 pub lay_members-returns-clause-shut : goal.lay_members-returns-clause-shut
 lay_members-returns-clause-shut g t c =
@@ -139,12 +157,14 @@ lay_members-returns-clause-shut g t c =
     let raises = g.met.R.Rules.raises c.args.rules.now in
     let structs = c.args.structs.now in
     let members = c.args.members.now in
+    let placings = c.args.placings.now in
     let k = c.loop-k.k in
     let all : take k members ≡ members = take_all k members (omega (arith, c.loop-k-test.false, c.len-k-end.ensures)) in
-    let gathers : Gathers c.loop-k.gathered (meanings raise raises structs members)
-    = subst (λ ms. Gathers c.loop-k.gathered (meanings raise raises structs ms)) all c.loop-k.invariant.0 in
-    let placed : AllByRecursion (IsPlaced raise structs) members = subst (AllByRecursion (IsPlaced raise structs)) all c.loop-k.invariant.1 in
-    closes_shut raise raises structs members c.loop-k.gathered gathers c.requires.members placed c.close.result c.close.ensures
+    let gathers : Gathers c.loop-k.gathered (placed_of raise raises structs members placings)
+    = subst (λ ms. Gathers c.loop-k.gathered (placed_of raise raises structs ms placings)) all c.loop-k.invariant.0 in
+    let fits : AllByRecursion (IsPlaced raise structs) members = subst (AllByRecursion (IsPlaced raise structs)) all c.loop-k.invariant.1 in
+    let right = right_from (placed_of raise raises structs members placings) [] 0 c.requires.placed in
+    closes_shut raise raises structs members placings c.loop-k.gathered gathers c.requires.members fits right c.close.result c.close.ensures
 
 pub lay_type-returns-in_err-element-in-Array-clause-measure : goal.lay_type-returns-in_err-element-in-Array-clause-measure
 lay_type-returns-in_err-element-in-Array-clause-measure g t c =
@@ -186,6 +206,8 @@ lay_type-array_of-requires-in-Runtime-clause-align g t c =
 
 pub lay_type-lay_members-requires : goal.lay_type-lay_members-requires
 lay_type-lay_members-requires g t c κs within =
+    let raise = g.R.Rules.raised c.args.rules.now in
+    let raises = g.met.R.Rules.raises c.args.rules.now in
     let structs = c.args.structs.now in
     let number = c.in-Struct.number in
     let struct = c.index.result.now in
@@ -198,7 +220,13 @@ lay_type-lay_members-requires g t c κs within =
           c.requires.known,
           (
             c.requires.plain,
-            (all_stay number (length structs) (omega (arith, below)) struct.members is.earlier, plain_members struct.members is.some (c.requires.plain number struct c.index.ensures)),
+            (
+              all_stay number (length structs) (omega (arith, below)) struct.members is.earlier,
+              (
+                plain_members struct.members is.some (c.requires.plain number struct c.index.ensures),
+                subst (λ ps. misplaced_in raise structs struct.members ps ≡ None) (sym c.new-free.ensures) (none_misplaced (meanings raise raises structs struct.members) [] 0),
+              ),
+            ),
           ),
         ),
       ),
@@ -210,7 +238,8 @@ lay_type-returns-in-Struct-clause-measure g t c =
     let structs = c.args.structs.now in
     let number = c.in-Struct.number in
     let struct = c.index.result.now in
-    let is : measure raise structs (ty.Struct number) ≡ block raise structs struct.members
+    let is : measure raise structs (ty.Struct number) ≡ block raise structs struct.members []
     = over_struct (measuring raise) (numbered (measuring raise) structs) number
     ∙ numbered_is (measuring raise) structs number struct c.index.ensures (c.requires.known number struct c.index.ensures).earlier in
-    subst (λ t. Measures c.lay_members.result (measure raise structs t)) (sym c.in-Struct.is) (subst (Measures c.lay_members.result) (sym is) c.lay_members.ensures.measure)
+    subst (λ t. Measures c.lay_members.result (measure raise structs t)) (sym c.in-Struct.is) (subst (Measures c.lay_members.result) (sym is)
+    (subst (λ ps. Measures c.lay_members.result (block raise structs struct.members ps)) c.new-free.ensures c.lay_members.ensures.measure))
