@@ -25,12 +25,7 @@ pub enum Conversion {
 
 /// The bytes that are made of those of the file of this name.
 #[tactic(auto, unfolding(crate::specs::Converting::Makes))]
-pub fn made(
-    alloc: Global,
-    conversion: Conversion,
-    name: &Text,
-    bytes: &[u8],
-) -> Result<Bytes, Stop>
+pub fn made(alloc: Global, conversion: Conversion, name: &Text, bytes: &[u8]) -> Result<Bytes, Stop>
     requires { length bytes.now ≤ 402653184 }
     ensures { Gives (spec.Makes conversion name.now bytes.now) result }
 {

@@ -11,10 +11,10 @@ mod stop;
 mod value;
 
 pub use folding::constant;
+pub use gsl_tree::{Consts, Folded, Foldeds};
 pub use laws::{
     known_whatever_the_choices, left_open_where_choices_count, not_constant_by_form_or_index,
 };
-pub use gsl_tree::{Consts, Folded, Foldeds};
 
 #[cfg(test)]
 mod tests;

@@ -9,6 +9,5 @@ mod planning;
 pub use command::Command;
 pub use planning::plan;
 
-
 #[cfg(test)]
 mod tests;

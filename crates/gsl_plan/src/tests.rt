@@ -50,8 +50,14 @@ fn put(text: &mut String, word: &Text) -> Result<(), Memory> {
 #[test]
 fn each_command_has_its_operands(rt: HostRuntime) -> Result<(), Fail> {
     let alloc = rt.alloc();
-    assert_eq!(rt; shown(alloc, "compile comp o.spv a.comp")?.as_str(), "compile comp o.spv a.comp");
-    assert_eq!(rt; shown(alloc, "dis m.spv o.txt")?.as_str(), "dis m.spv o.txt");
+    assert_eq!(rt;
+        shown(alloc, "compile comp o.spv a.comp")?.as_str(),
+        "compile comp o.spv a.comp"
+    );
+    assert_eq!(rt;
+        shown(alloc, "dis m.spv o.txt")?.as_str(),
+        "dis m.spv o.txt"
+    );
     assert_eq!(rt; shown(alloc, "asm m.txt -")?.as_str(), "asm m.txt -");
     Ok(())
 }
@@ -59,10 +65,19 @@ fn each_command_has_its_operands(rt: HostRuntime) -> Result<(), Fail> {
 #[test]
 fn two_dashes_end_the_options(rt: HostRuntime) -> Result<(), Fail> {
     let alloc = rt.alloc();
-    assert_eq!(rt; shown(alloc, "compile -- comp -o -f")?.as_str(), "compile comp -o -f");
-    assert_eq!(rt; shown(alloc, "compile comp o.spv -- -f")?.as_str(), "compile comp o.spv -f");
+    assert_eq!(rt;
+        shown(alloc, "compile -- comp -o -f")?.as_str(),
+        "compile comp -o -f"
+    );
+    assert_eq!(rt;
+        shown(alloc, "compile comp o.spv -- -f")?.as_str(),
+        "compile comp o.spv -f"
+    );
     assert_eq!(rt; shown(alloc, "dis -- -- o.txt")?.as_str(), "dis -- o.txt");
-    assert_eq!(rt; shown(alloc, "asm m.txt o.spv --")?.as_str(), "asm m.txt o.spv");
+    assert_eq!(rt;
+        shown(alloc, "asm m.txt o.spv --")?.as_str(),
+        "asm m.txt o.spv"
+    );
     Ok(())
 }
 
