@@ -21,15 +21,15 @@ use Rattle.gsl_parse.specs.declared.opening.Opening.TheVariants as opening
 use Rattle.gsl_parse.specs.Openings.{opening_at}
 use Rattle.gsl_parse.specs.Qualifiers.{qualifiers}
 use Rattle.gsl_parse.specs.Variables.{local_from, phrase, header}
-use Rattle.gsl_parse.specs.Statements.{expect_key, test, optional, returned, stmt_of, statements, statements_of, alternative, statement_as, statement_whole}
+use Rattle.gsl_parse.specs.Statements.{expect_key, condition, optional, returned, stmt_of, statements, statements_of, alternative, statement_as, statement_whole}
 
 -- ---- parts of statements
 
-test_reads : (d : ℕ) (o c : Place) (a : Expr) (ts rest : Tokens) → expr d 0 ts ≡ Ok (a, sign c punct.RightParen ∷ rest) → test d (sign o punct.LeftParen ∷ ts) ≡ Ok (a, rest)
-unfolding test expect sees
+test_reads : (d : ℕ) (o c : Place) (a : Expr) (ts rest : Tokens) → expr d 0 ts ≡ Ok (a, sign c punct.RightParen ∷ rest) → condition d (sign o punct.LeftParen ∷ ts) ≡ Ok (a, rest)
+unfolding condition expect sees
 test_reads d o c a ts rest x = ap (λ (r : Outcome Expr). and_then r (λ a. expect punct.RightParen >>= λ _. pure a)) x
 
-pub test_complete : {a : Expr} {xs : Tokens} → IsExpr 0 a xs → (d : ℕ) (o c : Place) (rest : Tokens) → length (xs ++ sign c punct.RightParen ∷ rest) ≤ d → test d (sign o punct.LeftParen ∷ (xs ++ sign c punct.RightParen ∷ rest)) ≡ Ok (a, rest)
+pub test_complete : {a : Expr} {xs : Tokens} → IsExpr 0 a xs → (d : ℕ) (o c : Place) (rest : Tokens) → length (xs ++ sign c punct.RightParen ∷ rest) ≤ d → condition d (sign o punct.LeftParen ∷ (xs ++ sign c punct.RightParen ∷ rest)) ≡ Ok (a, rest)
 test_complete {a = a} {xs = xs} x d o c rest fits =
     test_reads d o c a (xs ++ sign c punct.RightParen ∷ rest) rest (expr_complete x d (sign c punct.RightParen ∷ rest) (omega arith) fits (right_paren_ends 0 c rest))
 
@@ -91,7 +91,7 @@ local_reads d stmt a ts rest h x = ap (λ (o : Opening). statement_as d stmt o t
 pub phrase_reads : (d : ℕ) (stmt : Parser Stmt) (i : ForInit) (ts rest : Tokens) → opening_at ts ≡ opening.Phrase → phrase d ts ≡ Ok (i, rest) → statement_whole d stmt ts ≡ Ok (stmt_of i, rest)
 phrase_reads d stmt i ts rest h x = ap (λ (o : Opening). statement_as d stmt o ts) h ∙ ap (λ (r : Outcome ForInit). and_then r (λ i. pure (stmt_of i))) x
 
-pub if_reads : (d : ℕ) (stmt : Parser Stmt) (p : Place) (a : Expr) (b : Stmt) (ts us vs : Tokens) → test d ts ≡ Ok (a, us) → stmt us ≡ Ok (b, vs) → statement_whole d stmt (word p key.If ∷ ts) ≡ alternative d stmt p a b vs
+pub if_reads : (d : ℕ) (stmt : Parser Stmt) (p : Place) (a : Expr) (b : Stmt) (ts us vs : Tokens) → condition d ts ≡ Ok (a, us) → stmt us ≡ Ok (b, vs) → statement_whole d stmt (word p key.If ∷ ts) ≡ alternative d stmt p a b vs
 unfolding opening_at
 if_reads d stmt p a b ts us vs x y =
     ap (λ (r : Outcome Expr). and_then r (λ a. stmt >>= λ b. alternative d stmt p a b)) x ∙ ap (λ (r : Outcome Stmt). and_then r (λ b. alternative d stmt p a b)) y
@@ -104,7 +104,7 @@ pub else_reads : (d : ℕ) (stmt : Parser Stmt) (p m : Place) (a : Expr) (b c : 
 unfolding alternative sees_key
 else_reads d stmt p m a b c ts rest x = ap (λ (r : Outcome Stmt). and_then r (λ c. pure (s.IfElse p a b c))) x
 
-pub switch_reads : (d : ℕ) (stmt : Parser Stmt) (p m : Place) (a : Expr) (bs : List Stmt) (ts us rest : Tokens) → test d ts ≡ Ok (a, sign m punct.LeftBrace ∷ us) → statements_of stmt us ≡ Ok (bs, rest)
+pub switch_reads : (d : ℕ) (stmt : Parser Stmt) (p m : Place) (a : Expr) (bs : List Stmt) (ts us rest : Tokens) → condition d ts ≡ Ok (a, sign m punct.LeftBrace ∷ us) → statements_of stmt us ≡ Ok (bs, rest)
     → statement_whole d stmt (word p key.Switch ∷ ts) ≡ Ok (s.Switch p a bs, rest)
 unfolding opening_at expect sees
 switch_reads d stmt p m a bs ts us rest x y =
@@ -119,16 +119,16 @@ pub default_reads : (d : ℕ) (stmt : Parser Stmt) (p q : Place) (rest : Tokens)
 unfolding opening_at expect sees
 default_reads d stmt p q rest = refl
 
-pub while_reads : (d : ℕ) (stmt : Parser Stmt) (p : Place) (a : Expr) (b : Stmt) (ts us rest : Tokens) → test d ts ≡ Ok (a, us) → stmt us ≡ Ok (b, rest) → statement_whole d stmt (word p key.While ∷ ts) ≡ Ok (s.While p a b, rest)
+pub while_reads : (d : ℕ) (stmt : Parser Stmt) (p : Place) (a : Expr) (b : Stmt) (ts us rest : Tokens) → condition d ts ≡ Ok (a, us) → stmt us ≡ Ok (b, rest) → statement_whole d stmt (word p key.While ∷ ts) ≡ Ok (s.While p a b, rest)
 unfolding opening_at
 while_reads d stmt p a b ts us rest x y =
     ap (λ (r : Outcome Expr). and_then r (λ a. stmt >>= λ b. pure (s.While p a b))) x ∙ ap (λ (r : Outcome Stmt). and_then r (λ b. pure (s.While p a b))) y
 
-pub do_reads : (d : ℕ) (stmt : Parser Stmt) (p w q : Place) (a : Expr) (b : Stmt) (ts us rest : Tokens) → stmt ts ≡ Ok (b, word w key.While ∷ us) → test d us ≡ Ok (a, sign q punct.Semicolon ∷ rest)
+pub do_reads : (d : ℕ) (stmt : Parser Stmt) (p w q : Place) (a : Expr) (b : Stmt) (ts us rest : Tokens) → stmt ts ≡ Ok (b, word w key.While ∷ us) → condition d us ≡ Ok (a, sign q punct.Semicolon ∷ rest)
     → statement_whole d stmt (word p key.Do ∷ ts) ≡ Ok (s.Do p b a, rest)
 unfolding opening_at expect_key sees_key expect sees
 do_reads d stmt p w q a b ts us rest x y =
-    ap (λ (r : Outcome Stmt). and_then r (λ b. expect_key key.While >>= λ _. test d >>= λ a. expect punct.Semicolon >>= λ _. pure (s.Do p b a))) x
+    ap (λ (r : Outcome Stmt). and_then r (λ b. expect_key key.While >>= λ _. condition d >>= λ a. expect punct.Semicolon >>= λ _. pure (s.Do p b a))) x
     ∙ ap (λ (r : Outcome Expr). and_then r (λ a. expect punct.Semicolon >>= λ _. pure (s.Do p b a))) y
 
 pub for_reads : (d : ℕ) (stmt : Parser Stmt) (p o : Place) (i : ForInit) (a b : Option Expr) (c : Stmt) (ts us vs ws rest : Tokens) → header d ts ≡ Ok (i, us) → optional d punct.Semicolon us ≡ Ok (a, vs) → optional d punct.RightParen vs ≡ Ok (b, ws)

@@ -25,7 +25,7 @@ use Rattle.gsl_parse.specs.declared.opening.Opening.{Opening}
 use Rattle.gsl_parse.specs.declared.opening.Opening.TheVariants as opening
 use Rattle.gsl_parse.specs.Openings.{opening_punct, opening_key, opening_by, opening_at}
 use Rattle.gsl_parse.specs.Statements as read
-use Rattle.gsl_parse.specs.Statements.{expect_key, test, optional, returned, stmt_of, statements, statements_of}
+use Rattle.gsl_parse.specs.Statements.{expect_key, condition, optional, returned, stmt_of, statements, statements_of}
 
 -- ---- what a statement begins with
 
@@ -142,8 +142,8 @@ pub record Tested (a : Expr) (xs : Tokens) : Type 0 where
   pub xs_is : xs ≡ sign open_at punct.LeftParen ∷ (inner ++ sign close_at punct.RightParen ∷ [])
   pub is : IsExpr 0 a inner
 
-pub test_sound : (d : ℕ) (ts : Tokens) → Good Tested ts (test d ts)
-unfolding test
+pub test_sound : (d : ℕ) (ts : Tokens) → Good Tested ts (condition d ts)
+unfolding condition
 test_sound d ts =
     good_expect Tested punct.LeftParen ts (λ _. expr d 0 >>= λ a. expect punct.RightParen >>= λ _. pure a)
     (λ o rest e. good_then (IsExpr 0) (λ b ys. Tested b (sign o punct.LeftParen ∷ ys)) rest (expr d 0 rest) (λ a. expect punct.RightParen >>= λ _. pure a) (expr_sound d 0 rest (omega arith))

@@ -23,20 +23,20 @@ use Rattle.gsl_parse.specs.Openings.{opening_at}
 use Rattle.gsl_parse.specs.Qualifiers.{qualifiers}
 use Rattle.gsl_parse.specs.Variables.{local_from, phrase, header}
 use Rattle.gsl_parse.specs.Statements as read
-use Rattle.gsl_parse.specs.Statements.{expect_key, test, optional, returned, stmt_of, statements_of, alternative, statement_as, statement}
+use Rattle.gsl_parse.specs.Statements.{expect_key, condition, optional, returned, stmt_of, statements_of, alternative, statement_as, statement}
 use Rattle.gsl_parse.proofs.SoundDeclarations.{qualifiers_sound, local_from_sound, phrase_sound, header_sound}
 use Rattle.gsl_parse.proofs.SoundStatementParts.{Opens, opens, Ended, closed_ended, carried, before_else, good_key, Tested, test_sound, tested_is, Optioned, optional_sound, optioned_is, Alone, word_sound, returned_sound, of_init, Enclosed, statements_of_sound}
 
 module _ (d : ℕ) (stmt : Parser Stmt) (each : (ts : Tokens) → GoodTo Ended ts (stmt ts)) where
   -- ---- statements with statements in them, which an else may follow
 
-  -- behind `if`, its test xs and its statement ys
+  -- behind `if`, its condition xs and its statement ys
   alternative_sound : (p : Place) (a : Expr) (xs : Tokens) (b : Stmt) (ys ts : Tokens) → Tested a xs → Ended b ys ts
       → GoodTo (λ c zs end. Ended c (word p key.If ∷ (xs ++ (ys ++ zs))) end) ts (alternative d stmt p a b ts)
   unfolding alternative
   alternative_sound p a xs b ys ts w v = go (sees_key key.Else ts) refl
     where
-      -- what is known of a statement with its test written out
+      -- what is known of a statement with its condition written out
       led : (c : Stmt) (us end : Tokens) → Ended c (word p key.If ∷ (sign w.open_at punct.LeftParen ∷ (w.inner ++ sign w.close_at punct.RightParen ∷ us))) end → Ended c (word p key.If ∷ (xs ++ us)) end
       led c us end u = subst (λ (z : Tokens). Ended c (word p key.If ∷ z) end) (sym (tested_is w us)) u
 
@@ -52,17 +52,17 @@ module _ (d : ℕ) (stmt : Parser Stmt) (each : (ts : Tokens) → GoodTo Ended t
 
   if_sound : (ts : Tokens) → sees_key key.If ts ≡ true → GoodTo Ended ts (statement_as d stmt opening.If ts)
   if_sound ts h =
-      to_word Ended key.If ts (λ p. test d >>= λ a. stmt >>= λ b. alternative d stmt p a b) h
-      (λ p rest e. to_then (λ a xs after. Tested a xs) (λ b ys end. Ended b (word p key.If ∷ ys) end) rest (test d rest) (λ a. stmt >>= λ b. alternative d stmt p a b)
-      (to_of Tested (λ a xs after. Tested a xs) rest (test d rest) (test_sound d rest) (λ a xs after w. w))
+      to_word Ended key.If ts (λ p. condition d >>= λ a. stmt >>= λ b. alternative d stmt p a b) h
+      (λ p rest e. to_then (λ a xs after. Tested a xs) (λ b ys end. Ended b (word p key.If ∷ ys) end) rest (condition d rest) (λ a. stmt >>= λ b. alternative d stmt p a b)
+      (to_of Tested (λ a xs after. Tested a xs) rest (condition d rest) (test_sound d rest) (λ a xs after w. w))
       (λ a xs after e2 w. to_then Ended (λ b ys end. Ended b (word p key.If ∷ (xs ++ ys)) end) after (stmt after) (λ b. alternative d stmt p a b) (each after)
       (λ b ys last e3 v. alternative_sound p a xs b ys last w v)))
 
   while_sound : (ts : Tokens) → sees_key key.While ts ≡ true → GoodTo Ended ts (statement_as d stmt opening.While ts)
   while_sound ts h =
-      to_word Ended key.While ts (λ p. test d >>= λ a. stmt >>= λ b. pure (s.While p a b)) h
-      (λ p rest e. to_then (λ a xs after. Tested a xs) (λ b ys end. Ended b (word p key.While ∷ ys) end) rest (test d rest) (λ a. stmt >>= λ b. pure (s.While p a b))
-      (to_of Tested (λ a xs after. Tested a xs) rest (test d rest) (test_sound d rest) (λ a xs after w. w))
+      to_word Ended key.While ts (λ p. condition d >>= λ a. stmt >>= λ b. pure (s.While p a b)) h
+      (λ p rest e. to_then (λ a xs after. Tested a xs) (λ b ys end. Ended b (word p key.While ∷ ys) end) rest (condition d rest) (λ a. stmt >>= λ b. pure (s.While p a b))
+      (to_of Tested (λ a xs after. Tested a xs) rest (condition d rest) (test_sound d rest) (λ a xs after w. w))
       (λ a xs after e2 w. to_map Ended (λ b ys end. Ended b (word p key.While ∷ (xs ++ ys)) end) (λ b. s.While p a b) after (stmt after) (each after)
       (λ b ys end u. subst (λ (z : Tokens). Ended (s.While p a b) (word p key.While ∷ z) end) (sym (tested_is w ys)) (carried end (λ k x. stmts.IsStmt.while w.open_at w.close_at w.is x) u))))
 
@@ -97,8 +97,8 @@ module _ (d : ℕ) (stmt : Parser Stmt) (each : (ts : Tokens) → GoodTo Ended t
 
   switch_sound : (ts : Tokens) → sees_key key.Switch ts ≡ true → Good (IsStmt true) ts (statement_as d stmt opening.Switch ts)
   switch_sound ts h =
-      good_word (IsStmt true) key.Switch ts (λ p. test d >>= λ a. expect punct.LeftBrace >>= λ _. statements_of stmt >>= λ bs. pure (s.Switch p a bs)) h
-      (λ p rest e. good_then Tested (λ b ys. IsStmt true b (word p key.Switch ∷ ys)) rest (test d rest) (λ a. expect punct.LeftBrace >>= λ _. statements_of stmt >>= λ bs. pure (s.Switch p a bs)) (test_sound d rest)
+      good_word (IsStmt true) key.Switch ts (λ p. condition d >>= λ a. expect punct.LeftBrace >>= λ _. statements_of stmt >>= λ bs. pure (s.Switch p a bs)) h
+      (λ p rest e. good_then Tested (λ b ys. IsStmt true b (word p key.Switch ∷ ys)) rest (condition d rest) (λ a. expect punct.LeftBrace >>= λ _. statements_of stmt >>= λ bs. pure (s.Switch p a bs)) (test_sound d rest)
       (λ a xs after e2 w. good_expect (λ b ys. IsStmt true b (word p key.Switch ∷ (xs ++ ys))) punct.LeftBrace after (λ _. statements_of stmt >>= λ bs. pure (s.Switch p a bs))
       (λ m last e3. good_map Enclosed (λ b ys. IsStmt true b (word p key.Switch ∷ (xs ++ sign m punct.LeftBrace ∷ ys))) (λ bs. s.Switch p a bs) last (statements_of stmt last) (statements_of_sound stmt each last)
       (λ bs zs r. subst (λ (z : Tokens). IsStmt true (s.Switch p a bs) (word p key.Switch ∷ z)) (sym (tested_is w (sign m punct.LeftBrace ∷ zs)))
@@ -118,11 +118,11 @@ module _ (d : ℕ) (stmt : Parser Stmt) (each : (ts : Tokens) → GoodTo Ended t
 
   do_sound : (ts : Tokens) → sees_key key.Do ts ≡ true → Good (IsStmt true) ts (statement_as d stmt opening.Do ts)
   do_sound ts h =
-      good_word (IsStmt true) key.Do ts (λ p. stmt >>= λ b. expect_key key.While >>= λ _. test d >>= λ a. expect punct.Semicolon >>= λ _. pure (s.Do p b a)) h
-      (λ p rest e. good_then (IsStmt false) (λ c ys. IsStmt true c (word p key.Do ∷ ys)) rest (stmt rest) (λ b. expect_key key.While >>= λ _. test d >>= λ a. expect punct.Semicolon >>= λ _. pure (s.Do p b a))
+      good_word (IsStmt true) key.Do ts (λ p. stmt >>= λ b. expect_key key.While >>= λ _. condition d >>= λ a. expect punct.Semicolon >>= λ _. pure (s.Do p b a)) h
+      (λ p rest e. good_then (IsStmt false) (λ c ys. IsStmt true c (word p key.Do ∷ ys)) rest (stmt rest) (λ b. expect_key key.While >>= λ _. condition d >>= λ a. expect punct.Semicolon >>= λ _. pure (s.Do p b a))
       (good_of Ended (IsStmt false) rest (stmt rest) (each rest) (λ b xs after v. v.0))
-      (λ b xs after e2 v. good_key (λ c ys. IsStmt true c (word p key.Do ∷ (xs ++ ys))) key.While after (λ _. test d >>= λ a. expect punct.Semicolon >>= λ _. pure (s.Do p b a))
-      (λ m r3 e3. good_then Tested (λ c ys. IsStmt true c (word p key.Do ∷ (xs ++ word m key.While ∷ ys))) r3 (test d r3) (λ a. expect punct.Semicolon >>= λ _. pure (s.Do p b a)) (test_sound d r3)
+      (λ b xs after e2 v. good_key (λ c ys. IsStmt true c (word p key.Do ∷ (xs ++ ys))) key.While after (λ _. condition d >>= λ a. expect punct.Semicolon >>= λ _. pure (s.Do p b a))
+      (λ m r3 e3. good_then Tested (λ c ys. IsStmt true c (word p key.Do ∷ (xs ++ word m key.While ∷ ys))) r3 (condition d r3) (λ a. expect punct.Semicolon >>= λ _. pure (s.Do p b a)) (test_sound d r3)
       (λ a ys r4 e4 w. good_close (λ c zs. IsStmt true c (word p key.Do ∷ (xs ++ word m key.While ∷ (ys ++ zs)))) punct.Semicolon (s.Do p b a) r4
       (λ q. subst (λ (z : Tokens). IsStmt true (s.Do p b a) (word p key.Do ∷ (xs ++ word m key.While ∷ z))) (sym (tested_is w (sign q punct.Semicolon ∷ [])))
       (stmts.IsStmt.do_while m w.open_at w.close_at q v w.is))))))

@@ -24,8 +24,8 @@ unfoldable pub expect_key : Key → Parser Place
 expect_key w ts = if sees_key w ts then take_one ts else Err (length ts)
 
 -- an expression in parentheses
-unfoldable pub test : ℕ → Parser Expr
-test d = expect punct.LeftParen >>= λ _. expr d 0 >>= λ a. expect punct.RightParen >>= λ _. pure a
+unfoldable pub condition : ℕ → Parser Expr
+condition d = expect punct.LeftParen >>= λ _. expr d 0 >>= λ a. expect punct.RightParen >>= λ _. pure a
 
 -- an expression or none, with the punctuator that ends it
 unfoldable pub optional : ℕ → Punct → Parser (Option Expr)
@@ -70,12 +70,12 @@ module _ (d : ℕ) (stmt : Parser Stmt) where
   abbrev pub statement_as : Opening → Parser Stmt
   statement_as opening.Empty = take_one >>= λ p. pure (s.Empty p)
   statement_as opening.Block = take_one >>= λ p. statements_of stmt >>= λ bs. pure (s.Block p bs)
-  statement_as opening.If = take_one >>= λ p. test d >>= λ a. stmt >>= λ b. alternative p a b
-  statement_as opening.Switch = take_one >>= λ p. test d >>= λ a. expect punct.LeftBrace >>= λ _. statements_of stmt >>= λ bs. pure (s.Switch p a bs)
+  statement_as opening.If = take_one >>= λ p. condition d >>= λ a. stmt >>= λ b. alternative p a b
+  statement_as opening.Switch = take_one >>= λ p. condition d >>= λ a. expect punct.LeftBrace >>= λ _. statements_of stmt >>= λ bs. pure (s.Switch p a bs)
   statement_as opening.Case = take_one >>= λ p. expr d 2 >>= λ a. expect punct.Colon >>= λ _. pure (s.Case p a)
   statement_as opening.Default = take_one >>= λ p. expect punct.Colon >>= λ _. pure (s.Default p)
-  statement_as opening.While = take_one >>= λ p. test d >>= λ a. stmt >>= λ b. pure (s.While p a b)
-  statement_as opening.Do = take_one >>= λ p. stmt >>= λ b. expect_key key.While >>= λ _. test d >>= λ a. expect punct.Semicolon >>= λ _. pure (s.Do p b a)
+  statement_as opening.While = take_one >>= λ p. condition d >>= λ a. stmt >>= λ b. pure (s.While p a b)
+  statement_as opening.Do = take_one >>= λ p. stmt >>= λ b. expect_key key.While >>= λ _. condition d >>= λ a. expect punct.Semicolon >>= λ _. pure (s.Do p b a)
   statement_as opening.For = take_one >>= λ p. expect punct.LeftParen >>= λ _. header d >>= λ i. for_test p i
   statement_as opening.Break = word >>= λ p. pure (s.Break p)
   statement_as opening.Continue = word >>= λ p. pure (s.Continue p)

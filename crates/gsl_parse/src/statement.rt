@@ -27,9 +27,9 @@ fn expect_key(tokens: &mut Cursor<'_>, key: Key) -> Result<Place, Stop>
 }
 
 /// An expression in parentheses.
-#[tactic(auto, unfolding(crate::specs::Statements::test))]
+#[tactic(auto, unfolding(crate::specs::Statements::condition))]
 fn test(alloc: Global, tokens: &mut Cursor<'_>, depth: usize) -> Result<Expr, Stop>
-    ensures { Reads (spec.test depth tokens.old) result tokens.new }
+    ensures { Reads (spec.condition depth tokens.old) result tokens.new }
 {
     tokens.expect(Punct::LeftParen)?;
     let tree = expr(alloc, tokens, depth, 0)?;
