@@ -1,5 +1,5 @@
 #!/usr/bin/env bash
-# Times the program beside Khronos' compiler, in one run: seconds, peak memory in KiB, and their ratio; then the program's
+# Times the program beside Khronos' compiler, assembler and disassembler, in one run: seconds, peak memory in KiB, and their ratio; then the program's
 # instructions as inputs double. What is not installed is left out. It is no part of the gate.
 set -eu
 top=$(cd "$(dirname "${BASH_SOURCE[0]}")/.." && pwd)
@@ -33,10 +33,27 @@ beside() {
   else
     theirs="- -"
   fi
-  awk -v name="$1" -v bytes="$(stat -c %s "$made/a.comp")" -v ours="$ours" -v theirs="$theirs" 'BEGIN {
+  told "$1" "$made/a.comp" "$ours" glslang "$theirs"
+}
+
+# The time and memory of both, and how many times as fast ours is.
+told() {
+  awk -v name="$1" -v bytes="$(stat -c %s "$2")" -v ours="$3" -v other="$4" -v theirs="$5" 'BEGIN {
     split(ours, o, " "); split(theirs, t, " ");
     ratio = t[1] == "-" || o[1] == 0 ? "-" : sprintf("%.1f", t[1] / o[1]);
-    printf "%-24s %9d bytes   ours %6.2f s %8d KiB   glslang %6s s %8s KiB   times as fast %s\n", name, bytes, o[1], o[2], t[1], t[2], ratio }'
+    printf "%-24s %9d bytes   ours %6.2f s %8d KiB   %-9s %6s s %8s KiB   times as fast %s\n", name, bytes, o[1], o[2], other, t[1], t[2], ratio }'
+}
+
+# A module as text: `asm`, and then `dis`. Khronos' text has no line with the version and the bound, and names the function's control.
+as_text() {
+  local theirs="- -"
+  source_of assembly "$2" >"$made/a.txt"
+  sed '1d; s/OpFunction %2 0/OpFunction %2 None/' "$made/a.txt" >"$made/b.txt"
+  if command -v spirv-as >/dev/null; then theirs=$(measure spirv-as --target-env spv1.0 -o "$made/b.spv" "$made/b.txt"); fi
+  told "asm, $1" "$made/a.txt" "$(measure "$program" asm "$made/a.txt" "$made/a.spv")" spirv-as "$theirs"
+  if command -v spirv-dis >/dev/null; then theirs=$(measure spirv-dis --raw-id -o "$made/b.txt" "$made/a.spv"); fi
+  told "dis, $1" "$made/a.txt" "$(measure "$program" dis "$made/a.spv" "$made/c.txt")" spirv-dis "$theirs"
+  cmp "$made/a.txt" "$made/c.txt"
 }
 
 # valgrind cannot read what the program says for debuggers, so it counts a copy without it.
@@ -60,6 +77,8 @@ beside "100 functions" functions 100
 beside "1,000 functions" functions 1000
 beside "1 MiB of dense tokens" tokens 1048000
 beside "a chain of 10,000 macros" macros 10000
+as_text "1 MiB" 1048576
+as_text "64 MiB" 67108864
 if command -v valgrind >/dev/null; then
   doubling "tokens" tokens 100000
   doubling "macros defined" directives 2000

@@ -8,6 +8,7 @@ generate.py macros N        N object macros, each defined as the one before it, 
 generate.py uses N          N uses of a function macro in one another's results
 generate.py directives N    N definitions of macros
 generate.py conditions N    N conditions, one in another
+generate.py assembly BYTES  the text of a module, of sums one behind the other, about so many bytes
 """
 import sys
 
@@ -49,6 +50,19 @@ def directives(count):
         yield f"#define M{k} {k}\n#undef M{k}\n"
 
 
+def assembly(size):
+    line = len("%1000000 = OpIAdd %5 %6 %6\n")
+    count = max(size // line, 1)
+    yield f"spirv 1.0 {count + 10}\n"
+    yield "OpCapability Shader\nOpMemoryModel Logical GLSL450\n"
+    yield "OpEntryPoint GLCompute %1 \"main\"\nOpExecutionMode %1 LocalSize 1 1 1\n"
+    yield "%2 = OpTypeVoid\n%3 = OpTypeFunction %2\n%5 = OpTypeInt 32 0\n%6 = OpConstant %5 7\n"
+    yield "%1 = OpFunction %2 0 %3\n%4 = OpLabel\n"
+    for k in range(count):
+        yield f"%{k + 7} = OpIAdd %5 %6 %6\n"
+    yield "OpReturn\nOpFunctionEnd\n"
+
+
 def conditions(count):
     yield "#version 450\n"
     for _ in range(count):
@@ -58,7 +72,7 @@ def conditions(count):
         yield "#endif\n"
 
 
-KINDS = {f.__name__: f for f in (functions, tokens, macros, uses, directives, conditions)}
+KINDS = {f.__name__: f for f in (functions, tokens, macros, uses, directives, conditions, assembly)}
 
 if len(sys.argv) != 3 or sys.argv[1] not in KINDS or not sys.argv[2].isdigit():
     sys.exit(__doc__)
