@@ -106,7 +106,7 @@ variable_behind_the_function : broken (module_with 15 (front ++ decorations ++ g
 unfolding form_of blocks_from reads
 variable_behind_the_function = refl
 
-unknown_opcode : broken (module_with 14 (front ++ decorations ++ globals ++ begun 1 4 ++ i op.KILL [] ∷ ended)) ≡ Some (1, 79)
+unknown_opcode : broken (module_with 14 (front ++ decorations ++ globals ++ begun 1 4 ++ i op.NOT (5 ∷ 11 ∷ 10 ∷ []) ∷ returned ++ ended)) ≡ Some (1, 79)
 unfolding form_of blocks_from reads
 unknown_opcode = refl
 
@@ -161,6 +161,42 @@ function_without_end = refl
 two_blocks : broken (module_with 15 (front ++ decorations ++ globals ++ begun 1 4 ++ returned ++ i op.LABEL (14 ∷ []) ∷ returned ++ ended)) ≡ Some (12, 72)
 unfolding form_of blocks_from reads
 two_blocks = refl
+
+a_switch : broken (module_with 17 (front ++ decorations ++ globals ++ begun 1 4 ++ i op.SELECTION_MERGE (14 ∷ 0 ∷ []) ∷ i op.SWITCH (10 ∷ 14 ∷ 0 ∷ 15 ∷ 1 ∷ 16 ∷ []) ∷ i op.LABEL (15 ∷ []) ∷ i op.BRANCH (16 ∷ []) ∷ i op.LABEL (16 ∷ []) ∷ i op.BRANCH (14 ∷ []) ∷ i op.LABEL (14 ∷ []) ∷ returned ++ ended)) ≡ None
+unfolding form_of blocks_from reads
+a_switch = refl
+
+cases_in_another_order : broken (module_with 17 (front ++ decorations ++ globals ++ begun 1 4 ++ i op.SELECTION_MERGE (14 ∷ 0 ∷ []) ∷ i op.SWITCH (10 ∷ 14 ∷ 0 ∷ 16 ∷ 1 ∷ 15 ∷ []) ∷ i op.LABEL (15 ∷ []) ∷ i op.BRANCH (14 ∷ []) ∷ i op.LABEL (16 ∷ []) ∷ i op.BRANCH (14 ∷ []) ∷ i op.LABEL (14 ∷ []) ∷ returned ++ ended)) ≡ Some (12, 72)
+unfolding form_of blocks_from reads
+cases_in_another_order = refl
+
+literal_twice : broken (module_with 16 (front ++ decorations ++ globals ++ begun 1 4 ++ i op.SELECTION_MERGE (14 ∷ 0 ∷ []) ∷ i op.SWITCH (10 ∷ 14 ∷ 0 ∷ 15 ∷ 0 ∷ 15 ∷ []) ∷ i op.LABEL (15 ∷ []) ∷ i op.BRANCH (14 ∷ []) ∷ i op.LABEL (14 ∷ []) ∷ returned ++ ended)) ≡ Some (12, 72)
+unfolding form_of blocks_from reads
+literal_twice = refl
+
+switch_on_a_pointer : broken (module_with 15 (front ++ decorations ++ globals ++ begun 1 4 ++ i op.SELECTION_MERGE (14 ∷ 0 ∷ []) ∷ i op.SWITCH (9 ∷ 14 ∷ []) ∷ i op.LABEL (14 ∷ []) ∷ returned ++ ended)) ≡ Some (14, 82)
+unfolding form_of blocks_from reads
+switch_on_a_pointer = refl
+
+merge_before_a_load : broken (module_with 15 (front ++ decorations ++ globals ++ begun 1 4 ++ i op.SELECTION_MERGE (14 ∷ 0 ∷ []) ∷ sum 12 10 ++ i op.BRANCH (14 ∷ []) ∷ i op.LABEL (14 ∷ []) ∷ returned ++ ended)) ≡ Some (10, 79)
+unfolding form_of blocks_from reads
+merge_before_a_load = refl
+
+a_loop : broken (module_with 18 (front ++ decorations ++ globals ++ begun 1 4 ++ i op.BRANCH (15 ∷ []) ∷ i op.LABEL (15 ∷ []) ∷ i op.LOOP_MERGE (14 ∷ 16 ∷ 0 ∷ []) ∷ i op.BRANCH (17 ∷ []) ∷ i op.LABEL (17 ∷ []) ∷ i op.BRANCH (14 ∷ []) ∷ i op.LABEL (16 ∷ []) ∷ i op.BRANCH (15 ∷ []) ∷ i op.LABEL (14 ∷ []) ∷ returned ++ ended)) ≡ None
+unfolding form_of blocks_from reads
+a_loop = refl
+
+a_return_in_a_continue_part : broken (module_with 18 (front ++ decorations ++ globals ++ begun 1 4 ++ i op.BRANCH (15 ∷ []) ∷ i op.LABEL (15 ∷ []) ∷ i op.LOOP_MERGE (14 ∷ 16 ∷ 0 ∷ []) ∷ i op.BRANCH (17 ∷ []) ∷ i op.LABEL (17 ∷ []) ∷ i op.BRANCH (14 ∷ []) ∷ i op.LABEL (16 ∷ []) ∷ i op.RETURN [] ∷ i op.LABEL (14 ∷ []) ∷ returned ++ ended)) ≡ Some (12, 72)
+unfolding form_of blocks_from reads
+a_return_in_a_continue_part = refl
+
+a_value_returned_from_main : broken (module_with 14 (front ++ decorations ++ globals ++ begun 1 4 ++ i op.RETURN_VALUE (10 ∷ []) ∷ ended)) ≡ Some (16, 79)
+unfolding form_of blocks_from reads
+a_value_returned_from_main = refl
+
+kill_in_a_compute_shader : broken (module_with 14 (front ++ decorations ++ globals ++ begun 1 4 ++ i op.KILL [] ∷ ended)) ≡ Some (16, 79)
+unfolding form_of blocks_from reads
+kill_in_a_compute_shader = refl
 
 value_of_another_function : broken (module_with 16 (front ++ decorations ++ globals ++ main ++ begun 14 15 ++ store 12 ++ returned ++ ended)) ≡ Some (13, 105)
 unfolding form_of blocks_from reads

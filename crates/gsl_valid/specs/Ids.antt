@@ -1,8 +1,9 @@
 -- The ids that instructions define and use (SPIR-V 1.0, 2.16).
 use Rattle.std.specs.Prelude.{ℕ, Bool, false, ◌==◌, List, [], ◌∷◌, Option, Some, None, if◌then◌else◌}
 use Rattle.std.specs.List.{list_any}
+use Rattle.gsl_instr.specs.Instructions.{seconds}
 use Rattle.gsl_words.specs.declared.module.Instr.{Instr}
-use Rattle.gsl_valid.specs.Instruction.{Instruction, EntryPoint, ExecutionMode, Name, MemberName, Decorate, MemberDecorate, TypeVoid, TypeInt, TypeStruct, TypePointer, TypeFunction, Constant, Variable, Function, Label, AccessChain, Load, IAdd, Store, Unknown, read}
+use Rattle.gsl_valid.specs.Instruction.{Instruction, EntryPoint, ExecutionMode, Name, MemberName, Decorate, MemberDecorate, TypeVoid, TypeInt, TypeStruct, TypePointer, TypeFunction, Constant, Variable, Function, Label, AccessChain, Load, IAdd, Store, SelectionMerge, LoopMerge, Branch, BranchConditional, Switch, ReturnValue, Unknown, read}
 use Rattle.gsl_valid.specs.Placed.{Code}
 
 -- the id that an instruction defines
@@ -33,6 +34,9 @@ needs (AccessChain type r base indexes) = type ∷ base ∷ indexes
 needs (Load type r pointer) = type ∷ pointer ∷ []
 needs (IAdd type r a b) = type ∷ a ∷ b ∷ []
 needs (Store pointer value) = pointer ∷ value ∷ []
+needs (BranchConditional condition on_true on_false) = condition ∷ []
+needs (Switch selector default targets) = selector ∷ []
+needs (ReturnValue value) = value ∷ []
 needs _ = []
 
 -- the ids that an instruction uses and that may come later
@@ -43,6 +47,11 @@ mentions (Name target text) = target ∷ []
 mentions (MemberName target member text) = target ∷ []
 mentions (Decorate target decoration literals) = target ∷ []
 mentions (MemberDecorate target member decoration literals) = target ∷ []
+mentions (SelectionMerge merge control) = merge ∷ []
+mentions (LoopMerge merge continue_target control) = merge ∷ continue_target ∷ []
+mentions (Branch target) = target ∷ []
+mentions (BranchConditional condition on_true on_false) = on_true ∷ on_false ∷ []
+mentions (Switch selector default targets) = default ∷ seconds targets
 mentions _ = []
 
 -- whether there is an id, and it is this

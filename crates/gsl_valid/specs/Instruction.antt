@@ -26,7 +26,16 @@ pub data Instruction : Type 0 where
   Load : (type result pointer : ℕ) → Instruction
   IAdd : (type result a b : ℕ) → Instruction
   Store : (pointer value : ℕ) → Instruction
+  -- the merge of a selection and of a loop, with its control word
+  SelectionMerge : (merge control : ℕ) → Instruction
+  LoopMerge : (merge continue_target control : ℕ) → Instruction
+  Branch : (target : ℕ) → Instruction
+  BranchConditional : (condition on_true on_false : ℕ) → Instruction
+  -- literals and labels in turn
+  Switch : (selector default : ℕ) (targets : List ℕ) → Instruction
+  Kill : Instruction
   Return : Instruction
+  ReturnValue : (value : ℕ) → Instruction
   FunctionEnd : Instruction
   -- any other instruction
   Unknown : Instruction
@@ -78,7 +87,14 @@ readers =
     ∷ reads op.LOAD (λ a. Load (arg a 0) (arg a 1) (arg a 2))
     ∷ reads op.I_ADD (λ a. IAdd (arg a 0) (arg a 1) (arg a 2) (arg a 3))
     ∷ reads op.STORE (λ a. Store (arg a 0) (arg a 1))
+    ∷ reads op.SELECTION_MERGE (λ a. SelectionMerge (arg a 0) (arg a 1))
+    ∷ reads op.LOOP_MERGE (λ a. LoopMerge (arg a 0) (arg a 1) (arg a 2))
+    ∷ reads op.BRANCH (λ a. Branch (arg a 0))
+    ∷ reads op.BRANCH_CONDITIONAL (λ a. BranchConditional (arg a 0) (arg a 1) (arg a 2))
+    ∷ reads op.SWITCH (λ a. Switch (arg a 0) (arg a 1) (drop 2 a))
+    ∷ reads op.KILL (λ a. Kill)
     ∷ reads op.RETURN (λ a. Return)
+    ∷ reads op.RETURN_VALUE (λ a. ReturnValue (arg a 0))
     ∷ reads op.FUNCTION_END (λ a. FunctionEnd) ∷ []
 
 -- what a reader makes of operands, if there is one

@@ -1,8 +1,9 @@
 -- V18: how many members, parameters and indexes there are, how high types are, and how deeply constructs nest.
 use Rattle.std.specs.Prelude.{ℕ, ◌+◌, Bool, true, ◌&&◌, nat_le, length, map, Option, Some, None}
+use Rattle.gsl_instr.specs.Instructions.{seconds}
 use Rattle.gsl_words.specs.declared.module.Instr.{Instr}
 use Rattle.gsl_words.specs.declared.module.Module.{Module}
-use Rattle.gsl_valid.specs.Instruction.{Instruction, Function, TypeStruct, TypeFunction, AccessChain, read}
+use Rattle.gsl_valid.specs.Instruction.{Instruction, Function, TypeStruct, TypeFunction, AccessChain, Switch, read}
 use Rattle.gsl_valid.specs.Placed.{Code}
 use Rattle.gsl_valid.specs.Search.{first_broken}
 use Rattle.gsl_valid.specs.StructureRules.{nesting}
@@ -15,6 +16,10 @@ most_members = 16383
 -- the most parameters of a function
 abbrev pub most_parameters : ℕ
 most_parameters = 255
+
+-- the most pairs of a Switch
+abbrev pub most_pairs : ℕ
+most_pairs = 16383
 
 -- the most indexes of a chain
 abbrev pub most_indexes : ℕ
@@ -39,6 +44,7 @@ is_within m before (Function type r control function_type) = nests_within (nesti
 is_within m before (TypeStruct r members) = nat_le (length members) most_members && nat_le (1 + highest (map (height before) members)) most_height
 is_within m before (TypeFunction r returned parameters) = nat_le (length parameters) most_parameters
 is_within m before (AccessChain type r base indexes) = nat_le (length indexes) most_indexes
+is_within m before (Switch selector default targets) = nat_le (length (seconds targets)) most_pairs
 is_within m before _ = true
 
 -- whether V18 is kept by an instruction

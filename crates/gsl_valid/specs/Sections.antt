@@ -10,7 +10,7 @@ use Rattle.gsl_instr.specs.declared.enumerant.execution_mode.TheConstants as exe
 use Rattle.gsl_instr.specs.declared.enumerant.storage_class.TheConstants as storage_class
 use Rattle.gsl_instr.specs.declared.enumerant.decoration.TheConstants as decoration
 use Rattle.gsl_instr.specs.declared.enumerant.built_in.TheConstants as built_in
-use Rattle.gsl_valid.specs.Instruction.{Instruction, Capability, MemoryModel, EntryPoint, ExecutionMode, Decorate, MemberDecorate, TypeInt, TypePointer, Variable, Function, Unknown, read}
+use Rattle.gsl_valid.specs.Instruction.{Instruction, Capability, MemoryModel, EntryPoint, ExecutionMode, Decorate, MemberDecorate, TypeInt, TypePointer, Variable, Function, SelectionMerge, LoopMerge, Unknown, read}
 use Rattle.gsl_valid.specs.Placed.{Code, count_of_words, bound_place}
 use Rattle.gsl_valid.specs.Where.{where_at, section_of, capabilities, memory_models, entry_points, modes}
 use Rattle.gsl_valid.specs.Search.{first_broken, whole, unless, ◌otherwise◌}
@@ -63,6 +63,8 @@ has_numbers (TypeInt r width signedness) = width == 32
 has_numbers (TypePointer r class pointee) = is_class class
 has_numbers (Variable type r class initialiser) = is_class class
 has_numbers (Function type r control function_type) = control == 0
+has_numbers (SelectionMerge merge control) = control == 0
+has_numbers (LoopMerge merge continue_target control) = control == 0
 has_numbers Unknown = false
 has_numbers _ = true
 

@@ -95,6 +95,15 @@ is_type type (Some other) = other == type
 abbrev pub has_type : Module → ℕ → ℕ → Bool
 has_type m type value = is_type type (type_of (defined_as m value))
 
+-- whether there is a type, and it is Int
+abbrev pub is_int_type : Module → Option ℕ → Bool
+is_int_type m None = false
+is_int_type m (Some type) = is_int m type
+
+-- whether a value is of a type Int
+abbrev pub is_int_value : Module → ℕ → Bool
+is_int_value m value = is_int_type m (type_of (defined_as m value))
+
 -- whether an instruction is a constant of a type
 abbrev pub constant_of : ℕ → Instruction → Bool
 constant_of type (Constant t r value) = t == type

@@ -2,7 +2,7 @@
 use Rattle.std.specs.Prelude.{ℕ, Bool, true, false, List, [], ◌∷◌, if◌then◌else◌}
 use Rattle.gsl_words.specs.declared.module.Instr.{Instr}
 use Rattle.gsl_words.specs.declared.module.Module.{Module}
-use Rattle.gsl_valid.specs.Instruction.{Instruction, Capability, MemoryModel, EntryPoint, ExecutionMode, Name, MemberName, Decorate, MemberDecorate, TypeVoid, TypeInt, TypeStruct, TypePointer, TypeFunction, Constant, Variable, Function, Label, AccessChain, Load, IAdd, Store, Return, FunctionEnd, Unknown, read}
+use Rattle.gsl_valid.specs.Instruction.{Instruction, Capability, MemoryModel, EntryPoint, ExecutionMode, Name, MemberName, Decorate, MemberDecorate, TypeVoid, TypeInt, TypeStruct, TypePointer, TypeFunction, Constant, Variable, Function, Label, AccessChain, Load, IAdd, Store, SelectionMerge, LoopMerge, Branch, BranchConditional, Switch, Kill, Return, ReturnValue, FunctionEnd, Unknown, read}
 use Rattle.gsl_valid.specs.Placed.{Code}
 use Rattle.gsl_valid.specs.Types.{defined_as, function_begins}
 
@@ -95,19 +95,35 @@ standing_after m standing (AccessChain type r base indexes) = InBlock
 standing_after m standing (Load type r pointer) = InBlock
 standing_after m standing (IAdd type r a b) = InBlock
 standing_after m standing (Store pointer value) = InBlock
+standing_after m standing (SelectionMerge merge control) = InBlock
+standing_after m standing (LoopMerge merge continue_target control) = InBlock
+standing_after m standing (Branch target) = Behind
+standing_after m standing (BranchConditional condition on_true on_false) = Behind
+standing_after m standing (Switch selector default targets) = Behind
+standing_after m standing Kill = Behind
 standing_after m standing Return = Behind
+standing_after m standing (ReturnValue value) = Behind
 standing_after m standing FunctionEnd = Outside
 standing_after m standing _ = standing
 
 -- Blocks --------------------------------------------------------------------------------------------------------
 
+-- whether a block ends with an instruction
+abbrev pub ends_block : Instruction → Bool
+ends_block (Branch target) = true
+ends_block (BranchConditional condition on_true on_false) = true
+ends_block (Switch selector default targets) = true
+ends_block Kill = true
+ends_block Return = true
+ends_block (ReturnValue value) = true
+ends_block _ = false
+
 -- whether a block begins or ends with an instruction
 abbrev pub bounds_block : Instruction → Bool
 bounds_block (Function type r control function_type) = true
 bounds_block (Label r) = true
-bounds_block Return = true
 bounds_block FunctionEnd = true
-bounds_block _ = false
+bounds_block i = ends_block i
 
 -- whether a function does
 abbrev pub bounds_function : Instruction → Bool
