@@ -1,6 +1,6 @@
 -- What compiling a source answers, from what its parts answered.
-use Rattle.std.proofs.Common.{◌≡◌, ℕ, ◌<◌, ◌≤◌, List, [], ◌∷◌, length, Result, Ok, Err, ap, sym, ◌∙◌}
-use Rattle.gsl_base.specs.Checked.{Checked, Refuses}
+use Rattle.std.proofs.Common.{◌≡◌, ℕ, ◌≤◌, List, [], ◌∷◌, length, Result, Ok, Err}
+use Rattle.gsl_base.specs.Checked.{Refuses}
 use Rattle.gsl_base.specs.declared.fault.Refusal.{Refusal}
 use Rattle.gsl_base.specs.declared.fault.Refusal.TheVariants as refusal
 use Rattle.gsl_base.specs.declared.stage.Stage.{Stage}

@@ -1,9 +1,13 @@
 -- How far the steps of `dis` and of `asm` have come with their job.
-use Rattle.std.proofs.Common.{◌≡◌, ℕ, zero, suc, ◌<◌, ◌≤◌, List, [], ◌∷◌, length, Option, Some, None, Result, Ok, Err, refl, ap, sym, subst, ◌∙◌, arith}
-use Rattle.std.specs.Prelude.{IsSomeAnd, OnOk, Contains}
-use Rattle.std.specs.FinMap.{get, insert}
+use Rattle.std.proofs.Common.{◌≡◌, ℕ, ◌<◌, ◌≤◌, List, [], length, Option, Some, None, Result, Ok, Err, refl, ap, sym, subst, ◌∙◌, arith}
+use Rattle.std.specs.Prelude.{IsSomeAnd, OnOk, IfOk, MatchResult, Contains}
+use Rattle.std.specs.FinMap.{get}
 use Rattle.std.proofs.lemmas.Bool.{lt-ltb, le-ltb, cond-true, cond-false}
 use Rattle.gsl_base.specs.declared.fault.Fault.{Fault}
+use Rattle.gsl_base.specs.Ranges.{AreBytes}
+use Rattle.gsl_base.specs.declared.stage.Stage.{Stage}
+use Rattle.gsl_words.specs.declared.fault.WordFault.{WordFault}
+use Rattle.gsl_words.specs.Faults.{HasFault}
 use Rattle.gsl_host.specs.declared.target.Target.{Target}
 use Rattle.gsl_host.specs.declared.target.Target.TheVariants.{Reading, Writing}
 use Rattle.gsl_host.specs.Outside.{Files, KeepsOthers, Sets, Rose}
@@ -13,12 +17,12 @@ use Rattle.gsl_cmd.specs.declared.stop.Stop.TheVariants as stop
 use Rattle.gsl_cmd.specs.declared.converting.Conversion.{Conversion}
 use Rattle.gsl_cmd.specs.declared.converting.Conversion.TheVariants.{Disassemble, Assemble}
 use Rattle.gsl_cmd.specs.declared.converting.TheConstants.{MAX_MODULE_BYTES}
-use Rattle.gsl_cmd.specs.Converting.{Made, Makes, too_long, plan_for}
-use Rattle.gsl_cmd.specs.Job.{Job, Effect, Found, Missing, Longer, Whole, IsJob, IsConversionJob, failed, rejected, made_of, found_in}
-use Rattle.gsl_cmd.specs.Performs.{KeepsAllBut}
-use Rattle.gsl_cmd.specs.Command.{Did, Ended, ReadsFileTold, Gives}
+use Rattle.gsl_cmd.specs.Converting.{Made, Makes, Shows, plan_for}
+use Rattle.gsl_cmd.specs.Targets.{targets_of}
+use Rattle.gsl_cmd.specs.Job.{Job, Gathered, Sources, Absent, TooLong, IsCompileJob, gather, reads, Found, Missing, Longer, Whole, IsJob, IsConversionJob, rejected, made_of, found_in}
+use Rattle.gsl_cmd.specs.Command.{Did, Ended, ReadsFileTold, Gives, Rejects}
 use Rattle.gsl_cmd.proofs.Converted.{conversion_job}
-use Rattle.gsl_cmd.proofs.Jobs.{keeps_same}
+use Rattle.gsl_cmd.proofs.Jobs.{keeps_same, some_job}
 
 pub as_job : (conversion : Conversion) (file out : Name) (files : Files) (job : Job) → IsConversionJob conversion file out job (found_in (get files file)) → IsJob (plan_for conversion file out) files job
 as_job Disassemble file out files job is = is
@@ -104,3 +108,48 @@ module _ (conversion : Conversion) (file out : Name) (files : Files) (after : Op
   ended_write bytes text (Err stop.Memory) read short answer sets others rose sound quiet = wrote bytes text (Err stop.Memory) read short answer others tt
   ended_write bytes text (Err (stop.Fault fault)) read short answer sets others rose sound quiet = absurd (sound fault refl)
   ended_write bytes text (Err (stop.Rejected line)) read short answer sets others rose sound quiet = absurd (quiet line refl)
+
+-- ---- what a command makes, or tells
+
+pub told_gives : {E : Type 0} (IsMade : Made → Type 0) (line : Result (List ℕ) E) (said : List ℕ) (end : Stop) → IsMade (Err said) → IfOk line (λ text. text ≡ said) →
+    MatchResult line (λ text. end ≡ stop.Rejected text) (λ _. end ≡ stop.Memory) → Gives IsMade (Err end)
+told_gives IsMade (Ok text) said end made same is = subst (λ (s : Stop). Gives IsMade (Err s)) (sym is) (subst (λ (t : List ℕ). IsMade (Err t)) (sym same) made)
+told_gives IsMade (Err e) said end made same is = subst (λ (s : Stop). Gives IsMade (Err s)) (sym is) tt
+
+pub rejects_gives : (bytes : List ℕ) (fault : WordFault) (end : Stop) → AreBytes bytes → HasFault bytes fault → Rejects fault end → Gives (Shows bytes) (Err end)
+rejects_gives bytes fault (stop.Rejected text) fit has (never, is) = (Err fault, ((λ again. (never, has)), (λ other. absurd (other fit))), ap Err is)
+rejects_gives bytes fault stop.Memory fit has r = tt
+rejects_gives bytes fault (stop.Fault other) fit has r = absurd r
+rejects_gives bytes fault stop.Host fit has r = absurd r
+
+pub writes_in : (conversion : Conversion) (file out : Name) → Contains (targets_of (plan_for conversion file out)) (Writing out)
+writes_in Disassemble file out = (1, omega arith, refl)
+writes_in Assemble file out = (1, omega arith, refl)
+
+pub file_in : (conversion : Conversion) (file out : Name) → Contains (targets_of (plan_for conversion file out)) (Reading file)
+file_in Disassemble file out = (0, omega arith, refl)
+file_in Assemble file out = (0, omega arith, refl)
+
+-- ---- where nothing was done at all
+
+compile_quiet : (stage : Stage) (out : Name) (names : List Name) (targets : List Target) (gathered : Gathered) (job : Job) → IsCompileJob stage out names targets job gathered → job.out ≡ []
+compile_quiet stage out names targets Absent job is = ap (λ (j : Job). j.out) is
+compile_quiet stage out names targets (TooLong unit) job is = ap (λ (j : Job). j.out) is
+compile_quiet stage out names targets (Sources sources) job (Ok p, right, is) = ap (λ (j : Job). j.out) is
+compile_quiet stage out names targets (Sources sources) job (Err fault, right, is) = ap (λ (j : Job). j.out) is
+
+converts_quiet : (conversion : Conversion) (file out : Name) (job : Job) (found : Found) → IsConversionJob conversion file out job found → job.out ≡ []
+converts_quiet conversion file out job Missing is = ap (λ (j : Job). j.out) is
+converts_quiet conversion file out job Longer is = ap (λ (j : Job). j.out) is
+converts_quiet conversion file out job (Whole bytes) (Ok text, made, is) = ap (λ (j : Job). j.out) is
+converts_quiet conversion file out job (Whole bytes) (Err text, made, is) = ap (λ (j : Job). j.out) is
+
+quiet_job : (plan : Plan) (files : Files) (job : Job) → IsJob plan files job → job.out ≡ []
+quiet_job (Plan.Compile stage out names) files job is = compile_quiet stage out names (reads files names) (gather files 0 names) job is
+quiet_job (Plan.Disassemble file out) files job is = converts_quiet Disassemble file out job (found_in (get files file)) is
+quiet_job (Plan.Assemble file out) files job is = converts_quiet Assemble file out job (found_in (get files file)) is
+
+pub nothing_done : (plan : Plan) (files : Files) (after : Option Files) (faults : Target → ℕ) → after ≡ Some files → Ended plan [] files after faults faults (Err stop.Memory)
+nothing_done plan files after faults same =
+    let j = some_job plan files in
+    record { job = j.0; is_job = j.1; out = quiet_job plan files j.0 j.1; did = tt; kept = keeps_same j.0.effect files after same }

@@ -1,5 +1,5 @@
 -- The job of `dis` and of `asm`: what is made of a file, and that there is one.
-use Rattle.std.proofs.Common.{◌≡◌, ◌≢◌, ℕ, zero, suc, ◌+◌, ◌^◌, ◌*◌, ◌<◌, ◌≤◌, Bool, true, false, List, [], ◌∷◌, ◌++◌, length, Option, Some, None, Result, Ok, Err, refl, ap, sym, subst, ◌∙◌, arith, inl, inr, ◌⊎◌, length-append}
+use Rattle.std.proofs.Common.{◌≡◌, ℕ, ◌^◌, ◌*◌, ◌<◌, ◌≤◌, List, [], ◌∷◌, length, Option, Some, None, Result, Ok, Err, refl, ap, sym, ◌∙◌, arith, inl, inr, ◌⊎◌, length-append}
 use Rattle.std.proofs.lemmas.Bool.{cases_lt, lt-ltb, le-ltb, cond-true, cond-false}
 use Rattle.std.specs.FinMap.{get, insert}
 use Rattle.std.specs.List.{flat_map}
@@ -11,20 +11,18 @@ use Rattle.gsl_words.specs.declared.fault.WordFault.{WordFault}
 use Rattle.gsl_words.specs.declared.fault.WordFault.TheVariants.{NotWhole}
 use Rattle.gsl_words.specs.declared.module.Instr.{Instr}
 use Rattle.gsl_words.specs.declared.module.Module.{Module}
-use Rattle.gsl_words.specs.Instructions.{HasFile}
 use Rattle.gsl_words.specs.Bytes.{bytes_of, instr_words, module_words}
-use Rattle.gsl_words.specs.Faults.{Judges, FitsTypes, HasFault}
+use Rattle.gsl_words.specs.Faults.{Judges}
 use Rattle.gsl_words.proofs.Judgements as bytes
 use Rattle.gsl_asm.specs.Shown.{shown}
 use Rattle.gsl_asm.specs.Reading.{module_from}
-use Rattle.gsl_asm.specs.Texts.{IsTextOf, IsWrong}
 use Rattle.gsl_asm.proofs.Lined.{module_is, wrong, one_module, one_place}
 use Rattle.gsl_plan.specs.Plan.{Plan, Name}
 use Rattle.gsl_cmd.specs.declared.converting.Conversion.{Conversion}
 use Rattle.gsl_cmd.specs.declared.converting.Conversion.TheVariants.{Disassemble, Assemble}
 use Rattle.gsl_cmd.specs.declared.converting.TheConstants.{MAX_MODULE_BYTES}
-use Rattle.gsl_cmd.specs.Converting.{Made, JudgesFile, JudgesText, Shows, Assembles, Makes, shown_of, assembled_of, too_long}
-use Rattle.gsl_cmd.specs.Job.{Job, Effect, Found, Missing, Longer, Whole, IsJob, IsConversionJob, failed, rejected, made_of, found_in}
+use Rattle.gsl_cmd.specs.Converting.{Made, JudgesFile, JudgesText, Makes, shown_of, assembled_of, too_long}
+use Rattle.gsl_cmd.specs.Job.{Job, Found, Missing, Longer, Whole, IsJob, IsConversionJob, failed, rejected, made_of, found_in}
 use Rattle.gsl_cmd.specs.Performs.{effect_on}
 use Rattle.gsl_cmd.specs.Written.{Written}
 use Rattle.gsl_host.specs.declared.target.Target.TheVariants.{Reading}

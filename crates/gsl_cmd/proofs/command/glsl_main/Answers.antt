@@ -1,11 +1,27 @@
-use Rattle.std.proofs.Common.{[], ◌∷◌, subst}
+use Rattle.std.proofs.Common.{[], ◌∷◌, refl, subst, arith}
 use Rattle.gsl_plan.specs.Plan.{Plan}
+use Rattle.gsl_cmd.specs.declared.stop.Stop.TheVariants as stop
 use Rattle.gsl_cmd.specs.Written.{Written}
+use Rattle.gsl_cmd.proofs.Conversions.{nothing_done}
+use Rattle.gsl_cmd.proofs.Ends.{done_err}
 use Rattle.gsl_cmd.proofs.Wrote.{performed_written, same_plan}
 use Rattle.gsl_cmd.proofs.command.glsl_main.Goals as goal
+
+pub returns-in_default-clause-told : goal.returns-in_default-clause-told
+returns-in_default-clause-told g c = λ plan planned files told.
+    let faults = g.H.Host.faults c.args.host.now in
+    let printed = g.H.Host.printed c.args.host.now in
+    done_err plan [] files (g.H.Host.files c.args.host.now) faults faults faults printed printed (λ target. omega arith) (λ target. omega arith) refl
+    stop.Memory 4 (nothing_done plan files (g.H.Host.files c.args.host.now) faults told) (refl, refl)
 
 pub returns-in-Compile-clause-written : goal.returns-in-Compile-clause-written
 returns-in-Compile-clause-written g c = λ zero plan planned files told.
     subst (λ (one : Plan). Written one files (g.H.Host.files c.compile_command.new.host))
-    (same_plan c.in-Compile.ensures planned)
-    (performed_written (Plan.Compile c.in-Compile.stage c.in-Compile.out.now (c.in-Compile.file.now ∷ [])) files _ _ _ _ _ _ zero (c.compile_command.ensures.told files told))
+    (same_plan (rw c.in-Compile.is at c.in-Ok.ensures) planned)
+    (performed_written (Plan.Compile c.in-Compile.stage c.in-Compile.out (c.in-Compile.file ∷ [])) files _ _ _ _ _ _ zero (c.compile_command.ensures.told files told))
+
+pub returns-in-Disassemble-clause-written : goal.returns-in-Disassemble-clause-written
+returns-in-Disassemble-clause-written g c = λ zero plan planned files told.
+    subst (λ (one : Plan). Written one files (g.H.Host.files c.convert_command.new.host))
+    (same_plan (rw c.in-Disassemble.is at c.in-Ok.ensures) planned)
+    (performed_written (Plan.Disassemble c.in-Disassemble.file c.in-Disassemble.out) files _ _ _ _ _ _ zero (c.convert_command.ensures.told files told))

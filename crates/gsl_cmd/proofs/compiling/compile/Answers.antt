@@ -1,6 +1,4 @@
-use Rattle.std.proofs.Common.{◌≡◌, ℕ, List, [], ◌∷◌, length, arith, ap, sym, ◌∙◌}
-use Rattle.gsl_base.specs.Checked.{Gives}
-use Rattle.gsl_cmd.specs.Verdict.{tree_of}
+use Rattle.std.proofs.Common.{ℕ, List, [], ◌∷◌, arith, ap, sym, ◌∙◌}
 use Rattle.gsl_cmd.proofs.Verdicts.{one_source, fault_long}
 use Rattle.gsl_cmd.proofs.Compiled.{refused, compiled}
 use Rattle.gsl_cmd.proofs.compiling.compile.Goals as goal
