@@ -13,38 +13,36 @@ fn words_of(alloc: Global, line: &str) -> Result<Words, Memory> {
     Ok(words)
 }
 
-/// The command with its operands between `|`, or the text that says how the program is called.
+/// The command with its files, or `usage`.
 fn shown(alloc: Global, line: &str) -> Result<String, Memory> {
-    let mut text = String::new(alloc);
-    match plan(alloc, &words_of(alloc, line)?)? {
-        Command::Usage(_) => text.push_str("usage")?,
-        Command::Compile { stage, out, file } => {
-            text.push_str(if stage == Stage::Compute {
-                "compile comp"
-            } else {
-                "compile"
-            })?;
-            put(&mut text, &out)?;
-            put(&mut text, &file)?;
-        }
-        Command::Disassemble { file, out } => {
-            text.push_str("dis")?;
-            put(&mut text, &file)?;
-            put(&mut text, &out)?;
-        }
-        Command::Assemble { file, out } => {
-            text.push_str("asm")?;
-            put(&mut text, &file)?;
-            put(&mut text, &out)?;
-        }
-    }
-    Ok(text)
+    let words = words_of(alloc, line)?;
+    let command = plan(alloc, &words)?;
+    told(alloc, command)
 }
 
-fn put(text: &mut String, word: &Text) -> Result<(), Memory> {
+fn told(alloc: Global, command: Command) -> Result<String, Memory> {
+    match command {
+        Command::Usage(_text) => Ok(String::from_str(alloc, "usage")?),
+        Command::Compile { stage, out, file } => joined(alloc, compiling(stage), &out, &file),
+        Command::Disassemble { file, out } => joined(alloc, "dis", &file, &out),
+        Command::Assemble { file, out } => joined(alloc, "asm", &file, &out),
+    }
+}
+
+fn compiling(stage: Stage) -> &'static str {
+    match stage {
+        Stage::Compute => "compile comp",
+        Stage::Vertex | Stage::Fragment => "compile",
+    }
+}
+
+fn joined(alloc: Global, name: &str, first: &Text, second: &Text) -> Result<String, Memory> {
+    let mut text = String::from_str(alloc, name)?;
     text.push_str(" ")?;
-    text.push_str(word.as_str())?;
-    Ok(())
+    text.push_str(first.as_str())?;
+    text.push_str(" ")?;
+    text.push_str(second.as_str())?;
+    Ok(text)
 }
 
 #[test]
