@@ -5,6 +5,7 @@
 #![tactic(auto)]
 
 mod folding;
+mod held;
 mod laws;
 mod standing;
 mod stop;
