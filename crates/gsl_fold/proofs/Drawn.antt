@@ -15,7 +15,7 @@ use Rattle.gsl_tree.specs.declared.folded.Folded.TheVariants.{Known, NotConstant
 use Rattle.gsl_tree.specs.declared.folded.Standing.{Standing}
 use Rattle.gsl_tree.specs.declared.folded.Standing.TheVariants.{Settled, Open, Never}
 use Rattle.gsl_tree.specs.Constants.{Part, constant_of, folded_value, gives, gives_by, in_order, is_signed_first, known_as, known_at, known_by, part_of, standing}
-use Rattle.gsl_tree.specs.Drawing.{Drawing, given, strays, ◌>>=◌, drawn, checked}
+use Rattle.gsl_tree.specs.Drawing.{Drawing, given, ◌>>=◌, drawn, checked}
 use Rattle.gsl_tree.specs.Operations.{binary_value, build_value, builtin_value, decides, index_value, is_signed, length_of, logic_word, member_value, swizzle_value, unary_value}
 use Rattle.gsl_tree.specs.Values.{word_in}
 use Rattle.gsl_fold.specs.Laws.{DrawsAlways, GivesAlways}

@@ -1,9 +1,7 @@
 -- What draws, draws whatever the choices are.
-use Rattle.std.proofs.Common.{◌≡◌, refl, sym, ap, subst, ◌∙◌, ℕ, zero, suc, ◌+◌, ◌≤◌, ◌⊎◌, inl, inr, List, [], ◌∷◌, length, map, Option, Some, None, arith}
-use Rattle.std.specs.Prelude.{Bool, true, false, ◌==◌, if◌then◌else◌}
-use Rattle.gsl_types.specs.declared.ty.Ty.{Ty}
+use Rattle.std.proofs.Common.{◌≡◌, refl, ap, ◌∙◌, ℕ, zero, suc, ◌+◌, ◌≤◌, ◌⊎◌, inl, inr, List, [], ◌∷◌, length, map, Option, Some, None, arith}
+use Rattle.std.specs.Prelude.{Bool, true, false}
 use Rattle.gsl_values.specs.declared.value.Value.{Value}
-use Rattle.gsl_values.specs.declared.value.Value.TheVariants.{Word}
 use Rattle.gsl_values.specs.declared.op.BinaryOp.{BinaryOp}
 use Rattle.gsl_values.specs.declared.op.BinaryOp.TheVariants as op
 use Rattle.gsl_values.specs.declared.function.Builtin.{Builtin}
@@ -11,7 +9,7 @@ use Rattle.gsl_values.specs.declared.function.Builtin.TheVariants as fn
 use Rattle.gsl_values.specs.Choices.{answer}
 use Rattle.gsl_values.specs.Operators.{binary_answer, binary_word, is_free}
 use Rattle.gsl_values.specs.Vectors.{binary_each}
-use Rattle.gsl_values.specs.Functions.{builtin_answer, builtin_word, is_free_call}
+use Rattle.gsl_values.specs.Functions.{builtin_answer}
 use Rattle.gsl_tree.specs.Drawing.{Drawing, given, strays, behind, ◌>>=◌, drawn, checked}
 use Rattle.gsl_tree.specs.Operations.{binary_value, binary_words, builtin_each, builtin_value, builtin_words, component_at, of_words}
 use Rattle.gsl_tree.specs.Values.{components_in, of_components}

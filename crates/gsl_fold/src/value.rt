@@ -7,7 +7,7 @@ ghost use Rattle.gsl_tree.specs.Drawing.{checked};
 ghost use Rattle.gsl_tree.specs.Values.{word_in as word_of};
 ghost use Rattle.gsl_fold.specs.Answers.{Answers};
 
-use crate::held::{index_of, member_of, Held};
+use crate::held::{Held, index_of, member_of};
 use crate::stop::Stop;
 use gsl_base::List;
 use gsl_compute::{
@@ -39,7 +39,12 @@ fn folded<'a>(folded: &'a Folded, _choices: &mut Choices) -> Result<Held<'a>, St
 }
 
 /// The part of a value at an index.
-fn part<'a>(alloc: Global, v: Held<'a>, index: u32, _choices: &mut Choices) -> Result<Held<'a>, Stop>
+fn part<'a>(
+    alloc: Global,
+    v: Held<'a>,
+    index: u32,
+    _choices: &mut Choices,
+) -> Result<Held<'a>, Stop>
     ensures { Answers result _choices.new (checked (operations.index_value v.entry index) _choices.old) }
 {
     match index_of(alloc, v, index)? {

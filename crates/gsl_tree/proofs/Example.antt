@@ -1,5 +1,5 @@
 -- Expressions with what is known of them, their types and their weights, so that a wrong definition is seen.
-use Rattle.std.proofs.Common.{◌≡◌, refl, ℕ, true, false, [], ◌∷◌, Some, None, inl, inr}
+use Rattle.std.proofs.Common.{◌≡◌, refl, ℕ, true, false, List, [], ◌∷◌, Option, Some, None, inl, inr, arith}
 use Rattle.gsl_base.specs.declared.fault.Place.{Place}
 use Rattle.gsl_base.specs.declared.stage.Stage.TheVariants.{Compute}
 use Rattle.gsl_types.specs.declared.ty.Scalar.TheVariants.{Bool as Boolean, Int, Uint}
@@ -9,6 +9,11 @@ use Rattle.gsl_values.specs.declared.value.Value.TheVariants.{Word, Many, outs-W
 use Rattle.gsl_types.specs.declared.ty.Ty.TheVariants.{outs-Void, outs-One, outs-Vector, outs-Array, outs-Runtime, outs-Struct}
 use Rattle.gsl_values.specs.declared.op.BinaryOp.TheVariants as op
 use Rattle.gsl_values.specs.declared.function.Builtin.TheVariants as f
+use Rattle.gsl_layout.specs.Layout.{Group, Leaf, Part, Runtime, End}
+use Rattle.gsl_tree.specs.Laying.{IsLaid, layout_of, misplaced_of}
+use Rattle.gsl_tree.specs.declared.unit.Block.{Block}
+use Rattle.gsl_tree.specs.declared.unit.BlockKind.TheVariants.{Buffer}
+use Rattle.gsl_tree.specs.declared.unit.BlockMember.{BlockMember}
 use Rattle.gsl_tree.specs.declared.expr.Expr.{Expr}
 use Rattle.gsl_tree.specs.declared.expr.LogicOp.TheVariants as logic
 use Rattle.gsl_tree.specs.declared.expr.StepOp.TheVariants as step
@@ -27,7 +32,7 @@ use Rattle.gsl_tree.proofs.StmtFolds.{stmt_folds}
 use Rattle.gsl_tree.proofs.Nodes.{expr_at, value_of_one, value_of_vector, value_of_array}
 use Rattle.gsl_tree.specs.declared.expr.ExprKind.TheOpen.{ExprKind-F}
 use Rattle.gsl_tree.specs.declared.expr.ExprKind.TheVariants.{outs-Local, outs-Const, outs-Binary}
-use Rattle.gsl_types.proofs.Layers.{over_void, over_one, over_vector, over_array}
+use Rattle.gsl_types.proofs.Layers.{over_void, over_one, over_vector, over_array, over_runtime}
 use Rattle.gsl_tree.proofs.Steps.{standings_step, gives_step}
 use Rattle.gsl_tree.specs.Trees.{typed, ThroughoutAll}
 use Rattle.gsl_tree.specs.Shapes.{built_shape}
@@ -68,7 +73,7 @@ two a b = typed here ivec2 (kind.Build (a ∷ b ∷ []))
 abbrev consts : Consts
 consts = record { locals = Known (Word 7) ∷ NotConstant ∷ Free ∷ []; globals = [] }
 
-ruleset computes = (folds, value_of_one, value_of_vector, value_of_array, stmt_folds, over_void, over_one, over_vector, over_array, fold-roll-Expr, standings_step, gives_step, outs-Word, outs-Many, outs-Void, outs-One, outs-Vector, outs-Array, outs-Runtime, outs-Struct)
+ruleset computes = (folds, value_of_one, value_of_vector, value_of_array, stmt_folds, over_void, over_one, over_vector, over_array, over_runtime, fold-roll-Expr, standings_step, gives_step, outs-Word, outs-Many, outs-Void, outs-One, outs-Vector, outs-Array, outs-Runtime, outs-Struct)
 
 -- ---- constants
 
@@ -210,6 +215,27 @@ well_typed =
     expr_at around here int (kind.Binary op.Div (local 0) (literal 1)) (ExprKind-F.Binary op.Div (local 0) (literal 1)) (outs-Binary op.Div (local 0) (literal 1))
     (inr ((Int, 1), (Int, 1), (Int, 1), simp computes refl, simp computes refl, refl, refl)) (readable, (literal_readable, tt)) tt
     (ThroughoutAll.more _ _ named (ThroughoutAll.more _ _ constant ThroughoutAll.none))
+
+-- ---- layouts of blocks
+
+abbrev member : Ty → Option ℕ → BlockMember
+member t offset =
+    record { name = 97 ∷ []; ty = t; readonly = false; writeonly = false; coherent = false; volatile = false; restrict = false; offset = offset; align = None; place = here }
+
+abbrev storage : List BlockMember → ℕ → Block
+storage members bytes =
+    record { name = 98 ∷ []; instance = None; kind = Buffer; set = 0; binding = 0; std140 = false; members = members; need = bytes; place = here }
+
+-- `int a; int b[];`: the array stands behind the word, and a buffer has at least that word
+needed : layout_of [] (storage (member int None ∷ member (ty.Runtime int) None ∷ []) 4) ≡ Group (Part 0 (Leaf 1) (Part 4 (Runtime 4 (Leaf 1)) End)) 4
+needed = simp computes refl
+
+well_laid : IsLaid [] (storage (member int None ∷ member (ty.Runtime int) None ∷ []) 4)
+well_laid = record { placed = refl; small = simp computes (omega arith); need = simp computes refl }
+
+-- `ivec2 a; layout(offset = 4) int b;`: the offset is below the end of the member before
+ill_placed : misplaced_of [] (storage (member ivec2 None ∷ member int (Some 4) ∷ []) 8) ≡ Some 1
+ill_placed = simp computes refl
 
 -- ---- depth and weight
 

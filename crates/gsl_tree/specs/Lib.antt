@@ -9,4 +9,5 @@ pub mod Paths
 pub mod Weights
 pub mod Expressions
 pub mod Statements
+pub mod Laying
 pub mod WellTyped

@@ -32,6 +32,7 @@ use Rattle.gsl_tree.specs.Shapes.{Shape, shape_of, is_integer}
 use Rattle.gsl_tree.specs.Around.{Around, is_buffer, consts_of}
 use Rattle.gsl_tree.specs.Expressions.{IsExpr, MayBeRead, is_size, most_parts}
 use Rattle.gsl_tree.specs.Statements.{IsBody, expr_depth, stmt_depth, deepest, most_deep}
+use Rattle.gsl_tree.specs.Laying.{IsLaid}
 use Rattle.gsl_tree.specs.Weights.{height_of, most_high, one_if}
 
 -- ---- what is well typed
@@ -176,8 +177,7 @@ may_be_std430 Uniform = false
 may_be_std430 Buffer = true
 may_be_std430 Push = true
 
--- where the members of a block stand and how much it needs is the matter of layouts: `lies` says whether the block is as they say
-pub record IsBlock (lies : List StructType → Block → Type 0) (structs : List StructType) (block : Block) : Type 0 where
+pub record IsBlock (structs : List StructType) (block : Block) : Type 0 where
   pub name : IsName block.name
   pub instance : IsNameOr block.instance
   pub set : block.set < 32
@@ -186,7 +186,7 @@ pub record IsBlock (lies : List StructType → Block → Type 0) (structs : List
   pub count : length block.members ≤ most_parts
   pub members : AreBlockMembers structs block.kind block.members
   pub layout : IsTrue (block.std140 || may_be_std430 block.kind)
-  pub laid : lies structs block
+  pub laid : IsLaid structs block
 
 abbrev pub is_push : BlockKind → Bool
 is_push Uniform = false
@@ -243,11 +243,11 @@ is_compute Fragment = false
 is_compute Compute = true
 
 -- Each declaration is as it should be.
-pub record AreWellTyped (lies : List StructType → Block → Type 0) (lists : Lists) : Type 0 where
+pub record AreWellTyped (lists : Lists) : Type 0 where
   pub structs : AreStructs lists.structs
   pub declared : AllByRecursion (IsStructDeclared lists.structs) lists.structs
   pub globals : (number : ℕ) (g : GlobalVar) → slice_get lists.globals number ≡ Some g → IsGlobal lists number g
-  pub blocks : AllByRecursion (IsBlock lies lists.structs) lists.blocks
+  pub blocks : AllByRecursion (IsBlock lists.structs) lists.blocks
   pub push : push_blocks lists.blocks ≤ 1
   pub interfaces : AllByRecursion (IsInterface lists.stage lists.structs) lists.interfaces
   pub prototypes : AllByRecursion (IsPrototype lists.structs) lists.prototypes
@@ -257,9 +257,9 @@ abbrev pub AreSizes : Stage → List (List ℕ) → Type 0
 AreSizes Compute sizes = AllByRecursion (λ size. (length size ≡ 3) × IsTrue (is_size size)) sizes
 AreSizes _ sizes = sizes ≡ []
 
--- A unit of a stage is well typed. `lies` says of a block whether its layout is as it should be.
-pub record IsUnit (lies : List StructType → Block → Type 0) (stage : Stage) (unit : TypedUnit) : Type 0 where
-  pub typed : AreWellTyped lies (unit_lists stage unit)
+-- A unit of a stage is well typed.
+pub record IsUnit (stage : Stage) (unit : TypedUnit) : Type 0 where
+  pub typed : AreWellTyped (unit_lists stage unit)
   pub sizes : AreSizes stage (unit_lists stage unit).sizes
 
 -- outside compute the size is 1 1 1
@@ -277,8 +277,8 @@ are_sorted (block ∷ blocks) = list_all (comes_before block) blocks && are_sort
 
 -- A program is well typed, and its fields are as said: `main` is the number of a function of that name, with no parameters and no
 -- result.
-pub record IsProgram (lies : List StructType → Block → Type 0) (p : Program) : Type 0 where
-  pub typed : AreWellTyped lies (program_lists p)
+pub record IsProgram (p : Program) : Type 0 where
+  pub typed : AreWellTyped (program_lists p)
   pub size : IsLocalSize p.stage p.local_size
   pub sorted : IsTrue (are_sorted p.blocks)
   pub function : Function

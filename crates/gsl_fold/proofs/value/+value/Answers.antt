@@ -1,10 +1,4 @@
-use Rattle.std.proofs.Common.{sym, ap, ◌∙◌, subst, ◌≡◌}
-use Rattle.std.specs.Prelude.{Err, Result}
 use Rattle.std.proofs.lemmas.Result.{err_from_is_err_and}
-use Rattle.gsl_tree.specs.Constants.{gives_all}
-use Rattle.gsl_values.specs.declared.value.Value.{Value}
-use Rattle.gsl_fold.specs.declared.stop.Stop.{Stop}
-use Rattle.gsl_fold.specs.Answers.{Answers}
 use Rattle.gsl_fold.proofs.Several.{value_on, value_stops}
 use Rattle.gsl_fold.proofs.value.+value.Goals as goal
 
