@@ -1,0 +1,70 @@
+-- Which inputs fit a program, and the first refusal of any other.
+use Rattle.std.specs.Prelude.{ℕ, Bool, true, false, not, nat_lt, ◌==◌, ◌&&◌, ◌||◌, if◌then◌else◌, List, [], ◌∷◌, length, Option, Some, None, Result, Ok, Err, ⊤}
+use Rattle.std.specs.List.{range_with_len}
+use Rattle.gsl_base.specs.declared.input.Input.{Input}
+use Rattle.gsl_base.specs.declared.input.InputRefusal.{InputRefusal}
+use Rattle.gsl_base.specs.declared.input.InputRefusal.TheVariants.{NoBuffer, TooShort, NoPush, PushShort, NoValue, BadIds}
+use Rattle.gsl_types.specs.Conversions.{components}
+use Rattle.gsl_tree.specs.declared.program.Program.{Program}
+use Rattle.gsl_tree.specs.declared.unit.Block.{Block}
+use Rattle.gsl_tree.specs.declared.unit.Interface.{Interface}
+use Rattle.gsl_tree.specs.WellTyped.{is_compute, is_push}
+use Rattle.gsl_meaning.specs.Blocks.{given_bytes}
+use Rattle.gsl_meaning.specs.Stages.{locations, words_at}
+
+-- an input meets a demand, or this is its first refusal
+abbrev pub Met : Type 0
+Met = Result ⊤ InputRefusal
+
+-- goes on where a demand is met
+abbrev pub and_met : Met → Met → Met
+and_met (Ok x) later = later
+and_met (Err refusal) later = Err refusal
+
+abbrev pub absent : Block → InputRefusal
+absent block = if is_push block.kind then NoPush else NoBuffer block.set block.binding
+
+abbrev pub short : Block → InputRefusal
+short block = if is_push block.kind then PushShort else TooShort block.set block.binding
+
+-- the buffer of a block is there before it is long enough
+abbrev pub is_given : Block → Option (List ℕ) → Met
+is_given block None = Err (absent block)
+is_given block (Some bytes) = if nat_lt (length bytes) block.need then Err (short block) else Ok tt
+
+-- the blocks in their order
+abbrev pub blocks_met : List Block → Input → Met
+blocks_met [] input = Ok tt
+blocks_met (block ∷ blocks) input = and_met (is_given block (given_bytes input block)) (blocks_met blocks input)
+
+-- an input has at least as many words as it has components
+abbrev pub has_words : ℕ → Option (List ℕ) → Bool
+has_words count None = false
+has_words count (Some words) = not (nat_lt (length words) count)
+
+-- the inputs at a location
+abbrev pub value_met : Input → ℕ → List Interface → Met
+value_met input location [] = Ok tt
+value_met input location (i ∷ interfaces) =
+    if not i.output && i.location == location && not (has_words (components i.ty) (words_at input.ins location)) then Err (NoValue location)
+    else value_met input location interfaces
+
+-- the inputs in ascending order of location
+abbrev pub values_met : List Interface → Input → List ℕ → Met
+values_met interfaces input [] = Ok tt
+values_met interfaces input (location ∷ more) = and_met (value_met input location interfaces) (values_met interfaces input more)
+
+-- whether each part is below its bound
+abbrev pub all_below : List ℕ → List ℕ → Bool
+all_below [] bounds = true
+all_below (part ∷ parts) [] = false
+all_below (part ∷ parts) (bound ∷ bounds) = nat_lt part bound && all_below parts bounds
+
+-- the invocation is one of its work group, and the work group one of those that are run
+abbrev pub ids_met : Program → Input → Met
+ids_met p input = if not (is_compute p.stage) || (all_below input.local p.local_size && all_below input.group input.groups) then Ok tt else Err BadIds
+
+-- the answer of an input: Ok, or the first refusal
+abbrev pub fits : Program → Input → Met
+fits p input =
+    and_met (blocks_met p.blocks input) (and_met (values_met p.interfaces input (range_with_len 0 locations)) (ids_met p input))

@@ -1,0 +1,9 @@
+pub mod State
+pub mod Accesses
+pub mod Running
+pub mod Expressions
+pub mod Statements
+pub mod Blocks
+pub mod Stages
+pub mod Fits
+pub mod Shader
