@@ -26,9 +26,19 @@ pub(crate) fn matches_of<'a>(alloc: Global, words: &'a [&'a str]) -> Result<ArgM
 fn grammar<'a>(alloc: Global) -> Result<Command<'a>, AllocError>
     ensures { IfOk result (λ c. app_of c ≡ spec.grammar) }
 {
-    let compile = operated(alloc, "compile", "gsl compile comp OUT FILE")?;
-    let disassemble = operated(alloc, "dis", "gsl dis MODULE OUT")?;
-    let assemble = operated(alloc, "asm", "gsl asm TEXT OUT")?;
+    let compile = operated(
+        alloc,
+        "compile",
+        "Compiles a shader to a module",
+        "gsl compile comp OUT FILE",
+    )?;
+    let disassemble = operated(alloc, "dis", "Shows a module as text", "gsl dis MODULE OUT")?;
+    let assemble = operated(
+        alloc,
+        "asm",
+        "Makes the module of a text",
+        "gsl asm TEXT OUT",
+    )?;
     program(alloc)
         .subcommand(compile)?
         .subcommand(disassemble)?
@@ -42,13 +52,21 @@ fn program<'a>(alloc: Global) -> Command<'a>
     Command::new(alloc, "gsl").subcommand_required(true)
 }
 
-/// A command that takes operands alone.
-fn operated<'a>(alloc: Global, name: &'a str, usage: &'a str) -> Result<Command<'a>, AllocError>
+/// A command that takes operands alone, which its usage names.
+fn operated<'a>(
+    alloc: Global,
+    name: &'a str,
+    about: &'a str,
+    usage: &'a str,
+) -> Result<Command<'a>, AllocError>
     ensures app { IfOk result (λ c. app_of c ≡ spec.operated name.entry.now) }
     ensures local { IfOk result (λ c. (out-Command c).has_globals ≡ false) }
 {
-    let operands = Arg::new(alloc, "operands").action(ArgAction::Append);
+    let operands = Arg::new(alloc, "operands")
+        .action(ArgAction::Append)
+        .hide(true);
     Command::new(alloc, name)
+        .about(about)
         .override_usage(usage)
         .arg(operands)
 }

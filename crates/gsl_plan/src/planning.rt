@@ -129,7 +129,7 @@ fn usage(alloc: Global) -> Result<Command, Memory>
     Ok(Command::Usage(Bytes::from_slice(alloc, b"usage\n")?))
 }
 
-/// The words were refused, unless memory was wanting.
+/// The words were refused, with the text that says why, unless memory was wanting.
 fn refused(alloc: Global, error: &Error) -> Result<Command, Memory>
     ensures none { IfOk result (λ found. plan_in found ≡ spec.no_plan) }
     ensures cause { IfOk result (λ _. kind_of error.now ≢ ErrorKind.OutOfMemory) }
@@ -137,5 +137,6 @@ fn refused(alloc: Global, error: &Error) -> Result<Command, Memory>
     if error.kind() == ErrorKind::OutOfMemory {
         return Err(Memory);
     }
-    usage(alloc)
+    let text = format!(in alloc; "{error}")?;
+    Ok(Command::Usage(Bytes::from_slice(alloc, text.as_str().as_bytes())?))
 }
