@@ -1,5 +1,5 @@
 -- From what clap finds to a plan.
-use Rattle.std.proofs.Common.{◌∙◌, ◌≡◌, ◌≢◌, ◌⊎◌, ◌||◌, ℕ, Bool, cond, true, false, refl, sym, ap, subst, List, [], ◌∷◌, Option, Some, None, Result, Ok, Err, IfOk, IfErr, inl, inr, true≢false, codes, option_map}
+use Rattle.std.proofs.Common.{◌∙◌, ◌≡◌, ◌≢◌, ◌⊎◌, Bool, true, false, refl, sym, ap, subst, List, [], ◌∷◌, Option, Some, None, Result, Ok, Err, IfOk, IfErr, inl, inr, true≢false, codes, option_map}
 use Rattle.std.specs.Prelude.{unwrap_or, option_and_then}
 use Rattle.std.specs.Bool.{one_answer}
 use Rattle.std.specs.List.{All}
@@ -21,7 +21,7 @@ use Rattle.gsl_plan.specs.Plan.{Name, Plan, given, named, no_plan, operands, pla
 use Rattle.gsl_plan.specs.declared.command.Command.{Command}
 use Rattle.gsl_base.specs.declared.memory.Memory.{Memory}
 use Rattle.std.proofs.lemmas.Result.{IfOk-weaker}
-use Rattle.gsl_plan.specs.Found.{found_in, grammar, is_command, operands_in, taken}
+use Rattle.gsl_plan.specs.Found.{found_in, grammar, operands_in, taken}
 use Rattle.gsl_plan.proofs.Understood.{Understands, understood}
 use Rattle.gsl_plan.proofs.Walked.{fails, given_rows}
 

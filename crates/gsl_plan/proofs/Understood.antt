@@ -1,18 +1,18 @@
 -- What clap makes of the words of a command line.
-use Rattle.std.proofs.Common.{◌∙◌, ◌≡◌, ◌<◌, ◌+◌, ◌&&◌, ◌||◌, ◌⊎◌, ◌==◌, ℕ, Bool, cond, true, false, zero, suc, refl, sym, ap, ap₂, subst, arith, List, [], ◌∷◌, ◌++◌, length, Option, Some, None, inl, inr, true≢false, codes, option_map}
+use Rattle.std.proofs.Common.{◌∙◌, ◌≡◌, ◌==◌, Bool, true, false, suc, refl, sym, ap, ap₂, subst, arith, List, [], ◌∷◌, Option, Some, None, codes, option_map}
 use Rattle.std.specs.Prelude.{find, fold, is_some}
 use Rattle.std.specs.List.{All}
 use Rattle.std.specs.Str.{IsUtf8, bytes_eq}
 use Rattle.std.proofs.lemmas.Slice.Eq.{bytes_eq-Decides}
 use Rattle.clap.specs.Kinds.{Kinds, or_else}
 use Rattle.clap.specs.Faults.{check_fault, defaults_fault, entered_fault, fault_of, level_fault, settle_fault, turn_fault, walk_fault, word_fault}
-use Rattle.clap.specs.Simple.{App, Shape, built, entered, label_of, names_of, subcommand_of}
-use Rattle.clap.specs.Walk.{Held, Names, Row, Rule, Text, Walk, answers_to, finished, idle, nothing_held, rows_after, settled, subcommand_met, walk, walk_from, walked}
+use Rattle.clap.specs.Simple.{App, built, entered, label_of, names_of, subcommand_of}
+use Rattle.clap.specs.Walk.{Names, Row, Text, Walk, answers_to, finished, idle, nothing_held, rows_after, settled, subcommand_met, walk, walk_from, walked}
 use Rattle.clap.proofs.FaultLemmas.{stopped_fault}
 use Rattle.clap.proofs.WalkLemmas.{walk_stopped}
 use Rattle.clap.proofs.OnLiterals.{clap_on_literals}
 use Rattle.gsl_plan.specs.Plan.{Name, is_option, operands}
-use Rattle.gsl_plan.specs.Found.{grammar, is_command, taken}
+use Rattle.gsl_plan.specs.Found.{grammar, taken}
 use Rattle.gsl_plan.proofs.Walked.{Gives, KnowsHelp, fails, first_fails, given_rows, known, level_gives, no_flag, option_fails, rules, shape}
 
 abbrev app : App

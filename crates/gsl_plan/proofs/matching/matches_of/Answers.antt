@@ -1,4 +1,3 @@
-use Rattle.std.proofs.Common.{◌≡◌, ap, map}
 use Rattle.clap.specs.Words.{app_of}
 use Rattle.gsl_plan.proofs.Planned.{matched, refused}
 use Rattle.gsl_plan.proofs.matching.matches_of.Goals as goal

@@ -1,8 +1,8 @@
-use Rattle.std.proofs.Common.{◌∙◌, ◌≡◌, ap, sym, codes, Option, Some, None, option_map, IfOk}
+use Rattle.std.proofs.Common.{◌∙◌, ap, sym, Some, None, option_map}
 use Rattle.std.proofs.lemmas.Result.{IfOk-weaker}
 use Rattle.clap.specs.Walk.{texts}
 use Rattle.clap.specs.Words.{found_of}
-use Rattle.gsl_plan.specs.Plan.{Name, named, plan_in}
+use Rattle.gsl_plan.specs.Plan.{named}
 use Rattle.gsl_plan.proofs.Planned.{operands_are}
 use Rattle.gsl_plan.proofs.planning.command_for.Goals as goal
 
