@@ -1,9 +1,11 @@
 //! Which command the words of a command line ask for.
 //!
-//! `specs/Plan.antt` says which words are which command; `plan` reads them.
+//! `specs/Plan.antt` says which words are which command. `clap` reads them, by the command in
+//! `specs/Found.antt`, and `plan` answers by what it found.
 #![tactic(auto)]
 
 mod command;
+mod matching;
 mod planning;
 
 pub use command::Command;

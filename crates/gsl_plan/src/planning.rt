@@ -1,10 +1,19 @@
 //! From words to a command.
 
-ghost use Rattle.std.specs.Prelude.{◌≡◌, ◌++◌, IfOk, OnOk};
+ghost use Rattle.std.specs.Prelude.{◌≡◌, ◌≢◌, map, IfOk};
+ghost use Rattle.std.specs.List.{All};
+ghost use Rattle.std.specs.Option.{option_and_then};
+ghost use Rattle.std.specs.Str.{IsUtf8};
+ghost use Rattle.clap.specs.Walk.{rows_of, texts};
+ghost use Rattle.clap.specs.Words.{found_of, kind_of};
 ghost use Rattle.gsl_plan.specs.Plan as spec;
 ghost use Rattle.gsl_plan.specs.Plan.{plan_in, plan_of};
+ghost use Rattle.gsl_plan.specs.Found.{found_in, operands_in};
 
 use crate::command::Command;
+use crate::matching::matches_of;
+use clap::error::ErrorKind;
+use clap::{ArgMatches, Error};
 use gsl_base::{Bytes, Memory, Stage, Text, Words};
 use std::alloc::Global;
 
@@ -12,33 +21,63 @@ use std::alloc::Global;
 pub fn plan(alloc: Global, words: &Words) -> Result<Command, Memory>
     ensures { IfOk result (λ command. plan_in command ≡ plan_of words.now) }
 {
-    match words.as_slice() {
-        [_, command, more @ ..] => command_of(alloc, command, more),
-        _ => usage(alloc),
+    let texts = texts_of(alloc, words.as_slice())?;
+    match matches_of(alloc, texts.as_slice()) {
+        Ok(matches) => command_in(alloc, &matches),
+        Err(error) => refused(alloc, &error),
     }
 }
 
-/// The command of this name with the words behind it.
-fn command_of(alloc: Global, command: &Text, words: &[Text]) -> Result<Command, Memory>
-    ensures { IfOk result (λ found. plan_in found ≡ spec.command_of command.now words.now) }
+/// The words as text.
+fn texts_of<'a>(alloc: Global, words: &'a [Text]) -> Result<Vec<&'a str>, Memory>
+    ensures same { IfOk result (λ v. texts v.items ≡ words.now) }
+    ensures utf8 { IfOk result (λ v. All IsUtf8 (texts v.items)) }
 {
-    let Some(operands) = operands(alloc, words)? else {
-        return usage(alloc);
-    };
-    if command.as_str() == "compile" {
-        return compile_of(alloc, operands.as_slice());
+    let mut texts = Vec::new(alloc);
+    for word in words {
+        texts.push(word.as_str())?;
     }
-    if command.as_str() == "dis" {
-        return disassemble_of(alloc, operands.as_slice());
+    Ok(texts)
+}
+
+/// The command that was found, with its operands.
+fn command_in(alloc: Global, matches: &ArgMatches<'_>) -> Result<Command, Memory>
+    ensures { IfOk result (λ found. plan_in found ≡ option_and_then (λ p. spec.named p.0 p.1) (found_in matches.now)) }
+{
+    match matches.subcommand() {
+        Some((name, found)) => command_for(alloc, name, found),
+        None => usage(alloc),
     }
-    if command.as_str() == "asm" {
-        return assemble_of(alloc, operands.as_slice());
+}
+
+/// The command of this name with the operands that were found.
+fn command_for(alloc: Global, name: &str, found: &ArgMatches<'_>) -> Result<Command, Memory>
+    ensures { IfOk result (λ command. plan_in command ≡ spec.named name.now (operands_in (rows_of (found_of found.now)))) }
+{
+    match found.get_strs("operands") {
+        Some(operands) => named(alloc, name, operands),
+        None => named(alloc, name, &[]),
+    }
+}
+
+/// The command of this name with its operands.
+fn named(alloc: Global, name: &str, operands: &[&str]) -> Result<Command, Memory>
+    ensures { IfOk result (λ found. plan_in found ≡ spec.named name.now (texts operands.now)) }
+{
+    if name == "compile" {
+        return compile_of(alloc, operands);
+    }
+    if name == "dis" {
+        return disassemble_of(alloc, operands);
+    }
+    if name == "asm" {
+        return assemble_of(alloc, operands);
     }
     usage(alloc)
 }
 
-fn compile_of(alloc: Global, operands: &[Text]) -> Result<Command, Memory>
-    ensures { IfOk result (λ found. plan_in found ≡ spec.compile_of operands.now) }
+fn compile_of(alloc: Global, operands: &[&str]) -> Result<Command, Memory>
+    ensures { IfOk result (λ found. plan_in found ≡ spec.compile_of (texts operands.now)) }
 {
     match operands {
         [stage, out, file] => compile_for(alloc, stage, out, file),
@@ -46,38 +85,38 @@ fn compile_of(alloc: Global, operands: &[Text]) -> Result<Command, Memory>
     }
 }
 
-fn compile_for(alloc: Global, stage: &Text, out: &Text, file: &Text) -> Result<Command, Memory>
+fn compile_for(alloc: Global, stage: &str, out: &str, file: &str) -> Result<Command, Memory>
     ensures { IfOk result (λ found. plan_in found ≡ spec.compile_for stage.now out.now file.now) }
 {
-    if stage.as_str() != "comp" {
+    if stage != "comp" {
         return usage(alloc);
     }
     Ok(Command::Compile {
         stage: Stage::Compute,
-        out: copied(alloc, out)?,
-        file: copied(alloc, file)?,
+        out: Text::from_str(alloc, out)?,
+        file: Text::from_str(alloc, file)?,
     })
 }
 
-fn disassemble_of(alloc: Global, operands: &[Text]) -> Result<Command, Memory>
-    ensures { IfOk result (λ found. plan_in found ≡ spec.disassemble_of operands.now) }
+fn disassemble_of(alloc: Global, operands: &[&str]) -> Result<Command, Memory>
+    ensures { IfOk result (λ found. plan_in found ≡ spec.disassemble_of (texts operands.now)) }
 {
     match operands {
         [file, out] => Ok(Command::Disassemble {
-            file: copied(alloc, file)?,
-            out: copied(alloc, out)?,
+            file: Text::from_str(alloc, file)?,
+            out: Text::from_str(alloc, out)?,
         }),
         _ => usage(alloc),
     }
 }
 
-fn assemble_of(alloc: Global, operands: &[Text]) -> Result<Command, Memory>
-    ensures { IfOk result (λ found. plan_in found ≡ spec.assemble_of operands.now) }
+fn assemble_of(alloc: Global, operands: &[&str]) -> Result<Command, Memory>
+    ensures { IfOk result (λ found. plan_in found ≡ spec.assemble_of (texts operands.now)) }
 {
     match operands {
         [file, out] => Ok(Command::Assemble {
-            file: copied(alloc, file)?,
-            out: copied(alloc, out)?,
+            file: Text::from_str(alloc, file)?,
+            out: Text::from_str(alloc, out)?,
         }),
         _ => usage(alloc),
     }
@@ -90,45 +129,14 @@ fn usage(alloc: Global) -> Result<Command, Memory>
     Ok(Command::Usage(Bytes::from_slice(alloc, b"usage\n")?))
 }
 
-/// The operands among the words, unless an option stands before the first `--`.
-fn operands(alloc: Global, words: &[Text]) -> Result<Option<Words>, Memory>
-    ensures { IfOk result (λ found. found ≡ spec.operands words.now) }
+/// The words were refused, with the text that says why, unless memory was wanting.
+fn refused(alloc: Global, error: &Error) -> Result<Command, Memory>
+    ensures none { IfOk result (λ found. plan_in found ≡ spec.no_plan) }
+    ensures cause { IfOk result (λ _. kind_of error.now ≢ ErrorKind.OutOfMemory) }
 {
-    let mut operands = Words::new(alloc);
-    let mut rest = words;
-    while let [word, more @ ..] = rest {
-        if word.as_str() == "--" {
-            put_all(alloc, more, &mut operands)?;
-            return Ok(Some(operands));
-        }
-        if is_option(word) {
-            return Ok(None);
-        }
-        operands.push(copied(alloc, word)?)?;
-        rest = more;
+    if error.kind() == ErrorKind::OutOfMemory {
+        return Err(Memory);
     }
-    Ok(Some(operands))
-}
-
-/// Adds the words.
-fn put_all(alloc: Global, words: &[Text], operands: &mut Words) -> Result<(), Memory>
-    ensures { OnOk result (operands.new ≡ operands.old ++ words.now) }
-{
-    for word in words {
-        operands.push(copied(alloc, word)?)?;
-    }
-    Ok(())
-}
-
-/// Whether the word begins with `-` and is not `-` alone.
-fn is_option(word: &Text) -> bool
-    ensures { result ≡ spec.is_option word.now }
-{
-    matches!(word.as_str().as_bytes(), [b'-', _, ..])
-}
-
-fn copied(alloc: Global, word: &Text) -> Result<Text, Memory>
-    ensures { IfOk result (λ text. text ≡ word.now) }
-{
-    Text::from_str(alloc, word.as_str())
+    let text = format!(in alloc; "{error}")?;
+    Ok(Command::Usage(Bytes::from_slice(alloc, text.as_str().as_bytes())?))
 }

@@ -1,5 +1,5 @@
 use super::*;
-use gsl_base::{Memory, Stage, Text, Words};
+use gsl_base::{Bytes, Memory, Stage, Text, Words};
 use std::alloc::Global;
 use std::test::*;
 
@@ -92,11 +92,48 @@ fn other_words_are_no_command(rt: HostRuntime) -> Result<(), Fail> {
         "dis --help o.txt",
         "asm -x m.txt o.spv",
         "asm m.txt",
+        "asm -é o.spv",
         "-- dis m.spv o.txt",
         "Dis m.spv o.txt",
         "help",
+        "help dis",
+        "--help",
     ] {
         assert_eq!(rt; shown(alloc, line)?.as_str(), "usage");
     }
+    Ok(())
+}
+
+/// The text of words that are no command.
+fn refusal(alloc: Global, line: &str) -> Result<Bytes, Memory> {
+    let words = words_of(alloc, line)?;
+    match plan(alloc, &words)? {
+        Command::Usage(text) => Ok(text),
+        _ => Ok(Bytes::new(alloc)),
+    }
+}
+
+fn refused_option() -> &'static [u8] {
+    b"error: unexpected argument '-x' found\n\n  tip: to pass '-x' as a value, use '-- -x'\n\n\
+      Usage: gsl dis MODULE OUT\n\nFor more information, try '--help'.\n"
+}
+
+fn help_of_asm() -> &'static [u8] {
+    b"Makes the module of a text\n\nUsage: gsl asm TEXT OUT\n\nOptions:\n  -h, --help  Print help\n"
+}
+
+#[test]
+fn a_refusal_has_its_text(rt: HostRuntime) -> Result<(), Fail> {
+    let alloc = rt.alloc();
+    assert_eq!(rt;
+        refusal(alloc, "dis m.spv")?.as_slice(),
+        b"usage\n".as_slice()
+    );
+    assert_eq!(rt;
+        refusal(alloc, "dis -x o.txt")?.as_slice(),
+        refused_option()
+    );
+    assert_eq!(rt; refusal(alloc, "asm --help")?.as_slice(), help_of_asm());
+    assert_eq!(rt; refusal(alloc, "help asm")?.as_slice(), help_of_asm());
     Ok(())
 }

@@ -1,0 +1,38 @@
+-- The command line as a command of `clap`, and what the matches of one hold.
+use Rattle.std.specs.Prelude.{Bool, true, ◌||◌, List, [], ◌∷◌, Option, Some, None, codes, if◌then◌else◌, option_map, unwrap_or}
+use Rattle.std.specs.Str.{bytes_eq}
+use Rattle.clap.specs.Simple.{App, new_app, new_rule, on_top, subcommand_rows_of, with_rule, with_subcommand}
+use Rattle.clap.specs.Walk.{Row, Rule, all_of}
+use Rattle.clap.specs.declared.builder.action.ArgAction.TheVariants.{Append}
+use Rattle.clap.specs.declared.parser.matches.ArgMatches.{ArgMatches}
+use Rattle.gsl_plan.specs.Plan.{Name, operands}
+
+-- operands, as many as there are
+abbrev pub operands_rule : Rule
+operands_rule = record (new_rule (codes "operands")) { action = Some Append }
+
+-- a command that takes operands alone
+abbrev pub operated : Name → App
+operated name = with_rule (new_app name) operands_rule
+
+-- the program, which takes one of its commands
+abbrev pub program : App
+program = on_top (λ s. record s { subcommand_required = true }) (new_app (codes "gsl"))
+
+abbrev pub grammar : App
+grammar = with_subcommand (with_subcommand (with_subcommand program (operated (codes "compile")).top) (operated (codes "dis")).top) (operated (codes "asm")).top
+
+abbrev pub operands_in : List Row → List Name
+operands_in rows = unwrap_or (all_of (codes "operands") rows) []
+
+-- the command that was found, with its operands
+abbrev pub found_in : ArgMatches → Option (Name × List Name)
+found_in m = option_map (λ p. (p.0, operands_in p.1)) (subcommand_rows_of m)
+
+abbrev pub is_command : Name → Bool
+is_command word = bytes_eq (codes "compile") word || (bytes_eq (codes "dis") word || bytes_eq (codes "asm") word)
+
+-- a command with its operands, where the words have one and no option stands before the first `--`
+abbrev pub taken : List Name → Option (Name × List Name)
+taken (name ∷ command ∷ words) = if is_command command then option_map (λ more. (command, more)) (operands words) else None
+taken _ = None

@@ -1,0 +1,72 @@
+//! The command line as a command of `clap`.
+
+ghost use Rattle.std.specs.Prelude.{◌≡◌, ◌⊎◌, IfOk, IfErr, None, false};
+ghost use Rattle.std.specs.List.{All};
+ghost use Rattle.std.specs.Str.{IsUtf8};
+ghost use Rattle.clap.specs.Walk.{texts};
+ghost use Rattle.clap.specs.Words.{app_of, kind_of};
+ghost use Rattle.clap.specs.declared.builder.command.Command.TheViews.{out-Command};
+ghost use Rattle.gsl_plan.specs.Found as spec;
+ghost use Rattle.gsl_plan.specs.Found.{found_in, taken};
+
+use clap::error::ErrorKind;
+use clap::{Arg, ArgAction, ArgMatches, Command, Error};
+use std::alloc::{AllocError, Global};
+
+/// What `clap` finds in the words, of which the first is the program's own name.
+pub(crate) fn matches_of<'a>(alloc: Global, words: &'a [&'a str]) -> Result<ArgMatches<'a>, Error>
+    requires { All IsUtf8 (texts words.now) }
+    ensures ok { IfOk result (λ m. found_in m ≡ taken (texts words.now)) }
+    ensures err { IfErr result (λ e. (kind_of e ≡ ErrorKind.OutOfMemory) ⊎ (taken (texts words.now) ≡ None)) }
+{
+    grammar(alloc)?.try_get_matches_from(words)
+}
+
+/// The program with its commands.
+fn grammar<'a>(alloc: Global) -> Result<Command<'a>, AllocError>
+    ensures { IfOk result (λ c. app_of c ≡ spec.grammar) }
+{
+    let compile = operated(
+        alloc,
+        "compile",
+        "Compiles a shader to a module",
+        "gsl compile comp OUT FILE",
+    )?;
+    let disassemble = operated(alloc, "dis", "Shows a module as text", "gsl dis MODULE OUT")?;
+    let assemble = operated(
+        alloc,
+        "asm",
+        "Makes the module of a text",
+        "gsl asm TEXT OUT",
+    )?;
+    program(alloc)
+        .subcommand(compile)?
+        .subcommand(disassemble)?
+        .subcommand(assemble)
+}
+
+/// The program, which takes one of its commands.
+fn program<'a>(alloc: Global) -> Command<'a>
+    ensures { app_of result ≡ spec.program }
+{
+    Command::new(alloc, "gsl").subcommand_required(true)
+}
+
+/// A command that takes operands alone, which its usage names.
+fn operated<'a>(
+    alloc: Global,
+    name: &'a str,
+    about: &'a str,
+    usage: &'a str,
+) -> Result<Command<'a>, AllocError>
+    ensures app { IfOk result (λ c. app_of c ≡ spec.operated name.entry.now) }
+    ensures local { IfOk result (λ c. (out-Command c).has_globals ≡ false) }
+{
+    let operands = Arg::new(alloc, "operands")
+        .action(ArgAction::Append)
+        .hide(true);
+    Command::new(alloc, name)
+        .about(about)
+        .override_usage(usage)
+        .arg(operands)
+}
