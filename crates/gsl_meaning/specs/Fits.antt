@@ -1,6 +1,5 @@
 -- Which inputs fit a program, and the first refusal of any other.
-use Rattle.std.specs.Prelude.{ℕ, Bool, true, false, not, nat_lt, ◌==◌, ◌&&◌, ◌||◌, if◌then◌else◌, List, [], ◌∷◌, length, Option, Some, None, Result, Ok, Err, ⊤}
-use Rattle.std.specs.List.{range_with_len}
+use Rattle.std.specs.Prelude.{ℕ, zero, suc, ◌+◌, Bool, true, false, not, nat_lt, ◌==◌, ◌&&◌, ◌||◌, if◌then◌else◌, List, [], ◌∷◌, length, Option, Some, None, Result, Ok, Err, ⊤}
 use Rattle.gsl_base.specs.declared.input.Input.{Input}
 use Rattle.gsl_base.specs.declared.input.InputRefusal.{InputRefusal}
 use Rattle.gsl_base.specs.declared.input.InputRefusal.TheVariants.{NoBuffer, TooShort, NoPush, PushShort, NoValue, BadIds}
@@ -42,17 +41,23 @@ abbrev pub has_words : ℕ → Option (List ℕ) → Bool
 has_words count None = false
 has_words count (Some words) = not (nat_lt (length words) count)
 
+-- an input at a location has no value, or one of too few words
+abbrev pub is_wanting : Input → ℕ → Interface → Bool
+is_wanting input location i = not i.output && i.location == location && not (has_words (components i.ty) (words_at input.ins location))
+
 -- the inputs at a location
 abbrev pub value_met : Input → ℕ → List Interface → Met
 value_met input location [] = Ok tt
-value_met input location (i ∷ interfaces) =
-    if not i.output && i.location == location && not (has_words (components i.ty) (words_at input.ins location)) then Err (NoValue location)
-    else value_met input location interfaces
+value_met input location (i ∷ interfaces) = if is_wanting input location i then Err (NoValue location) else value_met input location interfaces
+
+-- the inputs at so many locations from one on, in ascending order
+abbrev pub values_from : List Interface → Input → ℕ → ℕ → Met
+values_from interfaces input location zero = Ok tt
+values_from interfaces input location (suc count) = and_met (value_met input location interfaces) (values_from interfaces input (location + 1) count)
 
 -- the inputs in ascending order of location
-abbrev pub values_met : List Interface → Input → List ℕ → Met
-values_met interfaces input [] = Ok tt
-values_met interfaces input (location ∷ more) = and_met (value_met input location interfaces) (values_met interfaces input more)
+unfoldable pub values_met : List Interface → Input → Met
+values_met interfaces input = values_from interfaces input 0 locations
 
 -- whether each part is below its bound
 abbrev pub all_below : List ℕ → List ℕ → Bool
@@ -67,4 +72,4 @@ ids_met p input = if not (is_compute p.stage) || (all_below input.local p.local_
 -- the answer of an input: Ok, or the first refusal
 abbrev pub fits : Program → Input → Met
 fits p input =
-    and_met (blocks_met p.blocks input) (and_met (values_met p.interfaces input (range_with_len 0 locations)) (ids_met p input))
+    and_met (blocks_met p.blocks input) (and_met (values_met p.interfaces input) (ids_met p input))

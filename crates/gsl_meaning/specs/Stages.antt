@@ -1,5 +1,5 @@
 -- What a stage gives: inputs, outputs and built-in variables (GLSL 4.50, 4.3.4, 4.3.6 and 7.1; GL_KHR_vulkan_glsl).
-use Rattle.std.specs.Prelude.{ℕ, ◌+◌, ◌*◌, ◌%◌, ◌^◌, ◌==◌, ◌&&◌, if◌then◌else◌, List, [], ◌∷◌, map, take, flat_map, slice_index, Option, Some, None, unwrap_or}
+use Rattle.std.specs.Prelude.{ℕ, ◌+◌, ◌*◌, ◌%◌, ◌^◌, Bool, ◌==◌, ◌&&◌, if◌then◌else◌, List, [], ◌∷◌, map, take, flat_map, slice_index, Option, Some, None, unwrap_or}
 use Rattle.std.specs.List.{range_with_len}
 use Rattle.gsl_base.specs.declared.input.Located.{Located}
 use Rattle.gsl_base.specs.declared.input.Input.{Input}
@@ -38,10 +38,13 @@ stage_value size input InstanceIndex = Word input.instance
 
 -- ---- inputs and outputs
 
+abbrev pub is_there : ℕ → Located → Bool
+is_there location value = value.location == location
+
 -- the words that are given at a location
 abbrev pub words_at : List Located → ℕ → Option (List ℕ)
 words_at [] location = None
-words_at (value ∷ values) location = if value.location == location then Some value.words else words_at values location
+words_at (value ∷ values) location = if is_there location value then Some value.words else words_at values location
 
 -- an output begins as zeros
 abbrev pub interface_begins : List StructType → Input → Interface → Value

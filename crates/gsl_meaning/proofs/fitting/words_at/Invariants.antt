@@ -1,0 +1,6 @@
+use Rattle.std.proofs.Common.{◌≡◌, drop}
+use Rattle.gsl_meaning.specs.Stages as stages
+use Rattle.gsl_meaning.proofs.fitting.words_at.Given as goal
+
+abbrev pub invariant-loop-k : goal.invariant-loop-k
+invariant-loop-k l = stages.words_at (drop l.k l.ins) l.location ≡ stages.words_at l.ins l.location
