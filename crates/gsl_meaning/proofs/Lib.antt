@@ -2,4 +2,8 @@ pub mod Lists
 pub mod Steps
 pub mod StmtSteps
 pub mod Told
+pub mod Lasts
+pub mod LastsExpr
+pub mod LastsStmt
+pub mod LastsShader
 pub mod Example

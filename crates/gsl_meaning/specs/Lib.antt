@@ -5,5 +5,6 @@ pub mod Expressions
 pub mod Statements
 pub mod Blocks
 pub mod Stages
+pub mod Lasting
 pub mod Fits
 pub mod Shader

@@ -5,8 +5,10 @@
 #![tactic(auto)]
 
 mod fitting;
+mod laws;
 
 pub use fitting::fits;
+pub use laws::more_units_change_nothing;
 
 #[cfg(test)]
 mod tests;
