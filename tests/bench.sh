@@ -56,6 +56,15 @@ as_text() {
   cmp "$made/a.txt" "$made/c.txt"
 }
 
+# A text that asks for much: what is answered, and the time and memory of the whole program.
+hostile() {
+  local ours answer
+  source_of "$2" "$3" >"$made/a.comp"
+  ours=$(measure "$program" compile comp "$made/a.spv" "$made/a.comp")
+  answer=$("$program" compile comp "$made/a.spv" "$made/a.comp" 2>&1 | sed 's/.*comp:/line /' || true)
+  printf '%-24s %9d bytes   ours %6.2f s %8d KiB   %s\n' "$1" "$(stat -c %s "$made/a.comp")" "${ours% *}" "${ours#* }" "$answer"
+}
+
 # valgrind cannot read what the program says for debuggers, so it counts a copy without it.
 instructions() {
   strip -o "$made/stripped" "$program"
@@ -77,6 +86,11 @@ beside "100 functions" functions 100
 beside "1,000 functions" functions 1000
 beside "1 MiB of dense tokens" tokens 1048000
 beside "a chain of 10,000 macros" macros 10000
+hostile "1,000,000 (" parens 999987
+hostile "300 nested ?:" choices 300
+hostile "200 if .. else" elses 200
+hostile "300 nested macro uses" nested 300
+hostile "a condition of 300 (" tests 300
 as_text "1 MiB" 1048576
 as_text "64 MiB" 67108864
 if command -v valgrind >/dev/null; then

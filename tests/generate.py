@@ -8,6 +8,11 @@ generate.py macros N        N object macros, each defined as the one before it, 
 generate.py uses N          N uses of a function macro in one another's results
 generate.py directives N    N definitions of macros
 generate.py conditions N    N conditions, one in another
+generate.py parens N        N open parentheses, behind a line with the version
+generate.py choices N       a statement of N conditional operators, each in the one before it
+generate.py elses N         N ifs, each in the else of the one before it
+generate.py nested N        N uses of a function macro, each in the one before it
+generate.py tests N         a condition that begins with N parentheses
 generate.py assembly BYTES  the text of a module, of sums one behind the other, about so many bytes
 """
 import sys
@@ -63,6 +68,31 @@ def assembly(size):
     yield "OpReturn\nOpFunctionEnd\n"
 
 
+def shader(statements):
+    yield "#version 450\nlayout(local_size_x = 1) in;\n\nlayout(set = 0, binding = 0, std430) buffer B { int a; };\n"
+    yield f"void main() {{ {statements} }}\n"
+
+
+def parens(count):
+    yield "#version 450\n" + "(" * count
+
+
+def choices(count):
+    yield from shader("a = " + "a ? 1, " * count + "1" + " : 1" * count + ";")
+
+
+def elses(count):
+    yield from shader("if (a == 0) a, a; else " * count + ";")
+
+
+def nested(count):
+    yield "#version 450\n#define f(x) x\n" + "f(" * count + "1" + ")" * count + "\n"
+
+
+def tests(count):
+    yield "#version 450\n#if " + "(" * count + "\n"
+
+
 def conditions(count):
     yield "#version 450\n"
     for _ in range(count):
@@ -72,7 +102,7 @@ def conditions(count):
         yield "#endif\n"
 
 
-KINDS = {f.__name__: f for f in (functions, tokens, macros, uses, directives, conditions, assembly)}
+KINDS = {f.__name__: f for f in (functions, tokens, macros, uses, directives, conditions, parens, choices, elses, nested, tests, assembly)}
 
 if len(sys.argv) != 3 or sys.argv[1] not in KINDS or not sys.argv[2].isdigit():
     sys.exit(__doc__)

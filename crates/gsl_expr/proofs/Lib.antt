@@ -4,6 +4,10 @@ pub mod Ends
 pub mod Forms
 pub mod Halves
 pub mod Indexes
+pub mod Live
+pub mod LiveExpressions
+pub mod Near
+pub mod NearExpressions
 pub mod Openings
 pub mod Pieces
 pub mod Signs

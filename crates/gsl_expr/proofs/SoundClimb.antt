@@ -32,7 +32,7 @@ none_below : (k : ℕ) → 1 ≤ k → binds (follow_at []) < k
 unfolding follow_at
 none_below k h = omega arith
 
-ended : (k j : ℕ) (a : Expr) (x : Tokens) → k ≤ j → IsExpr j a x → IsExpr k a (x ++ [])
+pub ended : (k j : ℕ) (a : Expr) (x : Tokens) → k ≤ j → IsExpr j a x → IsExpr k a (x ++ [])
 ended k j a x le w = subst (λ (z : Tokens). IsExpr k a z) (sym (append-nil x)) (looser le w)
 
 -- ---- commas
@@ -48,23 +48,23 @@ pub record Followed (found all : List (Place × Expr)) (zs : Tokens) : Type 0 wh
   pub all_is : all ≡ found ++ others
   pub commas : Commas others zs
 
-none_followed : (found : List (Place × Expr)) → Followed found found []
+pub none_followed : (found : List (Place × Expr)) → Followed found found []
 none_followed found = record { others = []; all_is = sym (append-nil found); commas = refl }
 
 one_more : (p : Place) (b : Expr) (xs : Tokens) (bs : List (Place × Expr)) (zs : Tokens) → IsExpr 1 b xs → Commas bs zs → IsFurther ((p, b) ∷ bs) (sign p punct.Comma ∷ (xs ++ zs))
 one_more p b xs [] zs w h = subst (λ (z : Tokens). IsFurther ((p, b) ∷ []) (sign p punct.Comma ∷ z)) (sym (ap (λ (z : Tokens). xs ++ z) h ∙ append-nil xs)) (phrases.IsFurther.last w)
 one_more p b xs (c ∷ bs) zs w h = phrases.IsFurther.further w h
 
-more_followed : (found : List (Place × Expr)) (p : Place) (b : Expr) (xs : Tokens) (bs : List (Place × Expr)) (zs : Tokens) → IsExpr 1 b xs → Followed (found ++ (p, b) ∷ []) bs zs
+pub more_followed : (found : List (Place × Expr)) (p : Place) (b : Expr) (xs : Tokens) (bs : List (Place × Expr)) (zs : Tokens) → IsExpr 1 b xs → Followed (found ++ (p, b) ∷ []) bs zs
     → Followed found bs (sign p punct.Comma ∷ (xs ++ zs))
 more_followed found p b xs bs zs w r = record { others = (p, b) ∷ r.others; all_is = r.all_is ∙ append_assoc found ((p, b) ∷ []) r.others; commas = one_more p b xs r.others zs w r.commas }
 
-sequence_by : (k : ℕ) (a : Expr) (x : Tokens) (bs : List (Place × Expr)) (zs : Tokens) → k ≤ 0 → IsExpr 1 a x → Commas bs zs → IsExpr k (sequence_of a bs) (x ++ zs)
+pub sequence_by : (k : ℕ) (a : Expr) (x : Tokens) (bs : List (Place × Expr)) (zs : Tokens) → k ≤ 0 → IsExpr 1 a x → Commas bs zs → IsExpr k (sequence_of a bs) (x ++ zs)
 sequence_by k a x [] zs low w h = subst (λ (z : Tokens). IsExpr k a (x ++ z)) (sym h) (ended k 1 a x (omega arith) w)
 sequence_by k a x (b ∷ bs) zs low w h = sequence low w h
 
 module _ (next : ℕ → Parser Expr) (hyp : Nested next) where
-  climb_good : (n k j : ℕ) (a : Expr) (x ts : Tokens) → length ts ≤ n → 1 ≤ k → k ≤ j → IsExpr j a x → binds (follow_at ts) ≤ j → GoodTo (Climbed k x) ts (climb next k n a ts)
+  pub climb_good : (n k j : ℕ) (a : Expr) (x ts : Tokens) → length ts ≤ n → 1 ≤ k → k ≤ j → IsExpr j a x → binds (follow_at ts) ≤ j → GoodTo (Climbed k x) ts (climb next k n a ts)
   unfolding climb
   climb_good zero k j a x [] few low le w stops = to_ok (Climbed k x) [] a (ended k j a x le w, none_below k low)
   climb_good zero k j a x (t ∷ ts) few low le w stops = absurd (omega arith)
@@ -116,7 +116,7 @@ module _ (next : ℕ → Parser Expr) (hyp : Nested next) where
       go false false i j m = stays
   tailed_at k l tail.End a x t rest low lower h s = good_ok (λ b ys. IsExpr l b (x ++ ys)) (t ∷ rest) a (ended l 3 a x (omega arith) s)
 
-  tailed_good : (k l : ℕ) (a : Expr) (x ts : Tokens) → l ≤ 2 → (k ≤ 1 → l ≤ 1) → IsExpr 3 a x → Good (λ b ys. IsExpr l b (x ++ ys)) ts (tailed next k a ts)
+  pub tailed_good : (k l : ℕ) (a : Expr) (x ts : Tokens) → l ≤ 2 → (k ≤ 1 → l ≤ 1) → IsExpr 3 a x → Good (λ b ys. IsExpr l b (x ++ ys)) ts (tailed next k a ts)
   unfolding tailed tail_at
   tailed_good k l a x [] low lower s = good_ok (λ b ys. IsExpr l b (x ++ ys)) [] a (ended l 3 a x (omega arith) s)
   tailed_good k l a x (t ∷ rest) low lower s = tailed_at k l (tail_by t.kind) a x t rest low lower refl s

@@ -50,14 +50,14 @@ pub record Dimmed (first m : Mode) (ds : List Dim) (xs : Tokens) : Type 0 where
   pub indexes : may_be_index m ≡ true → (a : Expr) (zs : Tokens) → IsExpr 15 a zs → IsExpr 15 (index_all a ds) (zs ++ xs)
   pub was_index : may_be_index m ≡ true → may_be_index first ≡ true
 
-none_dimmed : (first : Mode) → Dimmed first first [] []
+pub none_dimmed : (first : Mode) → Dimmed first first [] []
 none_dimmed first = record {
   dims = λ h. no_dims;
   indexes = λ h a zs w. subst (λ (b : Expr). IsExpr 15 b (zs ++ [])) (sym (none_more a)) (subst (λ (z : Tokens). IsExpr 15 a z) (sym (append-nil zs)) w);
   was_index = λ h. h;
 }
 
-more_dimmed : (first m : Mode) (ds : List Dim) (xs : Tokens) (p : Place) (d : Dim) (n : Mode) (ys : Tokens) → Dimmed first m ds xs → One m p d n ys
+pub more_dimmed : (first m : Mode) (ds : List Dim) (xs : Tokens) (p : Place) (d : Dim) (n : Mode) (ys : Tokens) → Dimmed first m ds xs → One m p d n ys
     → Dimmed first n (ds ++ d ∷ []) (xs ++ sign p punct.LeftBracket ∷ ys)
 more_dimmed first m ds xs p d n ys s o = record {
   dims = λ h. dims_append (s.dims (o.was_open h)) (o.dims h);
@@ -77,7 +77,7 @@ index_sized p q a b zs xs v w =
 open_one : (m : Mode) (p q : Place) → may_be_open m ≡ true → One m p (dim.Open p) mode.Type (sign q punct.RightBracket ∷ [])
 open_one m p q o = record { dims = λ h. open_pair q no_dims; was_open = λ h. o; indexes = λ h. absurd cc; was_index = λ h. absurd cc }
 
-sized_one : (m : Mode) (p q : Place) (a : Expr) (xs : Tokens) → IsExpr (level_in m) a xs → One m p (dim.Sized p a) (mode_after m a) (xs ++ sign q punct.RightBracket ∷ [])
+pub sized_one : (m : Mode) (p q : Place) (a : Expr) (xs : Tokens) → IsExpr (level_in m) a xs → One m p (dim.Sized p a) (mode_after m a) (xs ++ sign q punct.RightBracket ∷ [])
 sized_one mode.Type p q a xs w = record { dims = λ h. sized q w no_dims; was_open = λ h. h; indexes = λ h. absurd cc; was_index = λ h. h }
 sized_one mode.Index p q a xs w = record { dims = λ h. absurd cc; was_open = λ h. h; indexes = λ h b zs v. index_sized p q b a zs xs v w; was_index = λ h. h }
 sized_one mode.Either p q a xs w = go (is_cond a) refl
@@ -100,16 +100,16 @@ pub record Stands (h : Head) (xs : Tokens) : Type 0 where
 pub stands_type : {h : Head} {xs : Tokens} → may_be_open h.mode ≡ true → Stands h xs → IsType (head_type h) xs
 stands_type o s = s.as_type o
 
-named_stands : (n : Name) (r : List Dim × Mode) (ys : Tokens) → Dimmed mode.Either r.1 r.0 ys → Stands (named n r.0 r.1) (token n.place (kind.Name n.text) ∷ ys)
+pub named_stands : (n : Name) (r : List Dim × Mode) (ys : Tokens) → Dimmed mode.Either r.1 r.0 ys → Stands (named n r.0 r.1) (token n.place (kind.Name n.text) ∷ ys)
 named_stands n r ys d = record { as_type = λ h. phrases.IsType.named (d.dims h); as_indexed = λ h. d.indexes h (e.Name n.place n.text) (token n.place (kind.Name n.text) ∷ []) phrases.IsExpr.name }
 
-type_dims : (m : Mode) (ds : List Dim) (xs : Tokens) → Dimmed mode.Type m ds xs → IsDims ds xs
+pub type_dims : (m : Mode) (ds : List Dim) (xs : Tokens) → Dimmed mode.Type m ds xs → IsDims ds xs
 type_dims mode.Either ds xs d = d.dims refl
 type_dims mode.Type ds xs d = d.dims refl
 type_dims mode.Index ds xs d = let h : false ≡ true = d.was_index refl in absurd cc
 
 module _ (next : ℕ → Parser Expr) (low : (k : ℕ) (ts : Tokens) → k ≤ 2 → Good (IsExpr k) ts (next k ts)) where
-  bracket_good : (m : Mode) (p : Place) (ts : Tokens) → Good (λ (r : Dim × Mode) (ys : Tokens). One m p r.0 r.1 ys) ts (bracket next m p ts)
+  pub bracket_good : (m : Mode) (p : Place) (ts : Tokens) → Good (λ (r : Dim × Mode) (ys : Tokens). One m p r.0 r.1 ys) ts (bracket next m p ts)
   unfolding bracket
   bracket_good m p ts = go (sees punct.RightBracket ts) (may_be_open m) refl refl
     where

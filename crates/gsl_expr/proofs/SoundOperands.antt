@@ -45,10 +45,10 @@ pub record Closed (found all : List Expr) (zs : Tokens) : Type 0 where
   pub zs_is : zs ≡ ys ++ sign place punct.RightParen ∷ []
   pub items : IsItems others ys
 
-last_item : (found : List Expr) (a : Expr) (xs : Tokens) (p : Place) → IsExpr 1 a xs → Closed found (found ++ a ∷ []) (xs ++ sign p punct.RightParen ∷ [])
+pub last_item : (found : List Expr) (a : Expr) (xs : Tokens) (p : Place) → IsExpr 1 a xs → Closed found (found ++ a ∷ []) (xs ++ sign p punct.RightParen ∷ [])
 last_item found a xs p w = record { others = a ∷ []; ys = xs; place = p; all_is = refl; zs_is = refl; items = one w }
 
-more_items : (found : List Expr) (a : Expr) (xs : Tokens) (p : Place) (bs : List Expr) (zs : Tokens) → IsExpr 1 a xs → Closed (found ++ a ∷ []) bs zs → Closed found bs (xs ++ sign p punct.Comma ∷ zs)
+pub more_items : (found : List Expr) (a : Expr) (xs : Tokens) (p : Place) (bs : List Expr) (zs : Tokens) → IsExpr 1 a xs → Closed (found ++ a ∷ []) bs zs → Closed found bs (xs ++ sign p punct.Comma ∷ zs)
 more_items found a xs p bs zs w r = record {
   others = a ∷ r.others;
   ys = xs ++ sign p punct.Comma ∷ r.ys;
@@ -58,7 +58,7 @@ more_items found a xs p bs zs w r = record {
   items = more p w r.items;
 }
 
-call_of : (t : TypeSpec) (xs : Tokens) (o : Place) (bs : List Expr) (zs : Tokens) → IsType t xs → Closed [] bs zs → IsExpr 15 (e.Call t bs) (xs ++ sign o punct.LeftParen ∷ zs)
+pub call_of : (t : TypeSpec) (xs : Tokens) (o : Place) (bs : List Expr) (zs : Tokens) → IsType t xs → Closed [] bs zs → IsExpr 15 (e.Call t bs) (xs ++ sign o punct.LeftParen ∷ zs)
 call_of t xs o bs zs w r =
     subst (λ (z : Tokens). IsExpr 15 (e.Call t bs) (xs ++ sign o punct.LeftParen ∷ z)) (sym r.zs_is)
     (call o r.place w (phrases.IsArguments.arguments (subst (λ (cs : List Expr). IsItems cs r.ys) (sym r.all_is) r.items)))

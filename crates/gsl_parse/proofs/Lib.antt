@@ -9,7 +9,15 @@ pub mod CompleteParams
 pub mod CompletePhrases
 pub mod CompleteStatements
 pub mod CompleteUnits
+pub mod LiveDeclarations
+pub mod LiveLists
+pub mod LiveStatements
+pub mod LiveUnits
+pub mod NearDeclarations
+pub mod NearLists
+pub mod NearUnits
 pub mod OneTree
+pub mod Placed
 pub mod Settled
 pub mod SoundDeclarations
 pub mod SoundDeclarators

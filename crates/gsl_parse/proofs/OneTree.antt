@@ -11,6 +11,7 @@ use Rattle.gsl_parse.specs.Units.{globals}
 use Rattle.gsl_parse.specs.Judged.{unit_of, Judges, Parsed}
 use Rattle.gsl_parse.proofs.SoundUnits.{globals_sound}
 use Rattle.gsl_parse.proofs.CompleteUnits.{globals_complete}
+use Rattle.gsl_parse.proofs.Placed.{first_left}
 use Rattle.gsl_parse.proofs.Settled.{settled}
 
 all_taken : (ts : Tokens) (us : List Global) → Good (Row IsGlobal) ts (Ok (us, [])) → IsUnit us ts
@@ -26,4 +27,4 @@ pub one_unit : (ts : Tokens) (a b : List Global) → IsUnit a ts → IsUnit b ts
 one_unit ts a b x y = ap (λ (z : List Global × Tokens). z.0) (ok_is (a, []) (b, []) (sym (unit_reads ts a x) ∙ unit_reads ts b y))
 
 pub parsed : (ts : Tokens) (r : Result (List Global) Refusal) → Judges r (unit_of ts) → Parsed IsUnit ts r
-parsed ts r j = settled IsUnit ts (globals (length ts) ts) r (unit_is (length ts) ts) (unit_reads ts) j
+parsed ts r j = settled IsUnit ts (globals (length ts) ts) r (unit_is (length ts) ts) (unit_reads ts) (first_left ts) j

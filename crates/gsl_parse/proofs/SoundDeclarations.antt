@@ -30,7 +30,7 @@ pub use Rattle.gsl_parse.proofs.SoundDeclarators.{qualifiers_sound, typed_sound,
 
 -- ---- structs and members
 
-struct_member_sound : (d : ℕ) (ts : Tokens) → Good IsStructMember ts (struct_member d ts)
+pub struct_member_sound : (d : ℕ) (ts : Tokens) → Good IsStructMember ts (struct_member d ts)
 unfolding struct_member
 struct_member_sound d ts =
     good_then IsType IsStructMember ts (typed d ts) (λ t. commas_of (declared d) >>= λ ns. expect punct.Semicolon >>= λ _. pure (record { ty = t; names = ns })) (typed_sound d ts)
@@ -38,7 +38,7 @@ struct_member_sound d ts =
     (commas_of_sound IsDeclared (declared d) (declared_sound d) rest)
     (λ ns ys after s2 v. good_close (λ m zs. IsStructMember m (xs ++ (ys ++ zs))) punct.Semicolon (record { ty = t; names = ns }) after (λ q. decls.IsStructMember.member q w v)))
 
-structure_sound : (d : ℕ) (ts : Tokens) → sees_key key.Struct ts ≡ true → Good IsStruct ts (structure d ts)
+pub structure_sound : (d : ℕ) (ts : Tokens) → sees_key key.Struct ts ≡ true → Good IsStruct ts (structure d ts)
 unfolding structure
 structure_sound d ts h =
     good_word IsStruct key.Struct ts (λ p. name >>= λ n. expect punct.LeftBrace >>= λ _. some_of open_brace (struct_member d) >>= λ ms. expect punct.RightBrace >>= λ _. pure (record { place = p; name = n; members = ms })) h
@@ -61,7 +61,7 @@ member_sound d ts =
 
 -- ---- variables
 
-declarators_sound : (d : ℕ) (ts : Tokens) → Good IsDeclarators ts (declarators d ts)
+pub declarators_sound : (d : ℕ) (ts : Tokens) → Good IsDeclarators ts (declarators d ts)
 unfolding declarators
 declarators_sound d ts = go (sees punct.Semicolon ts)
   where

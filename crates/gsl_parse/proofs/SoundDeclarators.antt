@@ -46,7 +46,7 @@ lay_from_sound d n ts = go (sees punct.Equal ts) refl
         (λ a xs w. decls.IsLay.value q w))
     go false h = good_ok (λ b ys. IsLay b (token n.place (kind.Name n.text) ∷ ys)) ts (lay.Flag n) decls.IsLay.flag
 
-lay_item_sound : (d : ℕ) (ts : Tokens) → Good IsLay ts (lay_item d ts)
+pub lay_item_sound : (d : ℕ) (ts : Tokens) → Good IsLay ts (lay_item d ts)
 unfolding lay_item
 lay_item_sound d ts = good_name IsLay ts (lay_from d) (λ n rest split. lay_from_sound d n rest)
 
@@ -74,7 +74,7 @@ layout_sound d ts h =
     (commas_of_sound IsLay (lay_item d) (lay_item_sound d) after)
     (λ ls xs last s3 w. good_close (λ b ys. IsQual b (word p key.Layout ∷ (sign o punct.LeftParen ∷ (xs ++ ys)))) punct.RightParen (qual.Layout p ls) last (λ c. decls.IsQual.layout o c w))))
 
-qualifier_sound : (d : ℕ) (ts : Tokens) → Good IsQual ts (qualifier d ts)
+pub qualifier_sound : (d : ℕ) (ts : Tokens) → Good IsQual ts (qualifier d ts)
 unfolding qualifier
 qualifier_sound d ts = go (sees_key key.Layout ts) refl
   where
@@ -129,10 +129,10 @@ pub record Listed (found all : List Init) (zs : Tokens) : Type 0 where
   pub inits : IsInits others ys
   pub ends : Ends tail
 
-last_init : (found : List Init) (a : Init) (xs tail : Tokens) → IsInit a xs → Ends tail → Listed found (found ++ a ∷ []) (xs ++ tail)
+pub last_init : (found : List Init) (a : Init) (xs tail : Tokens) → IsInit a xs → Ends tail → Listed found (found ++ a ∷ []) (xs ++ tail)
 last_init found a xs tail w e = record { others = a ∷ []; ys = xs; tail = tail; all_is = refl; zs_is = refl; inits = decls.IsInits.one w; ends = e }
 
-more_inits : (found : List Init) (a : Init) (xs : Tokens) (p : Place) (bs : List Init) (zs : Tokens) → IsInit a xs → Listed (found ++ a ∷ []) bs zs → Listed found bs (xs ++ sign p punct.Comma ∷ zs)
+pub more_inits : (found : List Init) (a : Init) (xs : Tokens) (p : Place) (bs : List Init) (zs : Tokens) → IsInit a xs → Listed (found ++ a ∷ []) bs zs → Listed found bs (xs ++ sign p punct.Comma ∷ zs)
 more_inits found a xs p bs zs w r = record {
   others = a ∷ r.others;
   ys = xs ++ sign p punct.Comma ∷ r.ys;
@@ -147,7 +147,7 @@ braces_by : (p : Place) (bs : List Init) (ys tail : Tokens) → IsInits bs ys �
 braces_by p bs ys _ w (at_once q) = decls.IsInit.braces q w
 braces_by p bs ys _ w (behind_comma m q) = decls.IsInit.braces_comma m q w
 
-braces_of : (p : Place) (bs : List Init) (zs : Tokens) → Listed [] bs zs → IsInit (init.Braces p bs) (sign p punct.LeftBrace ∷ zs)
+pub braces_of : (p : Place) (bs : List Init) (zs : Tokens) → Listed [] bs zs → IsInit (init.Braces p bs) (sign p punct.LeftBrace ∷ zs)
 braces_of p bs zs r =
     subst (λ (z : Tokens). IsInit (init.Braces p bs) (sign p punct.LeftBrace ∷ z)) (sym r.zs_is)
     (subst (λ (cs : List Init). IsInit (init.Braces p cs) (sign p punct.LeftBrace ∷ (r.ys ++ r.tail))) (sym r.all_is) (braces_by p r.others r.ys r.tail r.inits r.ends))

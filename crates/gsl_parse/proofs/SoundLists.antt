@@ -36,14 +36,14 @@ pub record Added {A : Type 0} (Item : A → Tokens → Type 0) (found all : List
   pub all_is : all ≡ found ++ others
   pub tailed : Tailed Item others zs
 
-commas_by : {A : Type 0} (Item : A → Tokens → Type 0) (a : A) (xs : Tokens) (bs : List A) (zs : Tokens) → Item a xs → Tailed Item bs zs → Commas Item (a ∷ bs) (xs ++ zs)
+pub commas_by : {A : Type 0} (Item : A → Tokens → Type 0) (a : A) (xs : Tokens) (bs : List A) (zs : Tokens) → Item a xs → Tailed Item bs zs → Commas Item (a ∷ bs) (xs ++ zs)
 commas_by Item a xs [] zs w h = subst (λ (z : Tokens). Commas Item (a ∷ []) z) (sym (ap (λ (z : Tokens). xs ++ z) h ∙ append-nil xs)) (one w)
 commas_by Item a xs (b ∷ bs) zs w h = subst (λ (z : Tokens). Commas Item (a ∷ (b ∷ bs)) (xs ++ z)) (sym h.zs_is) (more h.place w h.commas)
 
-no_more : {A : Type 0} (Item : A → Tokens → Type 0) (found : List A) → Added Item found found []
+pub no_more : {A : Type 0} (Item : A → Tokens → Type 0) (found : List A) → Added Item found found []
 no_more Item found = record { others = []; all_is = sym (append-nil found); tailed = refl }
 
-one_more : {A : Type 0} (Item : A → Tokens → Type 0) (found : List A) (p : Place) (a : A) (xs : Tokens) (bs : List A) (zs : Tokens) → Item a xs → Added Item (found ++ a ∷ []) bs zs
+pub one_more : {A : Type 0} (Item : A → Tokens → Type 0) (found : List A) (p : Place) (a : A) (xs : Tokens) (bs : List A) (zs : Tokens) → Item a xs → Added Item (found ++ a ∷ []) bs zs
     → Added Item found bs (sign p punct.Comma ∷ (xs ++ zs))
 one_more Item found p a xs bs zs w r = record {
   others = a ∷ r.others;
@@ -51,10 +51,10 @@ one_more Item found p a xs bs zs w r = record {
   tailed = record { place = p; ys = xs ++ zs; zs_is = refl; commas = commas_by Item a xs r.others zs w r.tailed };
 }
 
-none_grew : {A : Type 0} (Item : A → Tokens → Type 0) (found : List A) → Grew Item found found []
+pub none_grew : {A : Type 0} (Item : A → Tokens → Type 0) (found : List A) → Grew Item found found []
 none_grew Item found = record { others = []; all_is = sym (append-nil found); row = done }
 
-one_grew : {A : Type 0} (Item : A → Tokens → Type 0) (found : List A) (a : A) (xs : Tokens) (bs : List A) (zs : Tokens) → Item a xs → Grew Item (found ++ a ∷ []) bs zs
+pub one_grew : {A : Type 0} (Item : A → Tokens → Type 0) (found : List A) (a : A) (xs : Tokens) (bs : List A) (zs : Tokens) → Item a xs → Grew Item (found ++ a ∷ []) bs zs
     → Grew Item found bs (xs ++ zs)
 one_grew Item found a xs bs zs w r = record { others = a ∷ r.others; all_is = r.all_is ∙ append_assoc found (a ∷ []) r.others; row = next w r.row }
 

@@ -223,10 +223,10 @@ pub record Enclosed (bs : List Stmt) (zs : Tokens) : Type 0 where
   pub zs_is : zs ≡ ys ++ sign place punct.RightBrace ∷ []
   pub body : IsStmts bs ys
 
-last_braced : (found : List Stmt) (q : Place) → Braced found found (sign q punct.RightBrace ∷ [])
+pub last_braced : (found : List Stmt) (q : Place) → Braced found found (sign q punct.RightBrace ∷ [])
 last_braced found q = record { others = []; ys = []; place = q; all_is = sym (append-nil found); zs_is = refl; body = stmts.IsStmts.done }
 
-more_braced : (found : List Stmt) (a : Stmt) (xs : Tokens) (bs : List Stmt) (zs : Tokens) → IsStmt false a xs → Braced (found ++ a ∷ []) bs zs → Braced found bs (xs ++ zs)
+pub more_braced : (found : List Stmt) (a : Stmt) (xs : Tokens) (bs : List Stmt) (zs : Tokens) → IsStmt false a xs → Braced (found ++ a ∷ []) bs zs → Braced found bs (xs ++ zs)
 more_braced found a xs bs zs w r = record {
   others = a ∷ r.others;
   ys = xs ++ r.ys;

@@ -67,7 +67,7 @@ module _ (d : ℕ) (stmt : Parser Stmt) (each : (ts : Tokens) → GoodTo Ended t
       (λ b ys end u. subst (λ (z : Tokens). Ended (s.While p a b) (word p key.While ∷ z) end) (sym (tested_is w ys)) (carried end (λ k x. stmts.IsStmt.while w.open_at w.close_at w.is x) u))))
 
   -- the tokens of `for`, with its parts as they were read
-  for_is : {p o : Place} {i : ForInit} {a b : Option Expr} {c : Stmt} {ws xs ys zs : Tokens} (k : Bool) → IsForInit i ws → Optioned punct.Semicolon a xs → Optioned punct.RightParen b ys → IsStmt k c zs
+  pub for_is : {p o : Place} {i : ForInit} {a b : Option Expr} {c : Stmt} {ws xs ys zs : Tokens} (k : Bool) → IsForInit i ws → Optioned punct.Semicolon a xs → Optioned punct.RightParen b ys → IsStmt k c zs
       → IsStmt k (s.For p i a b c) (word p key.For ∷ (sign o punct.LeftParen ∷ (ws ++ (xs ++ (ys ++ zs)))))
   for_is {p = p} {o = o} {i = i} {a = a} {b = b} {c = c} {ws = ws} {xs = xs} {ys = ys} {zs = zs} k u w v x =
       subst (λ (z : Tokens). IsStmt k (s.For p i a b c) (word p key.For ∷ (sign o punct.LeftParen ∷ (ws ++ z)))) (sym (optioned_is w (ys ++ zs)))

@@ -51,7 +51,7 @@ parameter_from_sound d qs us t vs ts u w = go (sees_name ts)
     go false =
         good_ok (λ b ys. IsParam b (us ++ (vs ++ ys))) ts (param.Unnamed qs t) (subst (λ (z : Tokens). IsParam (param.Unnamed qs t) (us ++ z)) (sym (append-nil vs)) (sentences.IsParam.without_name u w))
 
-parameter_sound : (d : ℕ) (ts : Tokens) → Good IsParam ts (parameter d ts)
+pub parameter_sound : (d : ℕ) (ts : Tokens) → Good IsParam ts (parameter d ts)
 unfolding parameter
 parameter_sound d ts =
     good_then (Row IsQual) IsParam ts (qualifiers d ts) (λ qs. typed d >>= parameter_from d qs) (qualifiers_sound d ts)
@@ -74,10 +74,10 @@ pub record Parened (ps : Params) (zs : Tokens) : Type 0 where
   pub zs_is : zs ≡ inner ++ sign place punct.RightParen ∷ []
   pub params : IsParams ps inner
 
-parened_is : {ps : Params} {xs : Tokens} (w : Parened ps xs) (ys : Tokens) → xs ++ ys ≡ w.inner ++ sign w.place punct.RightParen ∷ ys
+pub parened_is : {ps : Params} {xs : Tokens} (w : Parened ps xs) (ys : Tokens) → xs ++ ys ≡ w.inner ++ sign w.place punct.RightParen ∷ ys
 parened_is w ys = ap (λ (z : Tokens). z ++ ys) w.zs_is ∙ append_assoc w.inner (sign w.place punct.RightParen ∷ []) ys
 
-parameters_sound : (d : ℕ) (ts : Tokens) → Good Parened ts (parameters d ts)
+pub parameters_sound : (d : ℕ) (ts : Tokens) → Good Parened ts (parameters d ts)
 unfolding parameters
 parameters_sound d ts = go (sees punct.RightParen ts) (void_alone ts) refl refl
   where
@@ -154,7 +154,7 @@ named_from_sound d qs us t vs n ts u w = go (sees punct.LeftParen ts) refl
 
 -- ---- blocks
 
-instance_sound : (ts : Tokens) → Good IsInstance ts (instance ts)
+pub instance_sound : (ts : Tokens) → Good IsInstance ts (instance ts)
 unfolding instance
 instance_sound ts = go (sees_name ts)
   where
@@ -176,7 +176,7 @@ block_sound d qs us ts u =
     (λ i zs r5 e5 v. good_close (λ x end. IsDecl x (us ++ token n.place (kind.Name n.text) ∷ (sign o punct.LeftBrace ∷ (ys ++ sign c punct.RightBrace ∷ (zs ++ end))))) punct.Semicolon (decl.Block qs n ms i) r5
     (λ q. decls.IsDecl.block o c q u w v))))))
 
-some_quals : {qs : List Qual} {us : Tokens} → any_qual qs ≡ true → Row IsQual qs us → Some_of IsQual qs us
+pub some_quals : {qs : List Qual} {us : Tokens} → any_qual qs ≡ true → Row IsQual qs us → Some_of IsQual qs us
 some_quals h decls.Row.done = absurd cc
 some_quals h (decls.Row.next w r) = decls.Some_of.these w r
 

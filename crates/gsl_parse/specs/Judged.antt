@@ -1,5 +1,5 @@
 -- What is answered of all of the tokens.
-use Rattle.std.specs.Prelude.{◌≡◌, ⊤, ◌⊎◌, ℕ, List, [], ◌∷◌, length, Option, Some, None, Result, Ok, Err, nat_eq, if◌then◌else◌}
+use Rattle.std.specs.Prelude.{◌≡◌, ⊤, ◌⊎◌, ℕ, List, [], ◌∷◌, ◌++◌, length, Option, Some, None, Result, Ok, Err, nat_eq, if◌then◌else◌}
 use Rattle.std.specs.Option.{option_map}
 use Rattle.gsl_base.specs.declared.fault.Place.{Place}
 use Rattle.gsl_base.specs.declared.fault.Fault.{Fault}
@@ -44,15 +44,19 @@ Judges (Err refusal.Memory) answer = ⊤
 
 -- ---- what an answer says of the tokens, by the grammar alone
 
--- the place of one of the tokens
-abbrev pub IsAmong : Place → Tokens → Type 0
-IsAmong p [] = ⊥
-IsAmong p (t ∷ ts) = (p ≡ t.place) ⊎ IsAmong p ts
+-- Some phrase begins with these tokens.
+abbrev pub Begins : {A : Type 0} → (A → Tokens → Type 0) → Tokens → Type 0
+Begins {A = A} Stands xs = (more : Tokens) × (tree : A) × Stands tree (xs ++ more)
 
--- the place of one of the tokens, or line 1 where there is none
-abbrev pub IsWithin : Place → Tokens → Type 0
-IsWithin p [] = p ≡ first_line
-IsWithin p (t ∷ ts) = IsAmong p (t ∷ ts)
+-- the place of the last token, or this one where there is none
+unfoldable pub last_from : Place → Tokens → Place
+last_from p [] = p
+last_from p (t ∷ ts) = last_from t.place ts
+
+-- The place of the first token that no phrase has there, behind the tokens before it; where the tokens end too soon, that of the last one, and line 1 where there is none.
+pub data FirstBad {A : Type 0} (Stands : A → Tokens → Type 0) (ts : Tokens) : Place → Type 0 where
+  bad_token : (before : Tokens) (token : Token) (behind : Tokens) → ts ≡ before ++ token ∷ behind → Begins Stands before → (Begins Stands (before ++ token ∷ []) → ⊥) → FirstBad Stands ts token.place
+  too_soon : Begins Stands ts → FirstBad Stands ts (last_from first_line ts)
 
 -- The tokens nest too deeply, and the fault tells where they first do.
 pub record TooDeep (ts : Tokens) (fault : Fault) : Type 0 where
@@ -60,14 +64,14 @@ pub record TooDeep (ts : Tokens) (fault : Fault) : Type 0 where
   pub deep : first_deep ts ≡ Some token
   pub is : fault ≡ record { place = token.place; code = code.E0902 }
 
--- They do not nest too deeply, and stand for nothing.
+-- They do not nest too deeply, and stand for nothing; the fault tells which of them is the first bad one.
 pub record NoSentence {A : Type 0} (Stands : A → Tokens → Type 0) (ts : Tokens) (fault : Fault) : Type 0 where
   pub shallow : first_deep ts ≡ None
   pub nothing : (tree : A) → Stands tree ts → ⊥
   pub code_is : fault.code ≡ code.E0301
-  pub within : IsWithin fault.place ts
+  pub first : FirstBad Stands ts fault.place
 
--- A tree is one that the tokens stand for, and a fault is due.
+-- A tree is one that the tokens stand for, and a fault is due and stands where it must.
 abbrev pub Parsed : {A : Type 0} → (A → Tokens → Type 0) → Tokens → Result A Refusal → Type 0
 Parsed Stands ts (Ok tree) = Stands tree ts × (first_deep ts ≡ None)
 Parsed Stands ts (Err (refusal.Source fault)) = TooDeep ts fault ⊎ NoSentence Stands ts fault

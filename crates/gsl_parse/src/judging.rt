@@ -16,11 +16,12 @@ use std::alloc::Global;
 
 /// The tree of a unit's tokens (GLSL 4.50, chapter 9), each node with the place of its head token.
 /// `E0902` comes exactly where the tokens nest too deeply, at the first token that does, and else `E0301`
-/// exactly where they are no unit, at the token where reading stops, the last one where they end too soon.
+/// exactly where they are no unit, at the first token that no unit has there behind the tokens before it,
+/// at the last one where they end too soon.
 pub fn parse(alloc: Global, tokens: &Tokens) -> Result<Unit, Refusal>
     // The answer is what the reader on lists gives.
     ensures answer { Judges result (spec.unit_of tokens.now) }
-    // A tree is one that the grammar derives from exactly these tokens, and a fault is due.
+    // A tree is one that the grammar derives from exactly these tokens, and a fault is due, at the first bad one.
     ensures derived { Parsed IsUnit tokens.now result }
     // A tree that the grammar derives is that one.
     ensures only { (tree : List Top) → IsUnit tree tokens.now → Only tree tokens.now result }
