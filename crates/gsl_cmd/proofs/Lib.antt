@@ -20,6 +20,7 @@ pub mod ValidBlocks
 pub mod ValidShape
 pub mod Decorated
 pub mod ValidDecorations
+pub mod ValidCalls
 pub mod ValidEntry
 pub mod ValidLocality
 pub mod ValidMemory

@@ -9,6 +9,7 @@ use Rattle.gsl_instr.specs.declared.enumerant.execution_model.TheConstants as ex
 use Rattle.gsl_instr.specs.declared.enumerant.execution_mode.TheConstants as execution_mode
 use Rattle.gsl_instr.specs.declared.enumerant.storage_class.TheConstants as storage_class
 use Rattle.gsl_instr.specs.Strings.{string_words}
+use Rattle.gsl_instr.specs.Forms.{form_of}
 use Rattle.gsl_valid.specs.Search.{Test, passed, Passes}
 use Rattle.gsl_valid.proofs.Searching.{passed_append, passes_append, passes_range}
 use Rattle.gsl_form.specs.declared.program.Program.{Program}
@@ -74,14 +75,17 @@ module _ (test : Test) where
   Always i = (before : Code) → IsTrue (test before i)
 
   pub range_passes : (f : ℕ → Instr) (count : ℕ) (before : Code) → ((k : ℕ) → k < count → Always (f k)) → Passes test before (map f (range_with_len 0 count))
+  unfolding form_of
   range_passes f count before each =
       (passes_range test (λ k b. Unit {0}) f 0 count (λ k b low high now. (each k (omega arith) b, tt)) before tt).0
 
   pub names_pass : (members : List Name) (before : Code) → Always block_name → ((k : ℕ) → Always (member_name members k)) → Passes test before (name_code members)
+  unfolding form_of
   names_pass members before block each = (block before, range_passes (member_name members) (length members) (block_name ∷ before) (λ k within. each k))
 
   pub decorations_pass : (members : ℕ) (before : Code) → Always block_decoration → ((k : ℕ) → k < members → Always (member_offset k)) →
       Always set_decoration → Always binding_decoration → Passes test before (decoration_code members)
+  unfolding form_of
   decorations_pass members before block each set binding =
       let offsets = map member_offset (range_with_len 0 members) in
       let behind = passed (block_decoration ∷ before) offsets in (
@@ -92,6 +96,7 @@ module _ (test : Test) where
 
   pub types_pass : (members : ℕ) (before : Code) → Always void_made → Always main_made → Always int_made → Always (block_made members) → Always block_pointer_made →
       Always member_pointer_made → Passes test before (type_code members)
+  unfolding form_of
   types_pass members before void main int block block_pointer member_pointer =
       let first = void_made ∷ before in
       let second = main_made ∷ first in
@@ -101,11 +106,13 @@ module _ (test : Test) where
       (void before, (main first, (int second, (block third, (block_pointer fourth, (member_pointer fifth, tt))))))
 
   pub constants_pass : (constants : List ℕ) (before : Code) → ((k : ℕ) → k < length constants → Always (constant_at constants k)) → Passes test before (constant_code constants)
+  unfolding form_of
   constants_pass constants before each = range_passes (constant_at constants) (length constants) before each
 
   pub code_pass : (p : Program) → IsProgram p → (before : Code) →
       ((n k : ℕ) → Always (pointer (constants_of p) n k)) → ((n q : ℕ) → Always (load n q)) → ((n a b : ℕ) → Always (add n a b)) → ((q v : ℕ) → Always (store q v)) →
       Always (instr op.RETURN []) → Always (instr op.FUNCTION_END []) → Passes test before (the_code p)
+  unfolding form_of
   code_pass p fits before chains loads adds stores returns ends =
       let walk : Walk (constants_of p) (length p.members) (bound_of p) (λ i. Unit {0}) test = record {
         ready = λ n b. Unit {0};
@@ -125,11 +132,13 @@ module _ (test : Test) where
   pub function_pass : (p : Program) → IsProgram p → (before : Code) → Always main_function → Always main_label →
       ((n k : ℕ) → Always (pointer (constants_of p) n k)) → ((n q : ℕ) → Always (load n q)) → ((n a b : ℕ) → Always (add n a b)) → ((q v : ℕ) → Always (store q v)) →
       Always (instr op.RETURN []) → Always (instr op.FUNCTION_END []) → Passes test before (the_function p)
+  unfolding form_of
   function_pass p fits before function label chains loads adds stores returns ends =
       (function before, (label (main_function ∷ before), code_pass p fits (main_label ∷ main_function ∷ before) chains loads adds stores returns ends))
 
 -- What holds behind any code and then the end of the function, holds behind the whole module.
 pub behind_all : (p : Program) (P : Code → Type 0) → ((before : Code) → P (passed before ending)) → P (passed [] (code_of p))
+unfolding form_of
 behind_all p P last =
     let front = ((((preamble ++ name_code p.members) ++ decoration_code (length p.members)) ++ type_code (length p.members)) ++ constant_code (constants_of p)) ++ variable_code in
     subst P (sym (passed_append [] front (the_function p)))

@@ -36,6 +36,7 @@ module _ (constants : List ℕ) where
       over_term next term (add sum value (term_value constants next term) ∷ rest) label met ∙ over_more (sum + 1) sum terms follows label met
 
   over_sum : (next : ℕ) (terms : List Term) (follows : Code) (label : ℕ) (met : Merge) → blocks_from (sum_code constants next terms follows) label met ≡ blocks_from follows label met
+  unfolding form_of
   over_sum next [] follows label met = refl
   over_sum next (term ∷ terms) follows label met =
       over_term next term (more_code constants (next + term_ids constants term) (term_value constants next term) terms follows) label met
@@ -55,13 +56,15 @@ unfolding form_of blocks_from
 one_block p = over_statements (constants_of p) (first_id (constants_of p)) p.statements ending id.ENTRY Nothing
 
 none_nested : nesting_of (block id.ENTRY Nothing Leave ∷ []) ≡ Some 0
-unfolding reads
+unfolding reads form_of
 none_nested = refl
 
 pub nesting_is : (p : Program) → nesting (module_of p) (before_function p) ≡ Some 0
+unfolding form_of
 nesting_is p = ap (λ code. nesting_of (blocks_of code)) (from_function p) ∙ ap nesting_of (one_block p) ∙ none_nested
 
 pub order_kept : (p : Program) → IsProgram p → Passes (begins_structured (module_of p)) [] (code_of p)
+unfolding form_of
 order_kept p fits =
     let test = begins_structured (module_of p) in
     passes_parts p test (refl, (refl, (refl, (refl, tt)))) (names_pass test p.members before_names (λ b. refl) (λ k b. refl))

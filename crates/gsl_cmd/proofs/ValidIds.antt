@@ -3,6 +3,7 @@ use Rattle.std.proofs.Common.{◌≡◌, ℕ, ◌+◌, ◌<◌, ◌≤◌, true,
 use Rattle.std.specs.List.{range_with_len}
 use Rattle.std.proofs.lemmas.Bool.{and_from, or_from, le-leb, lt-ltb, ne_eqb, not_from_false}
 use Rattle.gsl_words.specs.declared.module.Instr.{Instr}
+use Rattle.gsl_instr.specs.Forms.{form_of}
 use Rattle.gsl_valid.specs.Instruction.{read}
 use Rattle.gsl_valid.specs.Search.{Passes}
 use Rattle.gsl_valid.specs.Ids.{result, defines, defined, definition}
@@ -23,6 +24,7 @@ bound_of p = first_id (constants_of p) + statements_ids (constants_of p) p.state
 
 -- a new id behind some code
 new_passes : (bound n : ℕ) (before : Code) → 1 ≤ n → n < bound → defined before n ≡ false → is_new bound before (Some n) ≡ true
+unfolding form_of
 new_passes bound n before some below new = and_from _ _ (and_from _ _ (le-leb 1 n some) (lt-ltb n bound below)) (not_from_false _ new)
 
 -- no id from n on is defined
@@ -31,10 +33,12 @@ FreeFrom n before = (id : ℕ) → n ≤ id → defined before id ≡ false
 
 -- an id that is taken, and the ids behind it
 taken : (n : ℕ) (before : Code) → FreeFrom n before → (id : ℕ) → n + 1 ≤ id → (eqb n id || defined before id) ≡ false
+unfolding form_of
 taken n before free id above = or_from (eqb n id) (defined before id) (ne_eqb n id (λ e. omega arith)) (free id (omega arith))
 
 module _ (constants : List ℕ) (members bound : ℕ) where
   abbrev ids_walk : Walk constants members bound (λ i. Unit {0}) (defines_once bound)
+  unfolding form_of
   ids_walk = record {
     ready = λ n before. (1 ≤ n) × FreeFrom n before;
     value = λ v before. Unit {0};
@@ -51,11 +55,13 @@ module _ (constants : List ℕ) (members bound : ℕ) where
 module _ (p : Program) where
   -- no id is defined before the types
   none_defined : (id : ℕ) → defined (before_types p) id ≡ false
+  unfolding form_of
   none_defined id =
       none_before_types p (λ i. defines i id) refl refl (λ k. refl) (none_in_decorations p (λ i. defines i id) refl (λ k. refl) refl refl)
 
   -- the types take ids below 10
   types_below : FreeFrom 10 (before_constants p)
+  unfolding form_of
   types_below id above =
       or_from (eqb 8 id) _ (ne_eqb 8 id (λ e. omega arith))
       (or_from (eqb 7 id) _ (ne_eqb 7 id (λ e. omega arith))
@@ -69,12 +75,14 @@ module _ (p : Program) where
   Apart count before = (id : ℕ) → (id < 10) ⊎ (10 + count ≤ id) → defined before id ≡ defined (before_constants p) id
 
   one_more : (k : ℕ) (before : Code) → Apart k before → Apart (k + 1) (constant_at (constants_of p) k ∷ before)
+  unfolding form_of
   one_more k before apart id (inl below) =
       ap (λ b. b || defined before id) (ne_eqb (10 + k) id (λ e. omega arith)) ∙ apart id (inl below)
   one_more k before apart id (inr above) =
       ap (λ b. b || defined before id) (ne_eqb (10 + k) id (λ e. omega arith)) ∙ apart id (inr (omega arith))
 
   constants_pass : Passes (defines_once (bound_of p)) (before_constants p) (constant_code (constants_of p)) × Apart (0 + length (constants_of p)) (before_variable p)
+  unfolding form_of
   constants_pass =
       passes_range (defines_once (bound_of p)) Apart (constant_at (constants_of p)) 0 (length (constants_of p))
       (λ k before low high apart. (
@@ -84,9 +92,11 @@ module _ (p : Program) where
 
   -- no id below 10 other than those of the types is defined before the variable
   not_yet : (id : ℕ) → id < 10 → defined (before_constants p) id ≡ false → defined (before_variable p) id ≡ false
+  unfolding form_of
   not_yet id below none = constants_pass.1 id (inl below) ∙ none
 
   free_from_code : FreeFrom (first_id (constants_of p)) (before_code p)
+  unfolding form_of
   free_from_code id above =
       or_from (eqb 4 id) _ (ne_eqb 4 id (λ e. omega arith))
       (or_from (eqb 1 id) _ (ne_eqb 1 id (λ e. omega arith))
@@ -94,6 +104,7 @@ module _ (p : Program) where
       (constants_pass.1 id (inr (omega arith)) ∙ types_below id (omega arith))))
 
   pub ids_once : IsProgram p → Passes (defines_once (bound_of p)) [] (code_of p)
+  unfolding form_of
   ids_once fits =
       let test = defines_once (bound_of p) in
       let quiet : ℕ → Code → Type 0 = λ k before. Unit {0} in
@@ -130,4 +141,5 @@ module _ (p : Program) where
 
   -- What an instruction of the module defines is found by its id.
   pub defined_by : IsProgram p → (i : Instr) (id : ℕ) → Has (code_of p) i → result (read i) ≡ Some id → definition (code_of p) id ≡ read i
+  unfolding form_of
   defined_by fits i id has e = definition_is (bound_of p) [] (code_of p) i id (ids_once fits) has e

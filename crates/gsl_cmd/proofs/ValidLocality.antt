@@ -5,6 +5,7 @@ use Rattle.std.proofs.lemmas.Bool.{and_from, or_left, or_right, cond_both, eq-eq
 use Rattle.gsl_instr.specs.declared.op.TheConstants as op
 use Rattle.gsl_instr.specs.declared.enumerant.capability.TheConstants as capability
 use Rattle.gsl_instr.specs.declared.enumerant.memory_model.TheConstants as memory_model
+use Rattle.gsl_instr.specs.Forms.{form_of}
 use Rattle.gsl_valid.specs.Search.{passed, Passes}
 use Rattle.gsl_valid.specs.Ids.{defined, definition}
 use Rattle.gsl_valid.specs.LocalityRules.{uses_near, is_near, near_as, of_block}
@@ -36,44 +37,57 @@ module _ (p : Program) (fits : IsProgram p) where
   near = is_near (module_of p)
 
   close_near : (id : ℕ) (before : Code) → Close id before → near before id ≡ true
+  unfolding form_of
   close_near id before close =
       cond_both (of_block (definition (code_of p) id)) _ _ (λ b. b ≡ true) (λ e. close.0) (λ e. or_right _ _ close.1)
 
   near_void : (before : Code) → near before id.VOID ≡ true
+  unfolding form_of
   near_void before = ap (near_as (here before) id.VOID) known.void
 
   near_main_type : (before : Code) → near before id.MAIN_TYPE ≡ true
+  unfolding form_of
   near_main_type before = ap (near_as (here before) id.MAIN_TYPE) known.main_type
 
   near_int : (before : Code) → near before id.INT ≡ true
+  unfolding form_of
   near_int before = ap (near_as (here before) id.INT) known.int
 
   near_block : (before : Code) → near before id.BLOCK ≡ true
+  unfolding form_of
   near_block before = ap (near_as (here before) id.BLOCK) known.block
 
   near_block_pointer : (before : Code) → near before id.BLOCK_POINTER ≡ true
+  unfolding form_of
   near_block_pointer before = ap (near_as (here before) id.BLOCK_POINTER) known.block_pointer
 
   near_member_pointer : (before : Code) → near before id.MEMBER_POINTER ≡ true
+  unfolding form_of
   near_member_pointer before = ap (near_as (here before) id.MEMBER_POINTER) known.member_pointer
 
   near_buffer : (before : Code) → near before id.BUFFER ≡ true
+  unfolding form_of
   near_buffer before = ap (near_as (here before) id.BUFFER) known.buffer
 
   near_main : (before : Code) → near before id.MAIN ≡ true
+  unfolding form_of
   near_main before = ap (near_as (here before) id.MAIN) known.main
 
   near_constant : (v : ℕ) (before : Code) → among (constants_of p) v ≡ true → near before (constant_id (constants_of p) v) ≡ true
+  unfolding form_of
   near_constant v before there = ap (near_as (here before) (constant_id (constants_of p) v)) (known.constant v there)
 
   -- one id that is near
   one : (before : Code) (id : ℕ) → near before id ≡ true → (list_all (near before) (id ∷ []) && true) ≡ true
+  unfolding form_of
   one before id e = and_from _ _ (and_from _ _ e refl) refl
 
   mention : (before : Code) (id : ℕ) → near before id ≡ true → list_all (near before) (id ∷ []) ≡ true
+  unfolding form_of
   mention before id e = and_from _ _ e refl
 
   own : (n : ℕ) → eqb n n ≡ true
+  unfolding form_of
   own n = eq-eqb n n refl
 
   -- a constant is near anywhere, and what the block defines in it
@@ -81,18 +95,22 @@ module _ (p : Program) (fits : IsProgram p) where
   Value v before = ((b : Code) → near b v ≡ true) ⊎ Close v before
 
   value_near : (v : ℕ) (before : Code) → Value v before → near before v ≡ true
+  unfolding form_of
   value_near v before (inl always) = always before
   value_near v before (inr close) = close_near v before close
 
   behind_chain : (n k v : ℕ) (before : Code) → Value v before → Value v (pointer (constants_of p) n k ∷ before)
+  unfolding form_of
   behind_chain n k v before (inl always) = inl always
   behind_chain n k v before (inr close) = inr (or_right (eqb n v) _ close.0, or_right (eqb n v) _ close.1)
 
   behind_load : (n q v : ℕ) (before : Code) → Value v before → Value v (load n q ∷ before)
+  unfolding form_of
   behind_load n q v before (inl always) = inl always
   behind_load n q v before (inr close) = inr (or_right (eqb n v) _ close.0, or_right (eqb n v) _ close.1)
 
   abbrev near_walk : Walk (constants_of p) (length p.members) (bound_of p) (λ i. Unit {0}) (uses_near (module_of p))
+  unfolding form_of
   near_walk = record {
     ready = λ n before. Unit {0};
     value = Value;
@@ -120,6 +138,7 @@ module _ (p : Program) (fits : IsProgram p) where
   }
 
   pub near_kept : Passes (uses_near (module_of p)) [] (code_of p)
+  unfolding form_of
   near_kept =
       let test = uses_near (module_of p) in
       let two = passed [] (instr op.CAPABILITY (capability.SHADER ∷ []) ∷ instr op.MEMORY_MODEL (memory_model.LOGICAL ∷ memory_model.GLSL450 ∷ []) ∷ []) in

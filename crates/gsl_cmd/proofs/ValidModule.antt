@@ -1,5 +1,5 @@
 -- The module of a program is valid.
-use Rattle.std.proofs.Common.{[], refl}
+use Rattle.std.proofs.Common.{[]}
 use Rattle.gsl_valid.specs.Search.{Test, Passes}
 use Rattle.gsl_valid.specs.Valid.{Valid, rules}
 use Rattle.gsl_valid.proofs.Searching.{none_broken}
@@ -13,6 +13,7 @@ use Rattle.gsl_cmd.proofs.ValidIds.{ids_once}
 use Rattle.gsl_cmd.proofs.ValidUses.{uses_kept}
 use Rattle.gsl_cmd.proofs.ValidTypes.{types_made, constants_typed, globals_kept, limits_kept}
 use Rattle.gsl_cmd.proofs.ValidDecorations.{decorations_kept, layout_kept}
+use Rattle.gsl_cmd.proofs.ValidCalls.{calls_kept, extended_is_kept}
 use Rattle.gsl_cmd.proofs.ValidEntry.{entry_point_kept}
 use Rattle.gsl_cmd.proofs.ValidShape.{shape_none, void_returned}
 use Rattle.gsl_cmd.proofs.ValidBlocks.{order_kept}
@@ -46,14 +47,14 @@ module_valid p fits =
                         (
                           shape_none p fits,
                           (
-                            refl,
+                            kept _ (calls_kept p fits),
                             (
                               kept _ (order_kept p fits),
                               (
                                 kept _ (near_kept p fits),
                                 (
                                   kept _ (operands_kept p fits),
-                                  (kept _ (memory_is_kept p fits), (kept _ (void_returned p fits), (refl, (kept _ (limits_kept p fits), tt)))),
+                                  (kept _ (memory_is_kept p fits), (kept _ (void_returned p fits), (kept _ (extended_is_kept p fits), (kept _ (limits_kept p fits), tt)))),
                                 ),
                               ),
                             ),

@@ -1,15 +1,17 @@
 -- The function of a program's module has the shape of one, and returns nothing.
-use Rattle.std.proofs.Common.{◌≡◌, ℕ, true, [], ◌∷◌, length, map, None, refl, ap, ◌∙◌, arith}
+use Rattle.std.proofs.Common.{◌≡◌, ℕ, true, [], ◌∷◌, length, map, None, refl, ap, ◌∙◌, arith, Option, Some}
 use Rattle.std.specs.List.{range_with_len}
 use Rattle.std.proofs.lemmas.Bool.{and_from}
 use Rattle.gsl_instr.specs.declared.enumerant.storage_class.TheConstants as storage_class
 use Rattle.gsl_words.specs.declared.module.Module.{Module}
-use Rattle.gsl_valid.specs.Instruction.{Instruction, Function}
+use Rattle.gsl_instr.specs.declared.instruction.Instruction.{Instruction}
+use Rattle.gsl_instr.specs.declared.instruction.Instruction.TheVariants as instruction
+use Rattle.gsl_instr.specs.Forms.{form_of}
 use Rattle.gsl_valid.specs.Placed.{count_of_words}
 use Rattle.gsl_valid.specs.Search.{passed, whole, unless, Passes, ◌otherwise◌}
-use Rattle.gsl_valid.specs.Types.{void_type}
+use Rattle.gsl_valid.specs.Types.{void_type, parameters_of}
 use Rattle.gsl_valid.specs.FunctionRules.{function_shape, in_shape, outside, may_be_variable, may_begin, in_block, gives}
-use Rattle.gsl_valid.specs.Where.{Standing, Outside, Begun, where_at, parameters_of}
+use Rattle.gsl_valid.specs.Where.{Standing, Outside, Begun, where_at}
 use Rattle.gsl_valid.specs.ReturnRules.{returns_kept, gives_void}
 use Rattle.gsl_valid.proofs.Searching.{passed_append, passes_range, none_broken}
 use Rattle.gsl_form.specs.declared.program.Program.{Program}
@@ -28,7 +30,7 @@ abbrev standing : Module → Code → Standing
 standing m before = (where_at m before).standing
 
 -- the nearest Function
-abbrev function_at : Module → Code → Instruction
+abbrev function_at : Module → Code → Option Instruction
 function_at m before = (where_at m before).function
 
 -- Where the code stands -------------------------------------------------------------------------------------------
@@ -38,23 +40,28 @@ module _ (p : Program) where
   StandsOutside k before = standing (module_of p) before ≡ Outside
 
   outside_names : standing (module_of p) (before_decorations p) ≡ Outside
+  unfolding form_of
   outside_names =
       (passes_range (λ b i. true) StandsOutside (member_name p.members) 0 (length p.members) (λ k b low high now. (refl, now)) (block_name ∷ before_names) refl).1
 
   outside_offsets : standing (module_of p) (passed (block_decoration ∷ before_decorations p) (map member_offset (range_with_len 0 (length p.members)))) ≡ Outside
+  unfolding form_of
   outside_offsets =
       (passes_range (λ b i. true) StandsOutside member_offset 0 (length p.members) (λ k b low high now. (refl, now)) (block_decoration ∷ before_decorations p) outside_names).1
 
   outside_types : standing (module_of p) (before_types p) ≡ Outside
+  unfolding form_of
   outside_types =
       ap (standing (module_of p)) (passed_append (block_decoration ∷ before_decorations p) (map member_offset (range_with_len 0 (length p.members))) (set_decoration ∷ binding_decoration ∷ []))
       ∙ outside_offsets
 
   outside_constants : standing (module_of p) (before_variable p) ≡ Outside
+  unfolding form_of
   outside_constants =
       (passes_range (λ b i. true) StandsOutside (constant_at (constants_of p)) 0 (length (constants_of p)) (λ k b low high now. (refl, now)) (before_constants p) outside_types).1
 
   abbrev shape_walk : Walk (constants_of p) (length p.members) (bound_of p) (λ i. Unit {0}) (in_shape (module_of p))
+  unfolding form_of
   shape_walk = record {
     ready = λ n before. in_block (standing (module_of p) before) ≡ true;
     value = λ v before. Unit {0};
@@ -69,6 +76,7 @@ module _ (p : Program) where
   }
 
   pub in_shape_kept : IsProgram p → Passes (in_shape (module_of p)) [] (code_of p)
+  unfolding form_of
   in_shape_kept fits =
       let test = in_shape (module_of p) in
       let known = facts p fits in
@@ -86,6 +94,7 @@ module _ (p : Program) where
       )
 
   pub shape_none : IsProgram p → function_shape (module_of p) ≡ None
+  unfolding form_of
   shape_none fits =
       let m = module_of p in
       let ends : outside (standing m (whole m)) ≡ true = behind_all p (λ code. outside (standing m code) ≡ true) (λ before. refl) in
@@ -95,8 +104,9 @@ module _ (p : Program) where
   -- Return ----------------------------------------------------------------------------------------------------------
 
   abbrev returns_walk : Walk (constants_of p) (length p.members) (bound_of p) (λ i. Unit {0}) (returns_kept (module_of p))
+  unfolding form_of
   returns_walk = record {
-    ready = λ n before. function_at (module_of p) before ≡ Function id.VOID id.MAIN 0 id.MAIN_TYPE;
+    ready = λ n before. function_at (module_of p) before ≡ Some (instruction.Function id.VOID id.MAIN 0 id.MAIN_TYPE);
     value = λ v before. Unit {0};
     points = λ v before. Unit {0};
     chain = λ n k before within room here now. (refl, now, tt);
@@ -109,6 +119,7 @@ module _ (p : Program) where
   }
 
   pub void_returned : IsProgram p → Passes (returns_kept (module_of p)) [] (code_of p)
+  unfolding form_of
   void_returned fits =
       let test = returns_kept (module_of p) in
       let known = facts p fits in

@@ -2,11 +2,12 @@
 use Rattle.std.proofs.Common.{◌≡◌, ℕ, zero, suc, ◌+◌, ◌≤◌, true, ◌||◌, [], ◌∷◌, length, map, refl, ap, ◌∙◌, arith}
 use Rattle.std.specs.Prelude.{replicate, fold, max}
 use Rattle.std.proofs.Math.ListN.{length-replicate}
-use Rattle.std.proofs.lemmas.Bool.{and_from, or_right, not_from_false, le-leb}
+use Rattle.std.proofs.lemmas.Bool.{and_from, or_left, or_right, not_from_false, le-leb}
 use Rattle.gsl_instr.specs.declared.enumerant.storage_class.TheConstants as storage_class
+use Rattle.gsl_instr.specs.Forms.{form_of}
 use Rattle.gsl_valid.specs.Search.{Passes}
 use Rattle.gsl_valid.specs.Types.{void_type, int_type, struct_type, value_type, target_of, is_value_type, highest, height}
-use Rattle.gsl_valid.specs.TypeRules.{type_made, same_type}
+use Rattle.gsl_valid.specs.TypeRules.{type_made, is_member, same_type}
 use Rattle.gsl_valid.specs.ConstantRules.{constant_typed}
 use Rattle.gsl_valid.specs.GlobalRules.{global_kept, is_global_of}
 use Rattle.gsl_valid.specs.LimitRules.{within_limits, nests_within, most_members, most_height}
@@ -25,9 +26,11 @@ module _ (p : Program) (fits : IsProgram p) where
   known = facts p fits
 
   int_is_value : is_value_type (module_of p) id.INT ≡ true
+  unfolding form_of
   int_is_value = ap value_type known.int
 
   pub types_made : Passes (type_made (module_of p)) [] (code_of p)
+  unfolding form_of
   types_made =
       let test = type_made (module_of p) in
       passes_parts p test (refl, (refl, (refl, (refl, tt)))) (names_pass test p.members before_names (λ b. refl) (λ k b. refl))
@@ -39,7 +42,7 @@ module _ (p : Program) (fits : IsProgram p) where
           (
             not_from_false _ (none_before_types p (same_type int_made) refl refl (λ k. refl) (none_in_decorations p (same_type int_made) refl (λ k. refl) refl refl)),
             (
-              all_same (is_value_type (module_of p)) id.INT (length p.members) int_is_value,
+              all_same (is_member (module_of p)) id.INT (length p.members) (or_left _ _ int_is_value),
               (
                 and_from _ _ (ap value_type known.block)
                     (not_from_false _ (none_before_types p (same_type block_pointer_made) refl refl (λ k. refl) (none_in_decorations p (same_type block_pointer_made) refl (λ k. refl) refl refl))),
@@ -57,6 +60,7 @@ module _ (p : Program) (fits : IsProgram p) where
       (function_pass test p fits (before_function p) (λ b. refl) (λ b. refl) (λ n k b. refl) (λ n q b. refl) (λ n a c b. refl) (λ q v b. refl) (λ b. refl) (λ b. refl))
 
   pub constants_typed : Passes (constant_typed (module_of p)) [] (code_of p)
+  unfolding form_of
   constants_typed =
       let test = constant_typed (module_of p) in
       passes_parts p test (refl, (refl, (refl, (refl, tt)))) (names_pass test p.members before_names (λ b. refl) (λ k b. refl))
@@ -66,6 +70,7 @@ module _ (p : Program) (fits : IsProgram p) where
       (function_pass test p fits (before_function p) (λ b. refl) (λ b. refl) (λ n k b. refl) (λ n q b. refl) (λ n a c b. refl) (λ q v b. refl) (λ b. refl) (λ b. refl))
 
   pub globals_kept : Passes (global_kept (module_of p)) [] (code_of p)
+  unfolding form_of
   globals_kept =
       let test = global_kept (module_of p) in
       passes_parts p test (refl, (refl, (refl, (refl, tt))))
@@ -81,10 +86,12 @@ module _ (p : Program) (fits : IsProgram p) where
       (λ n a c b. or_right _ _ refl) (λ q v b. or_right _ _ refl) (λ b. or_right _ _ refl) (λ b. or_right _ _ refl))
 
   highest_few : (f : ℕ → ℕ) (x most first count : ℕ) → first ≤ most → f x ≤ most → fold max first (map f (replicate count x)) ≤ most
+  unfolding form_of
   highest_few f x most first zero low high = low
   highest_few f x most first (suc count) low high = highest_few f x most (max first (f x)) count (omega arith) high
 
   pub limits_kept : Passes (within_limits (module_of p)) [] (code_of p)
+  unfolding form_of
   limits_kept =
       let test = within_limits (module_of p) in
       let int = int_made ∷ main_made ∷ void_made ∷ before_types p in

@@ -4,6 +4,7 @@ use Rattle.std.specs.Prelude.{replicate}
 use Rattle.std.specs.List.{list_all}
 use Rattle.std.proofs.lemmas.Bool.{and_from, or_left, or_right, eq-eqb}
 use Rattle.gsl_words.specs.declared.module.Instr.{Instr}
+use Rattle.gsl_instr.specs.Forms.{form_of}
 use Rattle.gsl_valid.specs.Search.{Test, Passes}
 use Rattle.gsl_valid.specs.Ids.{defines, defined}
 use Rattle.gsl_valid.specs.DefinedBeforeUse.{uses_defined}
@@ -21,13 +22,16 @@ use Rattle.gsl_cmd.proofs.Facts.{has_constant}
 use Rattle.gsl_cmd.proofs.Quiet.{names_pass, decorations_pass}
 
 pub all_same : (f : ℕ → Bool) (x count : ℕ) → f x ≡ true → list_all f (replicate count x) ≡ true
+unfolding form_of
 all_same f x zero e = refl
 all_same f x (suc count) e = and_from (f x) _ e (all_same f x count e)
 
 pub two_defined : (f : ℕ → Bool) (a b : ℕ) → f a ≡ true → f b ≡ true → (list_all f (a ∷ b ∷ []) && true) ≡ true
+unfolding form_of
 two_defined f a b x y = and_from _ _ (and_from (f a) _ x (and_from (f b) _ y refl)) refl
 
 pub three_defined : (f : ℕ → Bool) (a b c : ℕ) → f a ≡ true → f b ≡ true → f c ≡ true → (list_all f (a ∷ b ∷ c ∷ []) && true) ≡ true
+unfolding form_of
 three_defined f a b c x y z = and_from _ _ (and_from (f a) _ x (and_from (f b) _ y (and_from (f c) _ z refl))) refl
 
 module _ (p : Program) where
@@ -39,19 +43,24 @@ module _ (p : Program) where
   Keeps start before = (id : ℕ) → defined start id ≡ true → defined before id ≡ true
 
   keeps_more : (start before : Code) (i : Instr) → Keeps start before → Keeps start (i ∷ before)
+  unfolding form_of
   keeps_more start before i keeps id here = or_right (defines i id) _ (keeps id here)
 
   -- a constant's id is defined before the variable
   constant_defined : (v : ℕ) → among (constants_of p) v ≡ true → defined (before_variable p) (constant_id (constants_of p) v) ≡ true
+  unfolding form_of
   constant_defined v known = has_behind (before_constants p) (constant_code (constants_of p)) _ (constant_id (constants_of p) v) (has_constant p v known) refl
 
   kept_constants : Keeps (before_constants p) (before_variable p)
+  unfolding form_of
   kept_constants id here = defined_behind (before_constants p) (constant_code (constants_of p)) id here
 
   kept_code : Keeps (before_variable p) (before_code p)
+  unfolding form_of
   kept_code id here = or_right (eqb 4 id) _ (or_right (eqb 1 id) _ (or_right (eqb 9 id) _ here))
 
   abbrev uses_walk : Walk (constants_of p) (length p.members) (bound_of p) (λ i. Unit {0}) uses
+  unfolding form_of
   uses_walk = record {
     ready = λ n before. Keeps (before_code p) before;
     value = λ v before. defined before v ≡ true;
@@ -80,15 +89,19 @@ module _ (p : Program) where
 
   -- what may come later is defined
   main_defined : defined (code_of p) id.MAIN ≡ true
+  unfolding form_of
   main_defined = has_defined (code_of p) _ id.MAIN (in_main p _ (inl refl)) refl
 
   block_defined : defined (code_of p) id.BLOCK ≡ true
+  unfolding form_of
   block_defined = has_defined (code_of p) _ id.BLOCK (in_types p _ (inr (inr (inr (inl refl))))) refl
 
   buffer_defined : defined (code_of p) id.BUFFER ≡ true
+  unfolding form_of
   buffer_defined = has_defined (code_of p) _ id.BUFFER (in_variable p _ (inl refl)) refl
 
   pub uses_kept : IsProgram p → Passes uses [] (code_of p)
+  unfolding form_of
   uses_kept fits =
       passes_parts p uses (refl, (refl, (and_from _ _ main_defined refl, (and_from _ _ main_defined refl, tt))))
       (names_pass uses p.members before_names (λ b. and_from _ _ block_defined refl) (λ k b. and_from _ _ block_defined refl))

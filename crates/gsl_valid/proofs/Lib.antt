@@ -1,4 +1,6 @@
 pub mod Searching
 pub mod Lookups
 pub mod Rules
-mod Example
+pub mod Example
+mod ExampleTypes
+mod ExampleCalls

@@ -2,13 +2,9 @@
 use Rattle.std.specs.Prelude.{ℕ, Bool, false, ◌==◌, ◌&&◌, List, [], ◌∷◌, Option, Some, None, is_some, if◌then◌else◌}
 use Rattle.std.specs.Option.{option_map_or}
 use Rattle.gsl_words.specs.declared.module.Module.{Module}
-use Rattle.gsl_valid.specs.Instruction.{Instruction, Decorate, MemberDecorate, read}
+use Rattle.gsl_valid.specs.Instruction.{read}
+use Rattle.gsl_valid.specs.Kinds.{Place, On, OnMember, Decoration, decoration_of}
 use Rattle.gsl_valid.specs.Placed.{Code}
-
--- What a decoration stands on.
-pub data Place : Type 0 where
-  On : (target : ℕ) → Place
-  OnMember : (target member : ℕ) → Place
 
 -- whether two places are one
 abbrev pub same_place : Place → Place → Bool
@@ -16,18 +12,6 @@ same_place (On t) (On u) = t == u
 same_place (On t) (OnMember u k) = false
 same_place (OnMember t j) (On u) = false
 same_place (OnMember t j) (OnMember u k) = t == u && j == k
-
--- A decoration with the place that it stands on.
-pub record Decoration : Type 0 where
-  pub place : Place
-  pub kind : ℕ
-  pub literals : List ℕ
-
--- the decoration that an instruction is
-abbrev pub decoration_of : Instruction → Option Decoration
-decoration_of (Decorate target d literals) = Some (record { place = On target; kind = d; literals = literals })
-decoration_of (MemberDecorate target member d literals) = Some (record { place = OnMember target member; kind = d; literals = literals })
-decoration_of _ = None
 
 -- whether a decoration is of a kind and stands on a place
 abbrev pub stands_on : Place → ℕ → Decoration → Bool
@@ -47,13 +31,15 @@ literals_on (i ∷ code) place kind =
 
 -- the first literal
 abbrev pub number_in : Option (List ℕ) → Option ℕ
+number_in None = None
+number_in (Some []) = None
 number_in (Some (n ∷ literals)) = Some n
-number_in _ = None
 
 -- whether both are numbers, and equal
 abbrev pub same_number : Option ℕ → Option ℕ → Bool
+same_number None b = false
+same_number (Some a) None = false
 same_number (Some a) (Some b) = a == b
-same_number _ _ = false
 
 module _ (m : Module) where
   -- whether an id has a decoration

@@ -1,4 +1,5 @@
 pub mod Instruction
+pub mod Kinds
 pub mod Placed
 pub mod Search
 pub mod Ids

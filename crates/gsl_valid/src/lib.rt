@@ -2,9 +2,9 @@
 //! first instruction that breaks it.
 //!
 //! `specs/Valid.antt` has the table of the rules, the least one that a module breaks, and `Valid`. Each
-//! rule has a file of its own, all of them over the search of `specs/Search.antt` and the instructions
-//! of `specs/Instruction.antt`; an instruction that is not among those breaks V1. The calls do nothing:
-//! their contracts are laws.
+//! rule has a file of its own, all of them over the search of `specs/Search.antt` and the kinds of
+//! instructions of `specs/Kinds.antt`, for the whole table. The calls do nothing: their contracts are
+//! laws.
 #![tactic(auto)]
 
 mod laws;
