@@ -7,7 +7,7 @@ use Rattle.gsl_types.specs.declared.ty.StructType.{StructType}
 use Rattle.gsl_types.specs.Structs.{Meaning, meaning}
 use Rattle.gsl_values.specs.declared.value.Value.{Value}
 use Rattle.gsl_values.specs.declared.value.Value.TheVariants.{Word, Many}
-use Rattle.gsl_tree.specs.Operations.{converted, member_value}
+use Rattle.gsl_tree.specs.Operations.{converted, value_at, with_value_at}
 use Rattle.gsl_tree.specs.Values.{components_in, of_components, parts_in, word_in}
 use Rattle.gsl_meaning.specs.State.{State}
 
@@ -64,11 +64,6 @@ root_value (Param number) state = slice_index_or state.params number nothing
 root_value (Local number) state = slice_index_or state.locals number nothing
 root_value (Loose value) state = value
 
--- the part to which a path leads
-abbrev pub value_at : Value → List ℕ → Value
-value_at v [] = v
-value_at v (number ∷ path) = value_at (member_value v number) path
-
 abbrev pub pick : Option (List ℕ) → Value → Value
 pick None v = v
 pick (Some positions) v = of_components (map (slice_index (components_in v)) positions)
@@ -118,11 +113,6 @@ abbrev pub read : List StructType → Ty → Access → State → Value
 read structs ty access state = if is_block access.root then told structs ty (found access state) else found access state
 
 -- ---- what is stored
-
--- a value with another part where a path leads
-abbrev pub with_value_at : Value → List ℕ → Value → Value
-with_value_at v [] part = part
-with_value_at v (number ∷ path) part = Many (set (parts_in v) number (with_value_at (member_value v number) path part))
 
 abbrev pub put_each : List ℕ → List ℕ → List ℕ → List ℕ
 put_each (position ∷ positions) (word ∷ words) old = put_each positions words (set old position word)

@@ -13,11 +13,11 @@ use Rattle.gsl_tree.specs.declared.expr.ExprKind.TheOpen.{ExprKind-F, Expr-F}
 use Rattle.gsl_tree.specs.declared.expr.ExprKind.TheFolds.{fold-Expr, fold-ExprKind}
 use Rattle.gsl_tree.specs.declared.expr.StageVar.{StageVar}
 use Rattle.gsl_tree.specs.declared.unit.Prototype.{Prototype}
-use Rattle.gsl_tree.specs.Operations.{unary_value, binary_value, decides, logic_word, step_value, is_postfix, build_value, builtin_value, has_fixed_length, length_of, is_signed}
+use Rattle.gsl_tree.specs.Operations.{unary_value, binary_value, decides, logic_word, step_value, is_postfix, build_value, builtin_value, value_at, has_fixed_length, length_of, is_signed}
 use Rattle.gsl_tree.specs.Values.{word_in, parts_in, zero_value}
 use Rattle.gsl_tree.specs.Weights.{params_of}
 use Rattle.gsl_meaning.specs.State.{State}
-use Rattle.gsl_meaning.specs.Accesses.{Global, Block, Interface, Param, Local, Loose, Access, whole, member_of, swizzle_of, nothing, root_value, value_at, read, stored}
+use Rattle.gsl_meaning.specs.Accesses.{Global, Block, Interface, Param, Local, Loose, Access, whole, member_of, swizzle_of, nothing, root_value, read, stored}
 use Rattle.gsl_meaning.specs.Running.{Run, given, ◌>>=◌, told_by, drawing, storing, indexing}
 
 -- What a call gives: its value, and the values of the parameters at its end.

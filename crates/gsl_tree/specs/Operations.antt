@@ -1,6 +1,6 @@
 -- What operators, conversions, constructors, indexes, members, swizzles and built-in functions give on values. Component by
 -- component it is what `gsl_values` says; where the language leaves a component open, a choice is drawn.
-use Rattle.std.specs.Prelude.{ℕ, zero, suc, ◌+◌, Bool, true, false, not, ◌==◌, List, [], ◌∷◌, ◌++◌, map, take, length, replicate, slice_get, slice_index, slice_index_or, Option}
+use Rattle.std.specs.Prelude.{ℕ, zero, suc, ◌+◌, Bool, true, false, not, ◌==◌, List, [], ◌∷◌, ◌++◌, map, take, length, replicate, set, slice_get, slice_index, slice_index_or, Option}
 use Rattle.std.specs.List.{list_any, list_all}
 use Rattle.gsl_types.specs.declared.ty.Scalar.{Scalar}
 use Rattle.gsl_types.specs.declared.ty.Scalar.TheVariants.{Bool as Boolean, Int, Uint}
@@ -126,6 +126,16 @@ index_value v at_index = slice_get (parts_in v) at_index
 -- the member of a number
 abbrev pub member_value : Value → ℕ → Value
 member_value v number = slice_index_or (parts_in v) number (Word 0)
+
+-- the part to which the numbers of members, elements and components lead
+abbrev pub value_at : Value → List ℕ → Value
+value_at v [] = v
+value_at v (number ∷ path) = value_at (member_value v number) path
+
+-- a value with another part where such a path leads
+abbrev pub with_value_at : Value → List ℕ → Value → Value
+with_value_at v [] part = part
+with_value_at v (number ∷ path) part = Many (set (parts_in v) number (with_value_at (member_value v number) path part))
 
 -- the components at the positions that a swizzle picks
 abbrev pub swizzle_value : Value → Lanes → Value
