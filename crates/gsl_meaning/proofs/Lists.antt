@@ -10,7 +10,8 @@ use Rattle.gsl_base.specs.declared.input.InputRefusal.TheVariants.{NoValue}
 use Rattle.gsl_base.specs.declared.input.Located.{Located}
 use Rattle.gsl_tree.specs.declared.unit.Block.{Block}
 use Rattle.gsl_tree.specs.declared.unit.Interface.{Interface}
-use Rattle.gsl_meaning.specs.Blocks.{bytes_at, given_bytes, is_at}
+use Rattle.gsl_views.specs.Buffers.{bytes_at, is_at}
+use Rattle.gsl_meaning.specs.Blocks.{given_bytes}
 use Rattle.gsl_meaning.specs.Fits.{and_met, blocks_met, is_given, is_wanting, value_met, values_from, values_met}
 use Rattle.gsl_meaning.specs.Stages.{is_there, words_at}
 

@@ -1,5 +1,5 @@
 -- The words of a block in the bytes of its buffer.
-use Rattle.std.specs.Prelude.{ℕ, ◌+◌, Bool, not, ◌==◌, ◌&&◌, if◌then◌else◌, List, [], ◌∷◌, map, Option, Some, None, unwrap_or}
+use Rattle.std.specs.Prelude.{ℕ, ◌+◌, not, ◌&&◌, if◌then◌else◌, List, [], ◌∷◌, map, Option, unwrap_or}
 use Rattle.std.specs.List.{range_with_len}
 use Rattle.gsl_base.specs.declared.input.Buffer.{Buffer}
 use Rattle.gsl_base.specs.declared.input.Input.{Input}
@@ -7,7 +7,7 @@ use Rattle.gsl_types.specs.declared.ty.StructType.{StructType}
 use Rattle.gsl_values.specs.declared.value.Value.{Value}
 use Rattle.gsl_values.specs.declared.value.Value.TheVariants.{Many}
 use Rattle.gsl_layout.specs.Layout.{Layout, Leaf, Array, Runtime, Group, Parts, End, Part}
-use Rattle.gsl_words.specs.Words.{put_word}
+use Rattle.gsl_views.specs.Buffers.{bytes_at, is_at, put_words}
 use Rattle.gsl_views.specs.Seen.{Tree, Words, Many as Parted, seen}
 use Rattle.gsl_tree.specs.declared.unit.Block.{Block}
 use Rattle.gsl_tree.specs.Laying.{layout_of}
@@ -21,15 +21,6 @@ abbrev pub value_of : Tree → Value
 value_of (Words words) = of_components words
 value_of (Parted count parts) = Many (map (λ i. value_of (parts i)) (range_with_len 0 count))
 
--- whether a buffer is the one at this set and binding
-abbrev pub is_at : ℕ → ℕ → Buffer → Bool
-is_at set binding buffer = buffer.set == set && buffer.binding == binding
-
--- the bytes of the buffer at a set and binding, if one is given
-abbrev pub bytes_at : List Buffer → ℕ → ℕ → Option (List ℕ)
-bytes_at [] set binding = None
-bytes_at (buffer ∷ buffers) set binding = if is_at set binding buffer then Some buffer.bytes else bytes_at buffers set binding
-
 -- the bytes that are given for a block
 abbrev pub given_bytes : Input → Block → Option (List ℕ)
 given_bytes input block = if is_push block.kind then input.push else bytes_at input.buffers block.set block.binding
@@ -42,11 +33,6 @@ abbrev pub begun : List StructType → Input → Block → Value
 begun structs input block = words_in structs block (unwrap_or (given_bytes input block) [])
 
 -- ---- to bytes
-
--- words one behind the other
-abbrev pub put_words : ℕ → List ℕ → List ℕ → List ℕ
-put_words at [] bytes = bytes
-put_words at (word ∷ words) bytes = put_words (at + 4) words (put_word bytes at word)
 
 -- values one stride behind the other
 abbrev pub put_row : (ℕ → Value → List ℕ → List ℕ) → ℕ → ℕ → List Value → List ℕ → List ℕ

@@ -1,6 +1,5 @@
 -- What a stage gives: inputs, outputs and built-in variables (GLSL 4.50, 4.3.4, 4.3.6 and 7.1; GL_KHR_vulkan_glsl).
-use Rattle.std.specs.Prelude.{ℕ, ◌+◌, ◌*◌, ◌%◌, ◌^◌, Bool, ◌==◌, ◌&&◌, if◌then◌else◌, List, [], ◌∷◌, map, take, flat_map, slice_index, Option, Some, None, unwrap_or}
-use Rattle.std.specs.List.{range_with_len}
+use Rattle.std.specs.Prelude.{ℕ, ◌+◌, ◌*◌, ◌%◌, ◌^◌, Bool, ◌==◌, if◌then◌else◌, List, [], ◌∷◌, map, take, slice_index, Option, Some, None, unwrap_or}
 use Rattle.gsl_base.specs.declared.input.Located.{Located}
 use Rattle.gsl_base.specs.declared.input.Input.{Input}
 use Rattle.gsl_types.specs.Conversions.{components}
@@ -11,6 +10,7 @@ use Rattle.gsl_tree.specs.declared.expr.StageVar.{StageVar}
 use Rattle.gsl_tree.specs.declared.expr.StageVar.TheVariants.{NumWorkGroups, WorkGroupId, LocalInvocationId, GlobalInvocationId, LocalInvocationIndex, VertexIndex, InstanceIndex}
 use Rattle.gsl_tree.specs.declared.unit.Interface.{Interface}
 use Rattle.gsl_tree.specs.Values.{components_in, of_components, zero_value}
+use Rattle.gsl_views.specs.Buffers.{ascending}
 
 -- ---- built-in variables
 
@@ -51,16 +51,16 @@ abbrev pub interface_begins : List StructType → Input → Interface → Value
 interface_begins structs input i =
     if i.output then zero_value structs i.ty else of_components (take (components i.ty) (unwrap_or (words_at input.ins i.location) []))
 
--- the outputs at a location
-abbrev pub outs_at : List Interface → List Value → ℕ → List Located
-outs_at (i ∷ interfaces) (v ∷ vs) location =
-    if i.output && i.location == location then record { location = location; words = components_in v } ∷ outs_at interfaces vs location else outs_at interfaces vs location
-outs_at _ _ location = []
+-- the outputs with their words
+abbrev pub outs_among : List Interface → List Value → List Located
+outs_among (i ∷ interfaces) (v ∷ vs) =
+    if i.output then record { location = i.location; words = components_in v } ∷ outs_among interfaces vs else outs_among interfaces vs
+outs_among _ _ = []
+
+-- the outputs in ascending order of location
+abbrev pub outs_of : List Interface → List Value → List Located
+outs_of interfaces vs = ascending (outs_among interfaces vs)
 
 -- there are so many locations
 abbrev pub locations : ℕ
 locations = 1024
-
--- the outputs in ascending order of location
-abbrev pub outs_of : List Interface → List Value → List Located
-outs_of interfaces vs = flat_map (outs_at interfaces vs) (range_with_len 0 locations)

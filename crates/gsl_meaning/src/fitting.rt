@@ -2,6 +2,7 @@
 
 ghost use Rattle.std.specs.Prelude.{◌≡◌, ◌<◌, ◌^◌, length, map};
 ghost use Rattle.std.specs.Option.{option_map};
+ghost use Rattle.gsl_views.specs.Buffers as buffers_of;
 ghost use Rattle.gsl_meaning.specs.Blocks as blocks;
 ghost use Rattle.gsl_meaning.specs.Fits as spec;
 ghost use Rattle.gsl_meaning.specs.Stages as stages;
@@ -12,7 +13,7 @@ use gsl_types::components;
 
 /// Whether a buffer is the one at a set and binding.
 fn is_at(set: u32, binding: u32, buffer: &Buffer) -> bool
-    ensures { result ≡ blocks.is_at set binding buffer.now }
+    ensures { result ≡ buffers_of.is_at set binding buffer.now }
 {
     buffer.set == set && buffer.binding == binding
 }
@@ -20,7 +21,7 @@ fn is_at(set: u32, binding: u32, buffer: &Buffer) -> bool
 /// The bytes of the buffer at a set and binding, if one is given.
 #[tactic(auto, using(crate::proofs::Lists::opened))]
 fn bytes_at<'a>(buffers: &'a Buffers, set: u32, binding: u32) -> Option<&'a Bytes>
-    ensures { option_map (λ b. b.now) result ≡ blocks.bytes_at buffers.now set binding }
+    ensures { option_map (λ b. b.now) result ≡ buffers_of.bytes_at buffers.now set binding }
 {
     for k in 0..buffers.len() {
         if is_at(set, binding, &buffers[k]) {

@@ -1,3 +1,4 @@
+pub mod Buffers
 pub mod Seen
 pub mod Viewed
 pub mod Mutable

@@ -1,5 +1,5 @@
 use Rattle.std.proofs.Common.{◌≡◌, drop}
-use Rattle.gsl_meaning.specs.Blocks as blocks
+use Rattle.gsl_views.specs.Buffers as blocks
 use Rattle.gsl_meaning.proofs.fitting.bytes_at.Given as goal
 
 abbrev pub invariant-loop-k : goal.invariant-loop-k
