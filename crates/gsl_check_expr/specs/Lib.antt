@@ -1,0 +1,4 @@
+pub mod Named
+pub mod Sizes
+pub mod Callees
+pub mod Expressions

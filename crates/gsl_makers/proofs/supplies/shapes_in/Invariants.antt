@@ -1,0 +1,8 @@
+use Rattle.std.proofs.Common.{◌≡◌, drop}
+use Rattle.gsl_tree.specs.Expressions.{shapes_of}
+use Rattle.gsl_makers.specs.Constructors.{exprs_in}
+use Rattle.gsl_makers.proofs.Loops.{shapes_behind}
+use Rattle.gsl_makers.proofs.supplies.shapes_in.Given as goal
+
+abbrev pub invariant-loop-k : goal.invariant-loop-k
+invariant-loop-k l = shapes_behind l.shapes (shapes_of (exprs_in (drop l.k l.fn.args))) ≡ shapes_of (exprs_in l.fn.args)

@@ -1,0 +1,5 @@
+pub mod Members
+pub mod Swizzles
+pub mod Paths
+pub mod Heights
+pub mod Constructors

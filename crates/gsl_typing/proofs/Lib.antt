@@ -1,0 +1,3 @@
+mod Example
+pub mod Missing
+pub mod Tests

@@ -1,0 +1,339 @@
+//! Operators, `?:` and commas over typed operands.
+
+ghost use Rattle.std.specs.Prelude.{◌≡◌, IfOk};
+ghost use Rattle.gsl_base.specs.Checked.{Gives};
+ghost use Rattle.gsl_types.specs.Known.{AreStructs};
+ghost use Rattle.gsl_tree.specs.declared.expr.ExprKind.TheVariants as kind;
+ghost use Rattle.gsl_typing.specs.Conversions.{as_type};
+ghost use Rattle.gsl_typing.specs.Operators as spec;
+ghost use Rattle.gsl_tree.specs.Expressions.{boolean};
+ghost use Rattle.gsl_typing.specs.Scene.{made};
+
+use crate::fits::{fitted, unary_type};
+use crate::refusing::refuse;
+use crate::scene::{Part, Scene};
+use crate::types::{as_type, common, copy};
+use crate::uses::{
+    is_bool, is_integral, is_large, is_runtime, is_unread, is_value_type, is_writable,
+};
+use gsl_base::{Boxed, Code, Memory, Place, Refusal};
+use gsl_syntax::{BinaryOp as Sign, PostfixOp as PostfixSign, UnaryOp as UnarySign};
+use gsl_tree::{Expr, ExprKind, LogicOp, StepOp};
+use gsl_types::{Scalar, Ty};
+use gsl_values::{BinaryOp, UnaryOp};
+use std::alloc::Global;
+
+/// A part of which the tree shows whether it may be written.
+pub(crate) fn made(place: Place, ty: Ty, kind: ExprKind) -> Part
+    ensures { result ≡ made place ty kind }
+{
+    Part {
+        expr: Expr { ty, place, kind },
+        fixed: false,
+    }
+}
+
+fn joined(
+    alloc: Global,
+    place: Place,
+    ty: Ty,
+    op: BinaryOp,
+    a: Expr,
+    b: Expr,
+) -> Result<Part, Memory>
+    ensures { IfOk result (λ x. x ≡ made place ty (kind.Binary op a b)) }
+{
+    let a = Boxed::new(alloc, a)?;
+    let b = Boxed::new(alloc, b)?;
+    Ok(made(place, ty, ExprKind::Binary(op, a, b)))
+}
+
+/// An arithmetic operator, an operator on bits, a shift or a relation.
+#[tactic(auto, unfolding(crate::specs::Operators::operation))]
+fn operation(
+    alloc: Global,
+    scene: &Scene,
+    op: BinaryOp,
+    place: Place,
+    a: Part,
+    b: Part,
+) -> Result<Part, Refusal>
+    ensures { Gives result (spec.operation scene.now op place a b) }
+{
+    let fit = match fitted(op, &a.expr.ty, &b.expr.ty) {
+        Some(fit) => fit,
+        None => return Err(refuse(place, Code::E0503)),
+    };
+    if is_unread(scene, &a) || is_unread(scene, &b) {
+        return Err(refuse(place, Code::E0507));
+    }
+    let a = as_type(alloc, &fit.left, a.expr)?;
+    let b = as_type(alloc, &fit.right, b.expr)?;
+    Ok(joined(alloc, place, fit.result, op, a, b)?)
+}
+
+/// The type in which two operands are compared.
+#[tactic(auto, unfolding(crate::specs::Operators::comparison))]
+fn comparison(alloc: Global, scene: &Scene, place: Place, a: &Part, b: &Part) -> Result<Ty, Refusal>
+    requires known { AreStructs scene.now.structs }
+    ensures { Gives result (spec.comparison scene.now place a.now b.now) }
+{
+    let ty = match common(alloc, &a.expr.ty, &b.expr.ty)? {
+        Some(ty) => ty,
+        None => return Err(refuse(place, Code::E0503)),
+    };
+    if !is_value_type(&ty) {
+        return Err(refuse(place, Code::E0503));
+    }
+    if is_unread(scene, a) || is_unread(scene, b) {
+        return Err(refuse(place, Code::E0507));
+    }
+    if is_large(scene, &ty) {
+        return Err(refuse(place, Code::E0904));
+    }
+    Ok(ty)
+}
+
+/// `==` and `!=`
+#[tactic(auto, unfolding(crate::specs::Operators::equality))]
+fn equality(
+    alloc: Global,
+    scene: &Scene,
+    op: BinaryOp,
+    place: Place,
+    a: Part,
+    b: Part,
+) -> Result<Part, Refusal>
+    requires known { AreStructs scene.now.structs }
+    ensures { Gives result (spec.equality scene.now op place a b) }
+{
+    let ty = comparison(alloc, scene, place, &a, &b)?;
+    Ok(compared(alloc, place, &ty, op, a.expr, b.expr)?)
+}
+
+/// A comparison of two values in one type.
+fn compared(
+    alloc: Global,
+    place: Place,
+    ty: &Ty,
+    op: BinaryOp,
+    a: Expr,
+    b: Expr,
+) -> Result<Part, Memory>
+    ensures { IfOk result (λ x. x ≡ made place boolean (kind.Binary op (as_type ty.now a) (as_type ty.now b))) }
+{
+    let a = as_type(alloc, ty, a)?;
+    let b = as_type(alloc, ty, b)?;
+    joined(alloc, place, Ty::One(Scalar::Bool), op, a, b)
+}
+
+fn connected(alloc: Global, place: Place, op: LogicOp, a: Expr, b: Expr) -> Result<Part, Memory>
+    ensures { IfOk result (λ x. x ≡ made place boolean (kind.Logic op a b)) }
+{
+    let a = Boxed::new(alloc, a)?;
+    let b = Boxed::new(alloc, b)?;
+    Ok(made(place, Ty::One(Scalar::Bool), ExprKind::Logic(op, a, b)))
+}
+
+/// `&&`, `||` and `^^`
+#[tactic(auto, unfolding(crate::specs::Operators::logic))]
+fn logic(
+    alloc: Global,
+    scene: &Scene,
+    op: LogicOp,
+    place: Place,
+    a: Part,
+    b: Part,
+) -> Result<Part, Refusal>
+    ensures { Gives result (spec.logic scene.now op place a b) }
+{
+    if !(is_bool(&a) && is_bool(&b)) {
+        return Err(refuse(place, Code::E0503));
+    }
+    if is_unread(scene, &a) || is_unread(scene, &b) {
+        return Err(refuse(place, Code::E0507));
+    }
+    Ok(connected(alloc, place, op, a.expr, b.expr)?)
+}
+
+/// An operator on two operands, by its sign.
+#[tactic(auto, unfolding(crate::specs::Operators::binary))]
+pub fn binary(
+    alloc: Global,
+    scene: &Scene,
+    sign: Sign,
+    place: Place,
+    a: Part,
+    b: Part,
+) -> Result<Part, Refusal>
+    requires known { AreStructs scene.now.structs }
+    ensures { Gives result (spec.binary scene.now sign place a b) }
+{
+    match sign {
+        Sign::LogicalOr => logic(alloc, scene, LogicOp::Or, place, a, b),
+        Sign::LogicalXor => logic(alloc, scene, LogicOp::Xor, place, a, b),
+        Sign::LogicalAnd => logic(alloc, scene, LogicOp::And, place, a, b),
+        Sign::BitOr => operation(alloc, scene, BinaryOp::Or, place, a, b),
+        Sign::BitXor => operation(alloc, scene, BinaryOp::Xor, place, a, b),
+        Sign::BitAnd => operation(alloc, scene, BinaryOp::And, place, a, b),
+        Sign::Equal => equality(alloc, scene, BinaryOp::Equal, place, a, b),
+        Sign::NotEqual => equality(alloc, scene, BinaryOp::Unequal, place, a, b),
+        Sign::Less => operation(alloc, scene, BinaryOp::Less, place, a, b),
+        Sign::Greater => operation(alloc, scene, BinaryOp::Greater, place, a, b),
+        Sign::LessEqual => operation(alloc, scene, BinaryOp::LessEq, place, a, b),
+        Sign::GreaterEqual => operation(alloc, scene, BinaryOp::GreaterEq, place, a, b),
+        Sign::ShiftLeft => operation(alloc, scene, BinaryOp::Shl, place, a, b),
+        Sign::ShiftRight => operation(alloc, scene, BinaryOp::Shr, place, a, b),
+        Sign::Add => operation(alloc, scene, BinaryOp::Add, place, a, b),
+        Sign::Sub => operation(alloc, scene, BinaryOp::Sub, place, a, b),
+        Sign::Mul => operation(alloc, scene, BinaryOp::Mul, place, a, b),
+        Sign::Div => operation(alloc, scene, BinaryOp::Div, place, a, b),
+        Sign::Mod => operation(alloc, scene, BinaryOp::Mod, place, a, b),
+    }
+}
+
+/// `-`, `~` and `!`
+#[tactic(auto, unfolding(crate::specs::Operators::one_operand))]
+fn one_operand(
+    alloc: Global,
+    scene: &Scene,
+    op: UnaryOp,
+    place: Place,
+    a: Part,
+) -> Result<Part, Refusal>
+    ensures { Gives result (spec.one_operand scene.now op place a) }
+{
+    let ty = match unary_type(op, &a.expr.ty) {
+        Some(ty) => ty,
+        None => return Err(refuse(place, Code::E0503)),
+    };
+    if is_unread(scene, &a) {
+        return Err(refuse(place, Code::E0507));
+    }
+    let a = Boxed::new(alloc, a.expr)?;
+    Ok(made(place, ty, ExprKind::Unary(op, a)))
+}
+
+/// A unary `+`, which has no node of its own.
+#[tactic(auto, unfolding(crate::specs::Operators::plus))]
+fn plus(scene: &Scene, place: Place, a: Part) -> Result<Part, Refusal>
+    ensures { Gives result (spec.plus scene.now place a) }
+{
+    if !is_integral(&a) {
+        return Err(refuse(place, Code::E0503));
+    }
+    if is_unread(scene, &a) {
+        return Err(refuse(place, Code::E0507));
+    }
+    Ok(Part {
+        expr: a.expr,
+        fixed: true,
+    })
+}
+
+/// `++` and `--`, which read and write their operand.
+#[tactic(auto, unfolding(crate::specs::Operators::step))]
+fn step(alloc: Global, scene: &Scene, op: StepOp, place: Place, a: Part) -> Result<Part, Refusal>
+    ensures { Gives result (spec.step scene.now op place a) }
+{
+    if !is_integral(&a) {
+        return Err(refuse(place, Code::E0503));
+    }
+    if !is_writable(scene, &a) || is_unread(scene, &a) {
+        return Err(refuse(place, Code::E0507));
+    }
+    let ty = copy(alloc, &a.expr.ty)?;
+    let a = Boxed::new(alloc, a.expr)?;
+    Ok(made(place, ty, ExprKind::Step(op, a)))
+}
+
+/// An operator before its operand, by its sign.
+#[tactic(auto, unfolding(crate::specs::Operators::unary))]
+pub fn unary(
+    alloc: Global,
+    scene: &Scene,
+    sign: UnarySign,
+    place: Place,
+    a: Part,
+) -> Result<Part, Refusal>
+    ensures { Gives result (spec.unary scene.now sign place a) }
+{
+    match sign {
+        UnarySign::Increment => step(alloc, scene, StepOp::PreUp, place, a),
+        UnarySign::Decrement => step(alloc, scene, StepOp::PreDown, place, a),
+        UnarySign::Plus => plus(scene, place, a),
+        UnarySign::Minus => one_operand(alloc, scene, UnaryOp::Negate, place, a),
+        UnarySign::Complement => one_operand(alloc, scene, UnaryOp::Flip, place, a),
+        UnarySign::Not => one_operand(alloc, scene, UnaryOp::Not, place, a),
+    }
+}
+
+/// An operator behind its operand, by its sign.
+#[tactic(auto, unfolding(crate::specs::Operators::postfix))]
+pub fn postfix(
+    alloc: Global,
+    scene: &Scene,
+    sign: PostfixSign,
+    place: Place,
+    a: Part,
+) -> Result<Part, Refusal>
+    ensures { Gives result (spec.postfix scene.now sign place a) }
+{
+    match sign {
+        PostfixSign::Increment => step(alloc, scene, StepOp::PostUp, place, a),
+        PostfixSign::Decrement => step(alloc, scene, StepOp::PostDown, place, a),
+    }
+}
+
+fn chosen(alloc: Global, place: Place, ty: Ty, test: Expr, a: Expr, b: Expr) -> Result<Part, Memory>
+    ensures { IfOk result (λ x. x ≡ made place ty (kind.Choose test a b)) }
+{
+    let test = Boxed::new(alloc, test)?;
+    let a = Boxed::new(alloc, a)?;
+    let b = Boxed::new(alloc, b)?;
+    Ok(made(place, ty, ExprKind::Choose(test, a, b)))
+}
+
+/// `test ? a : b`
+#[tactic(auto, unfolding(crate::specs::Operators::choice))]
+pub fn choice(
+    alloc: Global,
+    scene: &Scene,
+    place: Place,
+    test: Part,
+    a: Part,
+    b: Part,
+) -> Result<Part, Refusal>
+    ensures { Gives result (spec.choice scene.now place test a b) }
+{
+    let ty = match common(alloc, &a.expr.ty, &b.expr.ty)? {
+        Some(ty) => ty,
+        None => return Err(refuse(place, Code::E0503)),
+    };
+    if !is_bool(&test) {
+        return Err(refuse(place, Code::E0503));
+    }
+    if is_unread(scene, &test) || is_unread(scene, &a) || is_unread(scene, &b) {
+        return Err(refuse(place, Code::E0507));
+    }
+    if !is_value_type(&ty) {
+        return Err(refuse(place, Code::E0510));
+    }
+    let a = as_type(alloc, &ty, a.expr)?;
+    let b = as_type(alloc, &ty, b.expr)?;
+    Ok(chosen(alloc, place, ty, test.expr, a, b)?)
+}
+
+/// The value behind a comma, which takes the one before it too.
+#[tactic(auto, unfolding(crate::specs::Operators::comma))]
+pub fn comma(scene: &Scene, place: Place, before: &Part, behind: Part) -> Result<Part, Refusal>
+    ensures { Gives result (spec.comma scene.now place before.now behind) }
+{
+    if is_unread(scene, before) || is_unread(scene, &behind) {
+        return Err(refuse(place, Code::E0507));
+    }
+    if is_runtime(before) || is_runtime(&behind) {
+        return Err(refuse(place, Code::E0510));
+    }
+    Ok(behind)
+}
