@@ -16,6 +16,7 @@ pub mod LiveUnits
 pub mod NearDeclarations
 pub mod NearLists
 pub mod NearUnits
+pub mod OnePlace
 pub mod OneTree
 pub mod Placed
 pub mod Settled

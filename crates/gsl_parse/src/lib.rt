@@ -16,4 +16,4 @@ mod unit;
 mod variable;
 
 pub use judging::parse;
-pub use laws::one_tree;
+pub use laws::{one_first_bad, one_tree};
