@@ -1,5 +1,5 @@
 -- The variables of a module as a run begins, and what comes out at its end.
-use Rattle.std.specs.Prelude.{ℕ, ◌+◌, ◌*◌, ◌%◌, ◌^◌, Bool, ◌==◌, if◌then◌else◌, List, [], ◌∷◌, map, take, length, slice_index, Option, Some, None}
+use Rattle.std.specs.Prelude.{ℕ, ◌+◌, ◌*◌, ◌%◌, ◌^◌, Bool, ◌==◌, if◌then◌else◌, List, [], ◌∷◌, map, take, length, slice_index, Option, Some, None, unwrap_or}
 use Rattle.std.specs.List.{cons_option, filter_map}
 use Rattle.gsl_base.specs.declared.input.Input.{Input}
 use Rattle.gsl_base.specs.declared.input.Located.{Located}
@@ -9,6 +9,7 @@ use Rattle.gsl_instr.specs.declared.enumerant.decoration.TheConstants as decorat
 use Rattle.gsl_instr.specs.declared.enumerant.execution_mode.TheConstants as execution_mode
 use Rattle.gsl_instr.specs.declared.enumerant.storage_class.TheConstants as storage_class
 use Rattle.gsl_views.specs.Buffers.{ascending}
+use Rattle.gsl_inputs.specs.Given.{global_id, local_index, vector_of, words_at}
 use Rattle.gsl_words.specs.declared.module.Module.{Module}
 use Rattle.gsl_values.specs.declared.value.Value.{Value}
 use Rattle.gsl_values.specs.declared.value.Value.TheVariants.{Word, Many}
@@ -51,34 +52,17 @@ size_in (mode ∷ modes) = if mode.mode == execution_mode.LOCAL_SIZE then mode.p
 abbrev pub local_size : Module → List ℕ
 local_size m = size_in (modes_of m)
 
-abbrev pub vector_of : List ℕ → Value
-vector_of words = Many (map Word words)
-
--- the number of an invocation among all, in one dimension
-abbrev pub global_id : List ℕ → Input → ℕ → ℕ
-global_id size input i = (slice_index input.group i * slice_index size i + slice_index input.local i) % 2 ^ 32
-
--- the number of an invocation in its work group
-abbrev pub local_index : List ℕ → List ℕ → ℕ
-local_index size local =
-    (slice_index local 2 * slice_index size 0 * slice_index size 1 + slice_index local 1 * slice_index size 0 + slice_index local 0) % 2 ^ 32
-
 abbrev pub built_in_value : List ℕ → Input → ℕ → Value
 built_in_value size input number =
     if number == built_in.NUM_WORKGROUPS then vector_of input.groups else if number == built_in.WORKGROUP_ID then vector_of input.group
     else if number == built_in.LOCAL_INVOCATION_ID then vector_of input.local
-    else if number == built_in.GLOBAL_INVOCATION_ID then vector_of (global_id size input 0 ∷ global_id size input 1 ∷ global_id size input 2 ∷ [])
-    else if number == built_in.LOCAL_INVOCATION_INDEX then Word (local_index size input.local)
+    else if number == built_in.GLOBAL_INVOCATION_ID then global_id size input
+    else if number == built_in.LOCAL_INVOCATION_INDEX then local_index size input
     else if number == built_in.VERTEX_INDEX then Word input.vertex else Word input.instance
-
--- the words that are given at a location
-abbrev pub words_given : List Located → ℕ → List ℕ
-words_given [] location = []
-words_given (value ∷ values) location = if value.location == location then value.words else words_given values location
 
 abbrev pub located : Module → Input → Variable → Option ℕ → Value
 located m input v None = nothing
-located m input v (Some location) = of_components (take (size_of (lanes_of m (pointee m v.type))) (words_given input.ins location))
+located m input v (Some location) = of_components (take (size_of (lanes_of m (pointee m v.type))) (unwrap_or (words_at input.ins location) []))
 
 abbrev pub given : Module → Input → Variable → Option ℕ → Value
 given m input v None = located m input v (number_on m decoration.LOCATION v.id)

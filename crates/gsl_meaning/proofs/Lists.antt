@@ -12,8 +12,9 @@ use Rattle.gsl_tree.specs.declared.unit.Block.{Block}
 use Rattle.gsl_tree.specs.declared.unit.Interface.{Interface}
 use Rattle.gsl_views.specs.Buffers.{bytes_at, is_at}
 use Rattle.gsl_meaning.specs.Blocks.{given_bytes}
-use Rattle.gsl_meaning.specs.Fits.{and_met, blocks_met, is_given, is_wanting, value_met, values_from, values_met}
-use Rattle.gsl_meaning.specs.Stages.{is_there, words_at}
+use Rattle.gsl_inputs.specs.Demands.{and_met}
+use Rattle.gsl_meaning.specs.Fits.{blocks_met, is_given, is_wanting, value_met, values_from, values_met}
+use Rattle.gsl_inputs.specs.Given.{is_there, words_at}
 
 -- the items from one on begin with it
 pub opened : {X : Type 0} (xs : List X) (k : ℕ) (x : X) → slice_get xs k ≡ Some x → drop k xs ≡ x ∷ drop (k + 1) xs

@@ -1,5 +1,5 @@
 -- Which inputs fit a program, and the first refusal of any other.
-use Rattle.std.specs.Prelude.{ℕ, zero, suc, ◌+◌, Bool, true, false, not, nat_lt, ◌==◌, ◌&&◌, ◌||◌, if◌then◌else◌, List, [], ◌∷◌, length, Option, Some, None, Result, Ok, Err, ⊤}
+use Rattle.std.specs.Prelude.{ℕ, zero, suc, ◌+◌, Bool, false, not, nat_lt, ◌==◌, ◌&&◌, ◌||◌, if◌then◌else◌, List, [], ◌∷◌, length, Option, Some, None, Ok, Err}
 use Rattle.gsl_base.specs.declared.input.Input.{Input}
 use Rattle.gsl_base.specs.declared.input.InputRefusal.{InputRefusal}
 use Rattle.gsl_base.specs.declared.input.InputRefusal.TheVariants.{NoBuffer, TooShort, NoPush, PushShort, NoValue, BadIds}
@@ -9,16 +9,9 @@ use Rattle.gsl_tree.specs.declared.unit.Block.{Block}
 use Rattle.gsl_tree.specs.declared.unit.Interface.{Interface}
 use Rattle.gsl_tree.specs.WellTyped.{is_compute, is_push}
 use Rattle.gsl_meaning.specs.Blocks.{given_bytes}
-use Rattle.gsl_meaning.specs.Stages.{locations, words_at}
-
--- an input meets a demand, or this is its first refusal
-abbrev pub Met : Type 0
-Met = Result ⊤ InputRefusal
-
--- goes on where a demand is met
-abbrev pub and_met : Met → Met → Met
-and_met (Ok x) later = later
-and_met (Err refusal) later = Err refusal
+use Rattle.gsl_inputs.specs.Demands.{Met, all_below, and_met}
+use Rattle.gsl_inputs.specs.Given.{words_at}
+use Rattle.gsl_meaning.specs.Stages.{locations}
 
 abbrev pub absent : Block → InputRefusal
 absent block = if is_push block.kind then NoPush else NoBuffer block.set block.binding
@@ -58,12 +51,6 @@ values_from interfaces input location (suc count) = and_met (value_met input loc
 -- the inputs in ascending order of location
 unfoldable pub values_met : List Interface → Input → Met
 values_met interfaces input = values_from interfaces input 0 locations
-
--- whether each part is below its bound
-abbrev pub all_below : List ℕ → List ℕ → Bool
-all_below [] bounds = true
-all_below (part ∷ parts) [] = false
-all_below (part ∷ parts) (bound ∷ bounds) = nat_lt part bound && all_below parts bounds
 
 -- the invocation is one of its work group, and the work group one of those that are run
 abbrev pub ids_met : Program → Input → Met

@@ -1,50 +1,31 @@
 -- What a stage gives: inputs, outputs and built-in variables (GLSL 4.50, 4.3.4, 4.3.6 and 7.1; GL_KHR_vulkan_glsl).
-use Rattle.std.specs.Prelude.{ℕ, ◌+◌, ◌*◌, ◌%◌, ◌^◌, Bool, ◌==◌, if◌then◌else◌, List, [], ◌∷◌, map, take, slice_index, Option, Some, None, unwrap_or}
+use Rattle.std.specs.Prelude.{ℕ, if◌then◌else◌, List, [], ◌∷◌, take, unwrap_or}
 use Rattle.gsl_base.specs.declared.input.Located.{Located}
 use Rattle.gsl_base.specs.declared.input.Input.{Input}
 use Rattle.gsl_types.specs.Conversions.{components}
 use Rattle.gsl_types.specs.declared.ty.StructType.{StructType}
 use Rattle.gsl_values.specs.declared.value.Value.{Value}
-use Rattle.gsl_values.specs.declared.value.Value.TheVariants.{Word, Many}
+use Rattle.gsl_values.specs.declared.value.Value.TheVariants.{Word}
 use Rattle.gsl_tree.specs.declared.expr.StageVar.{StageVar}
 use Rattle.gsl_tree.specs.declared.expr.StageVar.TheVariants.{NumWorkGroups, WorkGroupId, LocalInvocationId, GlobalInvocationId, LocalInvocationIndex, VertexIndex, InstanceIndex}
 use Rattle.gsl_tree.specs.declared.unit.Interface.{Interface}
 use Rattle.gsl_tree.specs.Values.{components_in, of_components, zero_value}
 use Rattle.gsl_views.specs.Buffers.{ascending}
+use Rattle.gsl_inputs.specs.Given.{global_id, local_index, vector_of, words_at}
 
 -- ---- built-in variables
-
-abbrev pub vector_of : List ℕ → Value
-vector_of words = Many (map Word words)
-
--- the number of an invocation among all, in one dimension
-abbrev pub global_id : List ℕ → Input → ℕ → ℕ
-global_id size input i = (slice_index input.group i * slice_index size i + slice_index input.local i) % 2 ^ 32
-
--- the number of an invocation in its work group
-abbrev pub local_index : List ℕ → List ℕ → ℕ
-local_index size local =
-    (slice_index local 2 * slice_index size 0 * slice_index size 1 + slice_index local 1 * slice_index size 0 + slice_index local 0) % 2 ^ 32
 
 -- by the size of a work group
 abbrev pub stage_value : List ℕ → Input → StageVar → Value
 stage_value size input NumWorkGroups = vector_of input.groups
 stage_value size input WorkGroupId = vector_of input.group
 stage_value size input LocalInvocationId = vector_of input.local
-stage_value size input GlobalInvocationId = vector_of (global_id size input 0 ∷ global_id size input 1 ∷ global_id size input 2 ∷ [])
-stage_value size input LocalInvocationIndex = Word (local_index size input.local)
+stage_value size input GlobalInvocationId = global_id size input
+stage_value size input LocalInvocationIndex = local_index size input
 stage_value size input VertexIndex = Word input.vertex
 stage_value size input InstanceIndex = Word input.instance
 
 -- ---- inputs and outputs
-
-abbrev pub is_there : ℕ → Located → Bool
-is_there location value = value.location == location
-
--- the words that are given at a location
-abbrev pub words_at : List Located → ℕ → Option (List ℕ)
-words_at [] location = None
-words_at (value ∷ values) location = if is_there location value then Some value.words else words_at values location
 
 -- an output begins as zeros
 abbrev pub interface_begins : List StructType → Input → Interface → Value

@@ -5,7 +5,8 @@ ghost use Rattle.std.specs.Option.{option_map};
 ghost use Rattle.gsl_views.specs.Buffers as buffers_of;
 ghost use Rattle.gsl_meaning.specs.Blocks as blocks;
 ghost use Rattle.gsl_meaning.specs.Fits as spec;
-ghost use Rattle.gsl_meaning.specs.Stages as stages;
+ghost use Rattle.gsl_inputs.specs.Demands as demands;
+ghost use Rattle.gsl_inputs.specs.Given as given;
 
 use gsl_base::{Buffer, Buffers, Bytes, Comps, Input, InputRefusal, Ins, Located, Stage};
 use gsl_tree::{Block, BlockKind, Blocks, Interface, Interfaces, Program};
@@ -92,7 +93,7 @@ fn blocks_met(blocks: &Blocks, input: &Input) -> Result<(), InputRefusal>
 
 /// Whether a value is the one at a location.
 fn is_there(location: u32, value: &Located) -> bool
-    ensures { result ≡ stages.is_there location value.now }
+    ensures { result ≡ given.is_there location value.now }
 {
     value.location == location
 }
@@ -100,7 +101,7 @@ fn is_there(location: u32, value: &Located) -> bool
 /// The words that are given at a location.
 #[tactic(auto, using(crate::proofs::Lists::opened))]
 fn words_at<'a>(ins: &'a Ins, location: u32) -> Option<&'a Comps>
-    ensures { option_map (λ w. w.now) result ≡ stages.words_at ins.now location }
+    ensures { option_map (λ w. w.now) result ≡ given.words_at ins.now location }
 {
     for k in 0..ins.len() {
         if is_there(location, &ins[k]) {
@@ -157,7 +158,7 @@ fn values_met(interfaces: &Interfaces, input: &Input) -> Result<(), InputRefusal
 
 /// Whether each part is below its bound.
 fn all_below(parts: &[u32], bounds: &[u32]) -> bool
-    ensures { result ≡ spec.all_below parts.now bounds.now }
+    ensures { result ≡ demands.all_below parts.now bounds.now }
 {
     match parts {
         [] => true,

@@ -1,5 +1,5 @@
 use Rattle.std.proofs.Common.{◌≡◌, drop}
-use Rattle.gsl_meaning.specs.Stages as stages
+use Rattle.gsl_inputs.specs.Given as stages
 use Rattle.gsl_meaning.proofs.fitting.words_at.Given as goal
 
 abbrev pub invariant-loop-k : goal.invariant-loop-k
