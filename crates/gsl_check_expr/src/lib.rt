@@ -6,5 +6,9 @@
 #![tactic(auto)]
 
 mod env;
+mod naming;
+mod sizing;
 
 pub use env::Env;
+pub use naming::{instance_of, literal, named};
+pub use sizing::size_in;
