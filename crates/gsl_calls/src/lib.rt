@@ -11,6 +11,3 @@ mod results;
 pub use calling::{built, call};
 pub use families::{Family, candidates};
 pub use results::built_shape;
-
-#[cfg(test)]
-mod tests;

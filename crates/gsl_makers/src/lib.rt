@@ -19,6 +19,3 @@ pub use members::{Found, block_member_of, struct_member};
 pub use paths::{Picked, block_member, index, is_index, member, method};
 pub use queue::Queue;
 pub use swizzles::{Letters, swizzle};
-
-#[cfg(test)]
-mod tests;
