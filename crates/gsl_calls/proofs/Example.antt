@@ -6,8 +6,8 @@ use Rattle.gsl_types.specs.declared.ty.Scalar.TheVariants.{Bool as Boolean, Int,
 use Rattle.gsl_values.specs.declared.function.Builtin.{Builtin}
 use Rattle.gsl_values.specs.declared.function.Builtin.TheVariants as f
 use Rattle.gsl_tree.specs.Shapes.{built_shape}
-use Rattle.gsl_calls.specs.declared.candidates.Family.{Family}
-use Rattle.gsl_calls.specs.declared.candidates.Family.TheVariants.{One, Two, Bounded, Three, Clamped, Mixed, Extracted, Inserted}
+use Rattle.gsl_calls.specs.declared.families.Family.{Family}
+use Rattle.gsl_calls.specs.declared.families.Family.TheVariants.{One, Two, Bounded, Three, Clamped, Mixed, Extracted, Inserted}
 use Rattle.gsl_calls.specs.Candidates.{row, candidates}
 
 abbrev has_result : Builtin → Family → Scalar → ℕ → Bool

@@ -7,8 +7,8 @@ use Rattle.gsl_overload.specs.Best.{Param, Signature}
 use Rattle.gsl_values.specs.declared.function.Builtin.{Builtin}
 use Rattle.gsl_values.specs.declared.function.Builtin.TheVariants as f
 use Rattle.gsl_tree.specs.Shapes.{Shape, of_shape}
-use Rattle.gsl_calls.specs.declared.candidates.Family.{Family}
-use Rattle.gsl_calls.specs.declared.candidates.Family.TheVariants.{One, Two, Bounded, Three, Clamped, Mixed, Extracted, Inserted}
+use Rattle.gsl_calls.specs.declared.families.Family.{Family}
+use Rattle.gsl_calls.specs.declared.families.Family.TheVariants.{One, Two, Bounded, Three, Clamped, Mixed, Extracted, Inserted}
 
 -- The parameters of a candidate of a family, for a scalar type and a count of components.
 abbrev pub row : Family → Scalar → ℕ → List Shape

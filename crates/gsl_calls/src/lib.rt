@@ -4,6 +4,10 @@
 //! calls of functions of the unit and one for those of built-in functions.
 #![tactic(auto)]
 
-mod candidates;
+mod calling;
+mod families;
+mod results;
 
-pub use candidates::Family;
+pub use calling::{built, call};
+pub use families::{Family, candidates};
+pub use results::built_shape;

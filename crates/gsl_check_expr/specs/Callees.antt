@@ -1,5 +1,5 @@
 -- What calls mean: constructors, functions of the unit, and built-in functions (GLSL 4.50, 5.4 and 6.1).
-use Rattle.std.specs.Prelude.{ℕ, Bool, List, [], ◌∷◌, length, Option, Some, None, Ok, if◌then◌else◌}
+use Rattle.std.specs.Prelude.{ℕ, min, Bool, List, [], ◌∷◌, length, Option, Some, None, Ok, if◌then◌else◌}
 use Rattle.gsl_base.specs.Checked.{Checked, ◌>>=◌}
 use Rattle.gsl_base.specs.declared.fault.Place.{Place}
 use Rattle.gsl_base.specs.declared.fault.Code.TheVariants.{E0401, E0402}
@@ -16,7 +16,8 @@ use Rattle.gsl_typing.specs.Rows.{fault}
 use Rattle.gsl_makers.specs.Constructors.{build}
 use Rattle.gsl_calls.specs.Calls.{call, built}
 use Rattle.gsl_check_expr.specs.declared.env.Env.{Env}
-use Rattle.gsl_check_expr.specs.Sizes.{Bracket, Dimensions, dimensions, with_dimensions, is_plain_name}
+use Rattle.gsl_check_expr.specs.declared.brackets.Dimensions.{Dimensions}
+use Rattle.gsl_check_expr.specs.Sizes.{Bracket, with_dimensions, is_plain_name}
 
 -- the type that a keyword names
 abbrev pub basic_type : Basic → Ty
@@ -51,9 +52,17 @@ functions_in [] = []
 functions_in (entry.Function number ∷ entries) = number ∷ functions_in entries
 functions_in (_ ∷ entries) = functions_in entries
 
+-- how many arguments there are, as a word
+abbrev pub count_of : List Part → ℕ
+count_of args = min (length args) 4294967295
+
 -- a constructor of a type with brackets
 abbrev pub constructor : Env → Place → Dimensions → Ty → List Part → Checked Part
-constructor env place dims element args = build env.scene place (with_dimensions (length args) dims element) args
+constructor env place dims element args = build env.scene place (with_dimensions (count_of args) dims element) args
+
+-- a call of the functions of a name
+abbrev pub functions : Env → Place → List ℕ → List Part → Checked Part
+functions env place name args = call env.scene place (functions_in (all_of env.names name)) args
 
 -- a function has no brackets
 abbrev pub bare : Place → Dimensions → Checked Part → Checked Part
@@ -62,7 +71,7 @@ bare place dims node = if is_plain_name dims then node else fault place E0402
 abbrev pub called_entry : Env → Place → List ℕ → Dimensions → List Part → Option Entry → Checked Part
 called_entry env place name dims args None = fault place E0401
 called_entry env place name dims args (Some (entry.Struct number)) = constructor env place dims (ty.Struct number) args
-called_entry env place name dims args (Some (entry.Function number)) = bare place dims (call env.scene place (functions_in (all_of env.names name)) args)
+called_entry env place name dims args (Some (entry.Function number)) = bare place dims (functions env place name args)
 called_entry env place name dims args (Some (entry.Builtin which)) = bare place dims (built env.scene place which args)
 called_entry env place name dims args (Some _) = fault place E0402
 

@@ -17,6 +17,8 @@ use Rattle.gsl_typing.specs.declared.scene.Part.{Part}
 use Rattle.gsl_typing.specs.Rows.{fault, unless}
 use Rattle.gsl_typing.specs.Scene.{type_in}
 use Rattle.gsl_typing.specs.Uses.{is_unread}
+use Rattle.gsl_check_expr.specs.declared.brackets.Dimensions.{Dimensions}
+use Rattle.gsl_check_expr.specs.declared.brackets.Dimensions.TheVariants.{Plain, Sized}
 
 -- ---- constant expressions that are required
 
@@ -76,11 +78,6 @@ all_stated (bracket ∷ brackets) = bracket.size >>= (λ size. stated bracket.pl
 abbrev pub arrayed : List ℕ → Ty → Ty
 arrayed [] element = element
 arrayed (size ∷ sizes) element = ty.Array (arrayed sizes element) size
-
--- The brackets of a type: none, or the first size, which may be left out, and those behind it.
-pub data Dimensions : Type 0 where
-  Plain : Dimensions
-  Sized : Option ℕ → List ℕ → Dimensions
 
 -- The sizes in their order; only that of the first bracket may be left out.
 unfoldable pub dimensions : List Bracket → Checked Dimensions

@@ -5,6 +5,14 @@
 //! those of `gsl_typing`, `gsl_makers` and `gsl_calls`.
 #![tactic(auto)]
 
+mod brackets;
+mod callees;
 mod env;
+mod naming;
+mod sizing;
 
+pub use brackets::{Dimensions, is_plain_name, with_dimensions};
+pub use callees::{basic_type, called_name, called_type};
 pub use env::Env;
+pub use naming::{instance_of, literal, named};
+pub use sizing::size_in;

@@ -17,7 +17,5 @@ pub use constructors::{Parts, build};
 pub use heights::{Heights, is_low};
 pub use members::{Found, block_member_of, struct_member};
 pub use paths::{Picked, block_member, index, is_index, member, method};
+pub use queue::Queue;
 pub use swizzles::{Letters, swizzle};
-
-#[cfg(test)]
-mod tests;

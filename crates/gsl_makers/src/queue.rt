@@ -9,7 +9,7 @@ use std::vec::IntoIter;
 
 /// The items that are left, the next one first.
 #[derive(Drop)]
-pub(crate) struct Queue<T> {
+pub struct Queue<T> {
     items: IntoIter<T, Global>,
 }
 

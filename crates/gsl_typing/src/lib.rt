@@ -24,6 +24,3 @@ pub use uses::{
     is_bool, is_integral, is_large, is_runtime, is_unread, is_value_type, is_writable, told_leaves,
     whole,
 };
-
-#[cfg(test)]
-mod tests;
