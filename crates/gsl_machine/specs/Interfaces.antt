@@ -1,5 +1,5 @@
 -- The variables of a module as a run begins, and what comes out at its end.
-use Rattle.std.specs.Prelude.{ℕ, ◌+◌, ◌*◌, ◌%◌, ◌^◌, Bool, ◌==◌, if◌then◌else◌, List, [], ◌∷◌, map, take, length, slice_index, Option, Some, None, unwrap_or}
+use Rattle.std.specs.Prelude.{ℕ, Bool, ◌==◌, if◌then◌else◌, List, [], ◌∷◌, take, length, Option, Some, None, unwrap_or}
 use Rattle.std.specs.List.{cons_option, filter_map}
 use Rattle.gsl_base.specs.declared.input.Input.{Input}
 use Rattle.gsl_base.specs.declared.input.Located.{Located}
@@ -12,7 +12,7 @@ use Rattle.gsl_views.specs.Buffers.{ascending}
 use Rattle.gsl_inputs.specs.Given.{global_id, local_index, vector_of, words_at}
 use Rattle.gsl_words.specs.declared.module.Module.{Module}
 use Rattle.gsl_values.specs.declared.value.Value.{Value}
-use Rattle.gsl_values.specs.declared.value.Value.TheVariants.{Word, Many}
+use Rattle.gsl_values.specs.declared.value.Value.TheVariants.{Word}
 use Rattle.gsl_tree.specs.Values.{components_in, of_components}
 use Rattle.gsl_valid.specs.DecorationRules.{pointee}
 use Rattle.gsl_valid.specs.Decorations.{number_on}
