@@ -1,5 +1,6 @@
 -- Modules with what they do, so that a wrong definition is seen.
 use Rattle.std.proofs.Common.{◌≡◌, ℕ, Bool, true, false, List, [], ◌∷◌, ◌++◌, None, refl}
+use Rattle.std.specs.Prelude.{Ok, Err}
 use Rattle.gsl_base.specs.declared.input.Input.{Input}
 use Rattle.gsl_instr.specs.declared.enumerant.storage_class.TheConstants as storage_class
 use Rattle.gsl_instr.specs.declared.op.TheConstants as op
@@ -10,6 +11,8 @@ use Rattle.gsl_values.specs.Operators.{binary_answer}
 use Rattle.gsl_values.specs.declared.value.Value.TheVariants.{outs-Many, outs-Word}
 use Rattle.gsl_valid.proofs.Example.{begun, decorations, ended, front, globals, i, module_with, returned, store, sum}
 use Rattle.gsl_valid.specs.Placed.{Code}
+use Rattle.gsl_base.specs.declared.input.InputRefusal.TheVariants.{BadIds, NoBuffer, TooShort}
+use Rattle.gsl_machine.specs.Fits.{fits}
 use Rattle.gsl_machine.specs.Machine.{after, start}
 use Rattle.gsl_machine.specs.State.{Ended, Going, Outcome, Strayed, Stuck}
 
@@ -111,3 +114,21 @@ branches_lead = simp computes refl
 no_temporary : after (with_code [] (sum 12 12 ++ i op.BRANCH (40 ∷ []) ∷ i op.LABEL (40 ∷ []) ∷ store 13) []) 7 (over 7 []) ≡ Stuck
 unfolding after start form_of put_word word_at binary_answer
 no_temporary = simp computes refl
+
+-- ---- which inputs fit
+
+it_fits : fits doubled (over 7 []) ≡ Ok tt
+unfolding fits form_of
+it_fits = refl
+
+no_buffer : fits doubled (record (over 7 []) { buffers = [] }) ≡ Err (NoBuffer 0 0)
+unfolding fits form_of
+no_buffer = refl
+
+a_byte_is_missing : fits doubled (record (over 7 []) { buffers = record { set = 0; binding = 0; bytes = 7 ∷ 0 ∷ 0 ∷ [] } ∷ [] }) ≡ Err (TooShort 0 0)
+unfolding fits form_of
+a_byte_is_missing = refl
+
+no_such_invocation : fits doubled (record (over 7 []) { local = 1 ∷ 0 ∷ 0 ∷ [] }) ≡ Err BadIds
+unfolding fits form_of
+no_such_invocation = refl

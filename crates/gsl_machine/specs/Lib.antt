@@ -5,4 +5,5 @@ pub mod Memory
 pub mod Functions
 pub mod Interfaces
 pub mod Steps
+pub mod Fits
 pub mod Machine

@@ -1,4 +1,4 @@
 //! What a module does (SPIR-V 1.0, 2.3, 2.4 and 3.32; Extended Instructions for GLSL, 2): definitions.
 //!
-//! Read, in `specs/`: `State`, `Constants`, `Operations`, `Memory`, `Functions`, `Interfaces`, `Steps`, `Machine`.
+//! Read, in `specs/`: `State`, `Constants`, `Operations`, `Memory`, `Functions`, `Interfaces`, `Steps`, `Machine`; and `Fits`.
 #![tactic(auto)]

@@ -9,7 +9,7 @@ use Rattle.gsl_tree.specs.declared.unit.Block.{Block}
 use Rattle.gsl_tree.specs.declared.unit.Interface.{Interface}
 use Rattle.gsl_tree.specs.WellTyped.{is_compute, is_push}
 use Rattle.gsl_meaning.specs.Blocks.{given_bytes}
-use Rattle.gsl_inputs.specs.Demands.{Met, all_below, and_met}
+use Rattle.gsl_inputs.specs.Demands.{Met, all_below, and_met, bytes_met, has_words}
 use Rattle.gsl_inputs.specs.Given.{words_at}
 use Rattle.gsl_meaning.specs.Stages.{locations}
 
@@ -21,18 +21,12 @@ short block = if is_push block.kind then PushShort else TooShort block.set block
 
 -- the buffer of a block is there before it is long enough
 abbrev pub is_given : Block → Option (List ℕ) → Met
-is_given block None = Err (absent block)
-is_given block (Some bytes) = if nat_lt (length bytes) block.need then Err (short block) else Ok tt
+is_given block bytes = bytes_met (absent block) (short block) block.need bytes
 
 -- the blocks in their order
 abbrev pub blocks_met : List Block → Input → Met
 blocks_met [] input = Ok tt
 blocks_met (block ∷ blocks) input = and_met (is_given block (given_bytes input block)) (blocks_met blocks input)
-
--- an input has at least as many words as it has components
-abbrev pub has_words : ℕ → Option (List ℕ) → Bool
-has_words count None = false
-has_words count (Some words) = not (nat_lt (length words) count)
 
 -- an input at a location has no value, or one of too few words
 abbrev pub is_wanting : Input → ℕ → Interface → Bool

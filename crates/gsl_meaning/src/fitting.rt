@@ -113,7 +113,7 @@ fn words_at<'a>(ins: &'a Ins, location: u32) -> Option<&'a Comps>
 
 /// Whether as many words are given as an input has components.
 fn has_words(count: u32, words: Option<&Comps>) -> bool
-    ensures { result ≡ spec.has_words count (option_map (λ w. w.now) words.entry) }
+    ensures { result ≡ demands.has_words count (option_map (λ w. w.now) words.entry) }
 {
     match words {
         None => false,
