@@ -7,3 +7,4 @@ pub mod Interfaces
 pub mod Steps
 pub mod Fits
 pub mod Machine
+pub mod Laws

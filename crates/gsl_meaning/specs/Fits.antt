@@ -1,5 +1,5 @@
 -- Which inputs fit a program, and the first refusal of any other.
-use Rattle.std.specs.Prelude.{ℕ, zero, suc, ◌+◌, Bool, false, not, nat_lt, ◌==◌, ◌&&◌, ◌||◌, if◌then◌else◌, List, [], ◌∷◌, length, Option, Some, None, Ok, Err}
+use Rattle.std.specs.Prelude.{ℕ, zero, suc, ◌+◌, Bool, not, ◌==◌, ◌&&◌, ◌||◌, if◌then◌else◌, List, [], ◌∷◌, Option, Ok, Err}
 use Rattle.gsl_base.specs.declared.input.Input.{Input}
 use Rattle.gsl_base.specs.declared.input.InputRefusal.{InputRefusal}
 use Rattle.gsl_base.specs.declared.input.InputRefusal.TheVariants.{NoBuffer, TooShort, NoPush, PushShort, NoValue, BadIds}
