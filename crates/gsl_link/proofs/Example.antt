@@ -1,16 +1,16 @@
 -- Units with the program that they make or their first fault, so that a wrong definition is seen.
-use Rattle.std.proofs.Common.{◌≡◌, refl, ℕ, Bool, true, false, List, [], ◌∷◌, ◌++◌, map, Option, Some, None, Ok, Err}
+use Rattle.std.proofs.Common.{◌≡◌, refl, ℕ, Bool, true, false, List, [], ◌∷◌, map, Option, Some, None, Err}
 use Rattle.std.specs.Prelude.{is_ok, option_map}
 use Rattle.gsl_base.specs.Checked.{Checked}
 use Rattle.gsl_base.specs.declared.fault.Code.{Code}
-use Rattle.gsl_base.specs.declared.fault.Code.TheVariants.{E0801, E0802, E0803, E0804, E0805, E0806, E0807, E0903, E0906, E0907}
+use Rattle.gsl_base.specs.declared.fault.Code.TheVariants.{E0801, E0802, E0803, E0806}
 use Rattle.gsl_base.specs.declared.fault.Place.{Place}
 use Rattle.gsl_base.specs.declared.stage.Stage.TheVariants.{Vertex, Compute}
 use Rattle.gsl_types.proofs.Layers.{over_void, over_one, over_vector, over_array, over_runtime, over_struct}
 use Rattle.gsl_types.specs.declared.ty.Direction.{Direction}
 use Rattle.gsl_types.specs.declared.ty.Direction.TheVariants.{In, InOut}
 use Rattle.gsl_types.specs.declared.ty.Member.{Member}
-use Rattle.gsl_types.specs.declared.ty.Scalar.TheVariants.{Bool as Boolean, Int, Uint}
+use Rattle.gsl_types.specs.declared.ty.Scalar.TheVariants.{Int, Uint}
 use Rattle.gsl_types.specs.declared.ty.StructType.{StructType}
 use Rattle.gsl_types.specs.declared.ty.Ty.{Ty}
 use Rattle.gsl_types.specs.declared.ty.Ty.TheVariants as ty

@@ -1,5 +1,5 @@
 -- When two declarations of one name agree (GLSL 4.50, 3.3, 4.3 and 4.4).
-use Rattle.std.specs.Prelude.{ℕ, Bool, true, false, not, ◌&&◌, ◌||◌, nat_eq, bytes_eq, List, [], ◌∷◌, Option, Some, None, is_some, if◌then◌else◌}
+use Rattle.std.specs.Prelude.{ℕ, Bool, true, false, not, ◌&&◌, ◌||◌, nat_eq, bytes_eq, List, [], ◌∷◌, Option, Some, is_some, if◌then◌else◌}
 use Rattle.std.specs.List.{list_any}
 use Rattle.gsl_types.specs.declared.ty.Direction.{Direction}
 use Rattle.gsl_types.specs.declared.ty.Direction.TheVariants.{In, Out, InOut}

@@ -1,6 +1,5 @@
 -- Linking (GLSL 4.50, 3.3 and 4.3): the program that units make, or their first fault.
-use Rattle.std.specs.Prelude.{◌≡◌, ℕ, ◌≤◌, Bool, List, [], ◌∷◌, map, length, Option, Some, None, Result, Ok, Err}
-use Rattle.std.specs.List.{AllByRecursion}
+use Rattle.std.specs.Prelude.{◌≡◌, ℕ, List, [], ◌∷◌, Option, Some, None, Ok, Err}
 use Rattle.gsl_base.specs.Checked.{Checked}
 use Rattle.gsl_base.specs.declared.fault.Code.{Code}
 use Rattle.gsl_base.specs.declared.fault.Code.TheVariants.{E0801, E0802, E0803, E0804, E0805, E0806, E0807, E0903, E0906, E0907}

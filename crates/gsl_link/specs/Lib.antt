@@ -9,3 +9,4 @@ pub mod Whole
 pub mod Calls
 pub mod Rows
 pub mod Joined
+pub mod Units

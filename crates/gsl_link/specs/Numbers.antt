@@ -1,5 +1,5 @@
 -- What the declarations of many units stand for together: each variable, block, input, output and function once, and their numbers.
-use Rattle.std.specs.Prelude.{ℕ, ◌+◌, Bool, true, false, not, ◌&&◌, ◌||◌, nat_eq, bytes_eq, is_some, List, [], ◌∷◌, ◌++◌, map, filter, find, flat_map, Option, Some, None, if◌then◌else◌}
+use Rattle.std.specs.Prelude.{ℕ, ◌+◌, Bool, not, ◌&&◌, ◌||◌, nat_eq, bytes_eq, is_some, List, [], ◌∷◌, ◌++◌, map, filter, find, flat_map, Option, Some, None, if◌then◌else◌}
 use Rattle.std.specs.List.{position_or_len}
 use Rattle.gsl_tree.specs.declared.unit.Block.{Block}
 use Rattle.gsl_tree.specs.declared.unit.GlobalVar.{GlobalVar}

@@ -1,6 +1,5 @@
 -- Typed trees of a unit with the new numbers of what they name.
-use Rattle.std.specs.Prelude.{ℕ, List, map, option_map}
-use Rattle.gsl_types.specs.declared.ty.Ty.{Ty}
+use Rattle.std.specs.Prelude.{map, option_map}
 use Rattle.gsl_tree.specs.declared.expr.Expr.{Expr}
 use Rattle.gsl_tree.specs.declared.expr.ExprKind.{ExprKind}
 use Rattle.gsl_tree.specs.declared.expr.ExprKind.TheOpen.{ExprKind-F, Expr-F}

@@ -15,7 +15,7 @@ use Rattle.gsl_tree.specs.declared.unit.TypedUnit.{TypedUnit}
 use Rattle.gsl_link.specs.Types.{same_type}
 use Rattle.gsl_link.specs.Structs.{joined_structs}
 use Rattle.gsl_link.specs.Declarations.{Side, sides_of}
-use Rattle.gsl_link.specs.Numbers.{Sited, Numbering, numbering, all_globals, sited_from, stands, joined_blocks, joined_interfaces, joined_heads}
+use Rattle.gsl_link.specs.Numbers.{Sited, numbering, all_globals, sited_from, stands, joined_blocks, joined_interfaces, joined_heads}
 use Rattle.gsl_link.specs.Renumbering.{renumbered_global, renumbered_function}
 
 -- ---- the parts that name others, unit by unit
