@@ -1,3 +1,4 @@
 pub mod Folds
 pub mod Reached
+pub mod Settled
 pub mod Example
