@@ -1,0 +1,5 @@
+pub mod Folds
+pub mod Reached
+pub mod Settled
+pub mod OneUnit
+pub mod Example
