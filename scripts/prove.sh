@@ -1,10 +1,11 @@
 #!/usr/bin/env bash
 # Proves the crates that the program stands on, as many at a time as there are cores, and builds it. Each crate is named when
 # it is proved, with the count of those that are left.
-set -eu
+# It works on a copy of those crates, since `rt all` takes every crate that it sees; what was proved is handed back at the end.
+set -eu -o pipefail
 top=$(cd "$(dirname "${BASH_SOURCE[0]}")/.." && pwd)
-cores=$(nproc)
-logs=$(mktemp -d)
+work=$(mktemp -d)
+trap 'rm -rf "$work"' EXIT
 declare -A uses
 while IFS=: read -r name deps; do
   case $name in ''|\#*) continue ;; esac
@@ -26,59 +27,47 @@ visit() {
 }
 visit gsl
 
-declare -A state # none: waiting; a process: at work; proved
-running=0
-left=${#wanted[@]}
+mkdir "$work/crates"
+for name in "${wanted[@]}"; do
+  cp -a "$top/crates/$name" "$work/crates/"
+  echo "$name:${uses[$name]}" >>"$work/crates.txt"
+done
 
-is_ready() {
-  local dep
-  for dep in ${uses[$1]}; do
-    [ -z "${uses[$dep]+listed}" ] || [ "${state[$dep]-}" = proved ] || return 1
-  done
-}
-
-# Building the program runs it, without words; it then ends with status 2, and what counts is that it is there.
-prove() {
-  cd "$top/crates/$1"
-  if [ "$1" = gsl ]; then
-    rm -f out/gsl
-    rt run || true
-    [ -x out/gsl ]
-  else
-    rt lib --jobs "$2"
-  fi
-}
-
-# Begins each crate whose libraries are proved, while there are cores.
-begin() {
+# Hands back what is proved, whether or not all is, so that the next run goes on from there.
+hand_back() {
   local name
   for name in "${wanted[@]}"; do
-    if [ "$running" -lt "$cores" ] && [ -z "${state[$name]-}" ] && is_ready "$name"; then
-      prove "$name" "$(((cores + running) / (running + 1)))" >"$logs/$name" 2>&1 &
-      state[$name]=$!
-      running=$((running + 1))
-    fi
+    [ -d "$work/crates/$name/out" ] || continue
+    rm -rf "$top/crates/$name/out"
+    mv "$work/crates/$name/out" "$top/crates/$name/out"
   done
 }
 
-echo "gsl: $left crates to prove; logs in $logs" >&2
-begin
-while [ "$running" -gt 0 ]; do
-  status=0
-  wait -n -p done_one || status=$?
-  running=$((running - 1))
-  for name in "${wanted[@]}"; do
-    [ "${state[$name]-}" = "$done_one" ] || continue
-    if [ "$status" -ne 0 ]; then
-      echo "gsl: $name is not proved:" >&2
-      tail -20 "$logs/$name" >&2
-      kill $(jobs -p) 2>"$logs/kill" || true
-      exit 3
-    fi
-    state[$name]=proved
-    left=$((left - 1))
-    echo "gsl: $name proved, $left left" >&2
+left=${#wanted[@]}
+echo "gsl: $left crates to prove" >&2
+status=0
+(cd "$work" && rt all check --jobs "$(nproc)" 2>&1) | tee "$work/log" | {
+  while read -r line; do
+    case $line in
+      '== '*) name=${line#== } ;;
+      'logic=proved'*) left=$((left - 1)); echo "gsl: $name proved, $left left" >&2 ;;
+    esac
   done
-  begin
-done
-rm -rf "$logs"
+} || status=$?
+hand_back
+if [ "$status" -ne 0 ]; then
+  tail -20 "$work/log" >&2
+  echo "gsl: not proved" >&2
+  exit 3
+fi
+
+# Building the program runs it, without words; it then ends with status 2, and what counts is that it is there.
+cd "$top/crates/gsl"
+rm -f out/gsl
+rt run >"$work/log" 2>&1 || true
+if [ ! -x out/gsl ]; then
+  tail -20 "$work/log" >&2
+  echo "gsl: the program could not be built" >&2
+  exit 3
+fi
+echo "gsl: the program is proved and built" >&2

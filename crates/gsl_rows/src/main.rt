@@ -4,23 +4,18 @@
 #![tactic(auto)]
 
 mod case;
-mod declarations;
-mod expressions;
 mod modules;
-mod outline;
 mod reader;
 mod running;
 mod sides;
 mod sources;
-mod spelling;
-mod statements;
 mod text;
 
-use crate::outline::Outline;
 use crate::reader::{Misread, read_cases};
 use crate::running::run_case;
 use gsl_base::{Memory, Text};
 use gsl_host::{FileHost, Host, Stream};
+use gsl_outline::Outline;
 use std::alloc::Global;
 use std::env;
 use std::process::ExitCode;

@@ -2,10 +2,10 @@
 
 ghost use Rattle.gsl_words.specs.Instructions.{HasFile};
 
-use crate::outline::{Done, Outline};
 use crate::running::{dump, stream};
 use gsl_asm::{AsmFault, assemble, show};
 use gsl_base::{Bytes, Memory};
+use gsl_outline::{Done, Outline};
 use gsl_words::{Module, WordFault, decode, encode};
 use std::alloc::Global;
 

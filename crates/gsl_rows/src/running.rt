@@ -2,13 +2,13 @@
 
 use crate::case::{Case, Kind};
 use crate::modules::{assembled, decoded};
-use crate::outline::{Done, Outline};
 use crate::sides::sides;
 use crate::sources::{places, stages, tokens, tree};
 use crate::text::{bytes_of, filled};
 use gsl_base::{Bytes, Memory, Text, Words};
 use gsl_cmd::glsl_main;
 use gsl_host::MemHost;
+use gsl_outline::{Done, Outline};
 use std::alloc::Global;
 
 /// Runs a case, once for each of its alternatives, and prints what came.

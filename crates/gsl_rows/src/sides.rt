@@ -3,7 +3,6 @@
 ghost use Rattle.std.specs.Prelude.{◌≡◌, [], IfOk, IfSome};
 ghost use Rattle.gsl_form.specs.Form.{IsProgram};
 
-use crate::outline::{Done, Outline};
 use crate::running::dump;
 use crate::sources::source_tree;
 use gsl_base::{
@@ -11,6 +10,7 @@ use gsl_base::{
 };
 use gsl_cmd::lower;
 use gsl_form::{Program, read_program};
+use gsl_outline::{Done, Outline};
 use gsl_slow::{SlowRun, fits_shader, run_module, run_shader};
 use std::alloc::Global;
 

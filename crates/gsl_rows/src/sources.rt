@@ -1,11 +1,9 @@
 //! Texts: their live tokens, their trees, and what they compile to.
 
-use crate::outline::{Done, Outline};
-use crate::spelling::{key_word, punct};
-use crate::statements::unit;
 use gsl_base::{Bytes, Fault, Kind, Memory, Refusal, Sources, Stage, Token, Tokens};
 use gsl_cmd::compile;
 use gsl_lex::{cook, lex};
+use gsl_outline::{Done, Outline, key_word, punct, unit};
 use gsl_parse::parse;
 use gsl_pp::preprocess;
 use gsl_syntax::Unit;

@@ -86,9 +86,10 @@ around_body lists params locals = record {
   locals = locals;
 }
 
--- what stands around the initialiser of a global: of the globals those before it
-abbrev pub around_init : Lists → ℕ → Around
-around_init lists number = record (around_body lists [] []) { globals = take number lists.globals }
+-- What stands around the initialiser of a global. All globals do, since `.length()` asks for the type of any that was declared, and where
+-- units are joined that may be a later one.
+abbrev pub around_init : Lists → Around
+around_init lists = around_body lists [] []
 
 -- ---- names and types
 
@@ -129,11 +130,12 @@ pub record IsStructDeclared (structs : List StructType) (struct : StructType) : 
 
 -- ---- global variables
 
--- An initialiser is a constant expression of the variable's type, and its value is kept beside it. A `const` variable has one.
+-- An initialiser is a constant expression of the variable's type by the constants before it, and its value is kept beside it. A `const` variable
+-- has one.
 abbrev pub IsInit : Lists → ℕ → GlobalVar → Option Expr → Type 0
 IsInit lists number g None = (g.value ≡ None) × (g.constant ≡ false)
 IsInit lists number g (Some e) =
-    (v : Value) × IsExpr (around_init lists number) e × MayBeRead (around_init lists number) e × (type_of e ≡ g.ty) × (expr_depth e ≤ most_deep)
+    (v : Value) × IsExpr (around_init lists) e × MayBeRead (around_init lists) e × (type_of e ≡ g.ty) × (expr_depth e ≤ most_deep)
     × (constant_of (consts_of (take number lists.globals)) e ≡ Known v) × (g.value ≡ Some v)
 
 pub record IsGlobal (lists : Lists) (number : ℕ) (g : GlobalVar) : Type 0 where

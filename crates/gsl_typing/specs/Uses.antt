@@ -29,19 +29,19 @@ kind_tested by_kind kind = fold-ExprKind Bool Bool by_kind kind_in kind
 -- ---- what may be read and written
 
 -- a `writeonly` member of a block, or a part of one
-abbrev pub is_unread : Scene → Part → Bool
+unfoldable pub is_unread : Scene → Part → Bool
 is_unread scene part = tested (unreadable_by (around scene)) part.expr
 
 -- an l-value (GLSL 4.50, 5.8): the tree shows that it may be written, and nothing that the tree does not show is against it
-abbrev pub is_writable : Scene → Part → Bool
+unfoldable pub is_writable : Scene → Part → Bool
 is_writable scene part = not part.fixed && tested (writable_by (around scene)) part.expr
 
 -- ---- types of values
 
-abbrev pub is_bool : Part → Bool
+unfoldable pub is_bool : Part → Bool
 is_bool part = identical (type_in part) boolean
 
-abbrev pub is_runtime : Part → Bool
+unfoldable pub is_runtime : Part → Bool
 is_runtime part = is_runtime_layer (out-Ty (type_in part))
 
 abbrev pub integral_by : Option Shape → Bool
@@ -49,14 +49,18 @@ integral_by None = false
 integral_by (Some shape) = is_integer shape.0
 
 -- an integer scalar or vector
-abbrev pub is_integral : Part → Bool
+unfoldable pub is_integral : Part → Bool
 is_integral part = integral_by (shape_of (type_in part))
 
 -- ---- whole copies
 
+-- an array or a struct of more leaves than may be copied or compared
+unfoldable pub is_large : Scene → Ty → Bool
+is_large scene t = is_aggregate t && not (is_small (around scene) t)
+
 -- a whole array or struct of a block, of more leaves than may be copied
 abbrev pub is_large_copy : Scene → Part → Bool
-is_large_copy scene part = tested in_block_by part.expr && (is_aggregate (type_in part) && not (is_small (around scene) (type_in part)))
+is_large_copy scene part = tested in_block_by part.expr && is_large scene (type_in part)
 
 -- A part whose value is taken or replaced, and not that of a part of it alone: arrays and structs of a block have few leaves.
 unfoldable pub whole : Scene → Part → Checked Part

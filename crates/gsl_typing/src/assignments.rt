@@ -8,7 +8,7 @@ ghost use Rattle.gsl_typing.specs.Conversions.{as_type};
 ghost use Rattle.gsl_typing.specs.Operators as spec;
 ghost use Rattle.gsl_typing.specs.Scene.{made};
 
-use crate::fits::fitted;
+use crate::fits::{Fitting, fitted};
 use crate::operators::made;
 use crate::refusing::refuse;
 use crate::scene::{Part, Scene};
@@ -21,20 +21,29 @@ use gsl_types::Ty;
 use gsl_values::BinaryOp;
 use std::alloc::Global;
 
-/// `a = b`
-#[tactic(auto, unfolding(crate::specs::Operators::assignment))]
-fn assignment(alloc: Global, scene: &Scene, place: Place, a: Part, b: Part) -> Result<Part, Refusal>
-    ensures { Gives result (spec.assignment scene.now place a b) }
+/// Whether a value may be stored in an l-value.
+#[tactic(auto, unfolding(crate::specs::Operators::storable))]
+fn storable(scene: &Scene, place: Place, a: &Part, b: &Part) -> Result<(), Refusal>
+    ensures { Gives result (spec.storable scene.now place a.now b.now) }
 {
     if !serves_as(&b.expr.ty, &a.expr.ty) {
         return Err(refuse(place, Code::E0504));
     }
-    if !is_writable(scene, &a) || is_unread(scene, &b) {
+    if !is_writable(scene, a) || is_unread(scene, b) {
         return Err(refuse(place, Code::E0507));
     }
     if !is_value_type(&a.expr.ty) {
         return Err(refuse(place, Code::E0510));
     }
+    Ok(())
+}
+
+/// `a = b`
+#[tactic(auto, unfolding(crate::specs::Operators::assignment))]
+fn assignment(alloc: Global, scene: &Scene, place: Place, a: Part, b: Part) -> Result<Part, Refusal>
+    ensures { Gives result (spec.assignment scene.now place a b) }
+{
+    storable(scene, place, &a, &b)?;
     Ok(stored(alloc, place, a.expr, b.expr)?)
 }
 
@@ -49,6 +58,30 @@ fn stored(alloc: Global, place: Place, a: Expr, b: Expr) -> Result<Part, Memory>
     Ok(made(place, ty, ExprKind::Assign(a, b)))
 }
 
+/// What `op=` does with its operands.
+#[tactic(auto, unfolding(crate::specs::Operators::updates))]
+fn updates(
+    scene: &Scene,
+    op: BinaryOp,
+    place: Place,
+    a: &Part,
+    b: &Part,
+) -> Result<Fitting, Refusal>
+    ensures { Gives result (spec.updates scene.now op place a.now b.now) }
+{
+    let fit = match fitted(op, &a.expr.ty, &b.expr.ty) {
+        Some(fit) => fit,
+        None => return Err(refuse(place, Code::E0503)),
+    };
+    if !serves_as(&fit.result, &a.expr.ty) {
+        return Err(refuse(place, Code::E0504));
+    }
+    if !is_writable(scene, a) || is_unread(scene, a) || is_unread(scene, b) {
+        return Err(refuse(place, Code::E0507));
+    }
+    Ok(fit)
+}
+
 /// `a op= b`
 #[tactic(auto, unfolding(crate::specs::Operators::update))]
 fn update(
@@ -61,16 +94,7 @@ fn update(
 ) -> Result<Part, Refusal>
     ensures { Gives result (spec.update scene.now op place a b) }
 {
-    let fit = match fitted(op, &a.expr.ty, &b.expr.ty) {
-        Some(fit) => fit,
-        None => return Err(refuse(place, Code::E0503)),
-    };
-    if !serves_as(&fit.result, &a.expr.ty) {
-        return Err(refuse(place, Code::E0504));
-    }
-    if !is_writable(scene, &a) || is_unread(scene, &a) || is_unread(scene, &b) {
-        return Err(refuse(place, Code::E0507));
-    }
+    let fit = updates(scene, op, place, &a, &b)?;
     Ok(updated(alloc, place, op, &fit.right, a.expr, b.expr)?)
 }
 

@@ -7,9 +7,10 @@ ghost use Rattle.gsl_tree.specs.declared.expr.ExprKind.TheVariants as kind;
 ghost use Rattle.gsl_typing.specs.Conversions.{as_type};
 ghost use Rattle.gsl_typing.specs.Operators as spec;
 ghost use Rattle.gsl_tree.specs.Expressions.{boolean};
+ghost use Rattle.gsl_tree.specs.Trees.{type_of};
 ghost use Rattle.gsl_typing.specs.Scene.{made};
 
-use crate::fits::{fitted, unary_type};
+use crate::fits::{Fitting, fitted, unary_type};
 use crate::refusing::refuse;
 use crate::scene::{Part, Scene};
 use crate::types::{as_type, common, copy};
@@ -48,6 +49,43 @@ fn joined(
     Ok(made(place, ty, ExprKind::Binary(op, a, b)))
 }
 
+/// What an arithmetic operator, an operator on bits, a shift or a relation does with two operands.
+#[tactic(auto, unfolding(crate::specs::Operators::operands))]
+fn operands(
+    scene: &Scene,
+    op: BinaryOp,
+    place: Place,
+    a: &Part,
+    b: &Part,
+) -> Result<Fitting, Refusal>
+    ensures { Gives result (spec.operands scene.now op place a.now b.now) }
+{
+    let fit = match fitted(op, &a.expr.ty, &b.expr.ty) {
+        Some(fit) => fit,
+        None => return Err(refuse(place, Code::E0503)),
+    };
+    if is_unread(scene, a) || is_unread(scene, b) {
+        return Err(refuse(place, Code::E0507));
+    }
+    Ok(fit)
+}
+
+/// Operands that are converted, and joined by their operator.
+fn converted(
+    alloc: Global,
+    place: Place,
+    op: BinaryOp,
+    fit: Fitting,
+    a: Expr,
+    b: Expr,
+) -> Result<Part, Memory>
+    ensures { IfOk result (λ x. x ≡ spec.fitted place op fit a b) }
+{
+    let a = as_type(alloc, &fit.left, a)?;
+    let b = as_type(alloc, &fit.right, b)?;
+    joined(alloc, place, fit.result, op, a, b)
+}
+
 /// An arithmetic operator, an operator on bits, a shift or a relation.
 #[tactic(auto, unfolding(crate::specs::Operators::operation))]
 fn operation(
@@ -60,16 +98,8 @@ fn operation(
 ) -> Result<Part, Refusal>
     ensures { Gives result (spec.operation scene.now op place a b) }
 {
-    let fit = match fitted(op, &a.expr.ty, &b.expr.ty) {
-        Some(fit) => fit,
-        None => return Err(refuse(place, Code::E0503)),
-    };
-    if is_unread(scene, &a) || is_unread(scene, &b) {
-        return Err(refuse(place, Code::E0507));
-    }
-    let a = as_type(alloc, &fit.left, a.expr)?;
-    let b = as_type(alloc, &fit.right, b.expr)?;
-    Ok(joined(alloc, place, fit.result, op, a, b)?)
+    let fit = operands(scene, op, place, &a, &b)?;
+    Ok(converted(alloc, place, op, fit, a.expr, b.expr)?)
 }
 
 /// The type in which two operands are compared.
@@ -135,6 +165,20 @@ fn connected(alloc: Global, place: Place, op: LogicOp, a: Expr, b: Expr) -> Resu
     Ok(made(place, Ty::One(Scalar::Bool), ExprKind::Logic(op, a, b)))
 }
 
+/// Two truth values, which are read.
+#[tactic(auto, unfolding(crate::specs::Operators::truths))]
+fn truths(scene: &Scene, place: Place, a: &Part, b: &Part) -> Result<(), Refusal>
+    ensures { Gives result (spec.truths scene.now place a.now b.now) }
+{
+    if !(is_bool(a) && is_bool(b)) {
+        return Err(refuse(place, Code::E0503));
+    }
+    if is_unread(scene, a) || is_unread(scene, b) {
+        return Err(refuse(place, Code::E0507));
+    }
+    Ok(())
+}
+
 /// `&&`, `||` and `^^`
 #[tactic(auto, unfolding(crate::specs::Operators::logic))]
 fn logic(
@@ -147,12 +191,7 @@ fn logic(
 ) -> Result<Part, Refusal>
     ensures { Gives result (spec.logic scene.now op place a b) }
 {
-    if !(is_bool(&a) && is_bool(&b)) {
-        return Err(refuse(place, Code::E0503));
-    }
-    if is_unread(scene, &a) || is_unread(scene, &b) {
-        return Err(refuse(place, Code::E0507));
-    }
+    truths(scene, place, &a, &b)?;
     Ok(connected(alloc, place, op, a.expr, b.expr)?)
 }
 
@@ -192,6 +231,21 @@ pub fn binary(
     }
 }
 
+/// The type that `-`, `~` or `!` gives.
+#[tactic(auto, unfolding(crate::specs::Operators::operand))]
+fn operand(scene: &Scene, op: UnaryOp, place: Place, a: &Part) -> Result<Ty, Refusal>
+    ensures { Gives result (spec.operand scene.now op place a.now) }
+{
+    let ty = match unary_type(op, &a.expr.ty) {
+        Some(ty) => ty,
+        None => return Err(refuse(place, Code::E0503)),
+    };
+    if is_unread(scene, a) {
+        return Err(refuse(place, Code::E0507));
+    }
+    Ok(ty)
+}
+
 /// `-`, `~` and `!`
 #[tactic(auto, unfolding(crate::specs::Operators::one_operand))]
 fn one_operand(
@@ -203,13 +257,7 @@ fn one_operand(
 ) -> Result<Part, Refusal>
     ensures { Gives result (spec.one_operand scene.now op place a) }
 {
-    let ty = match unary_type(op, &a.expr.ty) {
-        Some(ty) => ty,
-        None => return Err(refuse(place, Code::E0503)),
-    };
-    if is_unread(scene, &a) {
-        return Err(refuse(place, Code::E0507));
-    }
+    let ty = operand(scene, op, place, &a)?;
     let a = Boxed::new(alloc, a.expr)?;
     Ok(made(place, ty, ExprKind::Unary(op, a)))
 }
@@ -231,20 +279,36 @@ fn plus(scene: &Scene, place: Place, a: Part) -> Result<Part, Refusal>
     })
 }
 
-/// `++` and `--`, which read and write their operand.
+/// An operand that is read and written.
+#[tactic(auto, unfolding(crate::specs::Operators::counter))]
+fn counter(scene: &Scene, place: Place, a: &Part) -> Result<(), Refusal>
+    ensures { Gives result (spec.counter scene.now place a.now) }
+{
+    if !is_integral(a) {
+        return Err(refuse(place, Code::E0503));
+    }
+    if !is_writable(scene, a) || is_unread(scene, a) {
+        return Err(refuse(place, Code::E0507));
+    }
+    Ok(())
+}
+
+/// A step of what stands in an expression.
+fn stepped(alloc: Global, place: Place, op: StepOp, a: Expr) -> Result<Part, Memory>
+    ensures { IfOk result (λ x. x ≡ made place (type_of a) (kind.Step op a)) }
+{
+    let ty = copy(alloc, &a.ty)?;
+    let a = Boxed::new(alloc, a)?;
+    Ok(made(place, ty, ExprKind::Step(op, a)))
+}
+
+/// `++` and `--`
 #[tactic(auto, unfolding(crate::specs::Operators::step))]
 fn step(alloc: Global, scene: &Scene, op: StepOp, place: Place, a: Part) -> Result<Part, Refusal>
     ensures { Gives result (spec.step scene.now op place a) }
 {
-    if !is_integral(&a) {
-        return Err(refuse(place, Code::E0503));
-    }
-    if !is_writable(scene, &a) || is_unread(scene, &a) {
-        return Err(refuse(place, Code::E0507));
-    }
-    let ty = copy(alloc, &a.expr.ty)?;
-    let a = Boxed::new(alloc, a.expr)?;
-    Ok(made(place, ty, ExprKind::Step(op, a)))
+    counter(scene, place, &a)?;
+    Ok(stepped(alloc, place, op, a.expr)?)
 }
 
 /// An operator before its operand, by its sign.
@@ -285,13 +349,57 @@ pub fn postfix(
     }
 }
 
-fn chosen(alloc: Global, place: Place, ty: Ty, test: Expr, a: Expr, b: Expr) -> Result<Part, Memory>
+/// The type that `?:` gives.
+#[tactic(auto, unfolding(crate::specs::Operators::chosen_type))]
+fn chosen_type(
+    alloc: Global,
+    scene: &Scene,
+    place: Place,
+    test: &Part,
+    a: &Part,
+    b: &Part,
+) -> Result<Ty, Refusal>
+    ensures { Gives result (spec.chosen_type scene.now place test.now a.now b.now) }
+{
+    let ty = match common(alloc, &a.expr.ty, &b.expr.ty)? {
+        Some(ty) => ty,
+        None => return Err(refuse(place, Code::E0503)),
+    };
+    if !is_bool(test) {
+        return Err(refuse(place, Code::E0503));
+    }
+    if is_unread(scene, test) || is_unread(scene, a) || is_unread(scene, b) {
+        return Err(refuse(place, Code::E0507));
+    }
+    if !is_value_type(&ty) {
+        return Err(refuse(place, Code::E0510));
+    }
+    Ok(ty)
+}
+
+fn offered(
+    alloc: Global,
+    place: Place,
+    ty: Ty,
+    test: Expr,
+    a: Expr,
+    b: Expr,
+) -> Result<Part, Memory>
     ensures { IfOk result (λ x. x ≡ made place ty (kind.Choose test a b)) }
 {
     let test = Boxed::new(alloc, test)?;
     let a = Boxed::new(alloc, a)?;
     let b = Boxed::new(alloc, b)?;
     Ok(made(place, ty, ExprKind::Choose(test, a, b)))
+}
+
+/// A choice between two values, which are converted to one type.
+fn chosen(alloc: Global, place: Place, ty: Ty, test: Expr, a: Expr, b: Expr) -> Result<Part, Memory>
+    ensures { IfOk result (λ x. x ≡ made place ty (kind.Choose test (as_type ty a) (as_type ty b))) }
+{
+    let a = as_type(alloc, &ty, a)?;
+    let b = as_type(alloc, &ty, b)?;
+    offered(alloc, place, ty, test, a, b)
 }
 
 /// `test ? a : b`
@@ -306,22 +414,8 @@ pub fn choice(
 ) -> Result<Part, Refusal>
     ensures { Gives result (spec.choice scene.now place test a b) }
 {
-    let ty = match common(alloc, &a.expr.ty, &b.expr.ty)? {
-        Some(ty) => ty,
-        None => return Err(refuse(place, Code::E0503)),
-    };
-    if !is_bool(&test) {
-        return Err(refuse(place, Code::E0503));
-    }
-    if is_unread(scene, &test) || is_unread(scene, &a) || is_unread(scene, &b) {
-        return Err(refuse(place, Code::E0507));
-    }
-    if !is_value_type(&ty) {
-        return Err(refuse(place, Code::E0510));
-    }
-    let a = as_type(alloc, &ty, a.expr)?;
-    let b = as_type(alloc, &ty, b.expr)?;
-    Ok(chosen(alloc, place, ty, test.expr, a, b)?)
+    let ty = chosen_type(alloc, scene, place, &test, &a, &b)?;
+    Ok(chosen(alloc, place, ty, test.expr, a.expr, b.expr)?)
 }
 
 /// The value behind a comma, which takes the one before it too.

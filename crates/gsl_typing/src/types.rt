@@ -27,6 +27,7 @@ pub fn copy(alloc: Global, ty: &Ty) -> Result<Ty, Memory>
 }
 
 /// Whether a value of one type may stand where another is needed.
+#[tactic(auto, unfolding(crate::specs::Conversions::serves_as))]
 pub fn serves_as(from: &Ty, to: &Ty) -> bool
     ensures { result ≡ spec.serves_as from.now to.now }
 {
@@ -34,6 +35,7 @@ pub fn serves_as(from: &Ty, to: &Ty) -> bool
 }
 
 /// The type that two operands have in common: that of one of them, where the other may stand.
+#[tactic(auto, unfolding(crate::specs::Conversions::common))]
 pub fn common(alloc: Global, a: &Ty, b: &Ty) -> Result<Option<Ty>, Memory>
     ensures { IfOk result (λ t. t ≡ spec.common a.now b.now) }
 {
@@ -47,6 +49,7 @@ pub fn common(alloc: Global, a: &Ty, b: &Ty) -> Result<Option<Ty>, Memory>
 }
 
 /// An expression where one of a type is needed: itself, or converted.
+#[tactic(auto, unfolding(crate::specs::Conversions::as_type))]
 pub fn as_type(alloc: Global, ty: &Ty, e: Expr) -> Result<Expr, Memory>
     ensures { IfOk result (λ x. x ≡ spec.as_type ty.now e) }
 {

@@ -9,7 +9,6 @@ ghost use Rattle.gsl_tree.specs.Around.{block_member, is_writeonly as writeonly_
 ghost use Rattle.gsl_tree.specs.Expressions as tree_spec;
 ghost use Rattle.gsl_tree.specs.Paths as paths;
 ghost use Rattle.gsl_values.specs.Vectors.{components as picked};
-ghost use Rattle.gsl_typing.specs.Operators as operators_spec;
 ghost use Rattle.gsl_typing.specs.Scene.{around};
 ghost use Rattle.gsl_typing.specs.Uses as spec;
 
@@ -207,6 +206,7 @@ fn kind_in_block(kind: &ExprKind) -> bool
 }
 
 /// Whether a part is a `writeonly` member of a block, or a part of one.
+#[tactic(auto, unfolding(crate::specs::Uses::is_unread))]
 pub fn is_unread(scene: &Scene, part: &Part) -> bool
     ensures { result ≡ spec.is_unread scene.now part.now }
 {
@@ -214,6 +214,7 @@ pub fn is_unread(scene: &Scene, part: &Part) -> bool
 }
 
 /// Whether a part is an l-value.
+#[tactic(auto, unfolding(crate::specs::Uses::is_writable))]
 pub fn is_writable(scene: &Scene, part: &Part) -> bool
     ensures { result ≡ spec.is_writable scene.now part.now }
 {
@@ -221,6 +222,7 @@ pub fn is_writable(scene: &Scene, part: &Part) -> bool
 }
 
 /// Whether a part is a `bool` scalar.
+#[tactic(auto, unfolding(crate::specs::Uses::is_bool))]
 pub fn is_bool(part: &Part) -> bool
     ensures { result ≡ spec.is_bool part.now }
 {
@@ -228,6 +230,7 @@ pub fn is_bool(part: &Part) -> bool
 }
 
 /// Whether a part is a runtime array.
+#[tactic(auto, unfolding(crate::specs::Uses::is_runtime))]
 pub fn is_runtime(part: &Part) -> bool
     ensures { result ≡ spec.is_runtime part.now }
 {
@@ -238,6 +241,7 @@ pub fn is_runtime(part: &Part) -> bool
 }
 
 /// Whether a part is an integer scalar or vector.
+#[tactic(auto, unfolding(crate::specs::Uses::is_integral))]
 pub fn is_integral(part: &Part) -> bool
     ensures { result ≡ spec.is_integral part.now }
 {
@@ -290,9 +294,10 @@ pub fn told_leaves(structs: &Structs, ty: &Ty) -> u64
 }
 
 /// Whether a type is an array or a struct of more leaves than may be copied or compared.
+#[tactic(auto, unfolding(crate::specs::Uses::is_large))]
 pub fn is_large(scene: &Scene, ty: &Ty) -> bool
     requires known { AreStructs scene.now.structs }
-    ensures { result ≡ operators_spec.is_large scene.now ty.now }
+    ensures { result ≡ spec.is_large scene.now ty.now }
 {
     is_aggregate(ty) && told_leaves(&scene.structs, ty) > 1024
 }

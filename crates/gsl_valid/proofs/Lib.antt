@@ -4,3 +4,4 @@ pub mod Rules
 pub mod Example
 mod ExampleTypes
 mod ExampleCalls
+mod ExamplePortable

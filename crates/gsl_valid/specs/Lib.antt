@@ -25,3 +25,4 @@ pub mod ReturnRules
 pub mod ExtendedRules
 pub mod LimitRules
 pub mod Valid
+pub mod Portable

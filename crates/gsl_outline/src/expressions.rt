@@ -1,7 +1,7 @@
 //! Expressions and types in words: an operator stands before its operands, in brackets.
 
-use crate::outline::{Done, Outline};
 use crate::spelling::{assign, basic, binary, postfix, unary};
+use crate::text::{Done, Outline};
 use gsl_base::Place;
 use gsl_syntax::{Dim, Expr, TypeSpec};
 

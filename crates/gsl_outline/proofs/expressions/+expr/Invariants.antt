@@ -1,5 +1,5 @@
 use Rattle.std.proofs.Common.{◌+◌, ◌*◌}
-use Rattle.gsl_rows.proofs.expressions.+expr.Given as goal
+use Rattle.gsl_outline.proofs.expressions.+expr.Given as goal
 
 abbrev pub decreases-expr_within : goal.decreases-expr_within
 decreases-expr_within l = 4 * l.depth

@@ -2,7 +2,7 @@
 
 use crate::declarations::{decl, name, quals};
 use crate::expressions::{DEPTH, dims, expr, type_spec};
-use crate::outline::{Done, Outline};
+use crate::text::{Done, Outline};
 use gsl_base::Place;
 use gsl_syntax::{Body, Decl, Expr, ForInit, Function, Global, Param, Params, Stmt, Unit};
 

@@ -1,7 +1,7 @@
 //! Declarations in words, each part behind the one before it.
 
 use crate::expressions::{DEPTH, dims, expr, type_spec};
-use crate::outline::{Done, Outline};
+use crate::text::{Done, Outline};
 use gsl_syntax::{Decl, Declarator, Declared, Init, Lay, Member, Name, Qual, Struct, StructMember};
 
 pub fn name(out: &mut Outline, tree: &Name) -> Done {
