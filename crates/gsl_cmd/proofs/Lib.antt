@@ -25,6 +25,7 @@ pub mod ValidEntry
 pub mod ValidLocality
 pub mod ValidMemory
 pub mod ValidModule
+pub mod PortableModule
 pub mod Placement
 pub mod Sizes
 pub mod Wrote

@@ -13,6 +13,7 @@ use Rattle.gsl_base.specs.declared.stage.Stage.{Stage}
 use Rattle.gsl_cmd.proofs.Converted.{shown_written, assembled_written}
 use Rattle.gsl_cmd.proofs.Carried.{program_carries}
 use Rattle.gsl_cmd.proofs.Sizes.{module_small}
+use Rattle.gsl_cmd.proofs.PortableModule.{module_portable}
 
 module _ (stage : Stage) (out : Name) (names : List Name) (before : Files) (after : Option Files) (job : Job)
     (zero : job.status ≡ 0) (files : after ≡ Some (effect_on job.effect before)) where
@@ -30,6 +31,7 @@ module _ (stage : Stage) (out : Name) (names : List Name) (before : Files) (afte
     files ∙ ap Some (ap (λ (j : Job). effect_on j.effect before) is),
     program_carries p right.formed.spelled.fits,
     module_small p right.formed.spelled.fits,
+    module_portable p right.formed.spelled.fits,
   )
 
 pub job_written : (plan : Plan) (before : Files) (after : Option Files) (job : Job) → IsJob plan before job → job.status ≡ 0 →

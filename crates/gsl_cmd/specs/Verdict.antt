@@ -20,6 +20,7 @@ use Rattle.gsl_form.specs.Trees.{Spells}
 use Rattle.gsl_cmd.specs.Lowering.{module_of}
 use Rattle.gsl_cmd.specs.Carries.{Carries}
 use Rattle.gsl_cmd.specs.Weight.{IsSmall}
+use Rattle.gsl_valid.specs.Portable.{Portable}
 
 -- the tree of a unit
 abbrev pub Tree : Type 0
@@ -88,10 +89,11 @@ CompilesTree stage tree (Ok bytes) = (p : Program) × (stage ≡ Compute) × Spe
 CompilesTree stage tree (Err (refusal.Source fault)) = (fault ≡ fault_in 0 E0001) × ((p : Program) → stage ≡ Compute → Spells tree p → ⊥)
 CompilesTree stage tree (Err refusal.Memory) = Unit {0}
 
--- What compiling the sources answers: the file of the program's module, which carries the program and is small for it,
--- or the sources' first fault.
+-- What compiling the sources answers: the file of the program's module, which carries the program, is small for it and is one that other
+-- consumers take; or the sources' first fault.
 abbrev pub Compiles : Stage → List (List ℕ) → Result (List ℕ) Refusal → Type 0
 Compiles stage sources (Ok bytes) =
     (p : Program) × Accepts stage sources p × (bytes ≡ bytes_of (module_of p)) × Carries (module_of p) p × IsSmall (module_of p) p
+    × Portable (module_of p)
 Compiles stage sources (Err (refusal.Source fault)) = FirstFault stage sources fault
 Compiles stage sources (Err refusal.Memory) = Unit {0}

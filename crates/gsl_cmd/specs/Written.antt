@@ -13,14 +13,15 @@ use Rattle.gsl_cmd.specs.Carries.{Carries}
 use Rattle.gsl_plan.specs.Plan.{Plan}
 use Rattle.gsl_cmd.specs.Verdict.{Accepts}
 use Rattle.gsl_cmd.specs.Weight.{IsSmall}
+use Rattle.gsl_valid.specs.Portable.{Portable}
 
--- For `compile`: the sources that the plan names give a program, and OUT is now the file of a module that carries it and is
--- small for it. For `dis`: OUT is now the text that shows the module of FILE; for `asm`: the file of the module that FILE is a text of.
+-- For `compile`: the sources that the plan names give a program, and OUT is now the file of a module that carries it, is
+-- small for it and is one that other consumers take. For `dis`: OUT is now the text that shows the module of FILE; for `asm`: the file of the module that FILE is a text of.
 -- All other files are as before.
 abbrev pub Written : Plan → Files → Option Files → Type 0
 Written (Plan.Compile stage out names) before after =
     (sources : List (List ℕ)) × (p : Program) × (m : Module) × (gather before 0 names ≡ Sources sources) × Accepts stage sources p
-    × (after ≡ Some (insert before out (bytes_of m))) × Carries m p × IsSmall m p
+    × (after ≡ Some (insert before out (bytes_of m))) × Carries m p × IsSmall m p × Portable m
 Written (Plan.Disassemble file out) before after =
     (bytes : List ℕ) × (m : Module) × (get before file ≡ Some bytes) × HasFile m × (bytes ≡ bytes_of m) × (after ≡ Some (insert before out (shown m)))
 Written (Plan.Assemble file out) before after =

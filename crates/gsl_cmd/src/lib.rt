@@ -27,4 +27,4 @@ pub use gsl_manifest::{
 pub use laws::{one_job, one_verdict};
 pub use lowering::lower;
 pub use meaning::{headline, module_runs};
-pub use validity::{module_is_placed, module_is_small, module_is_valid};
+pub use validity::{module_is_placed, module_is_portable, module_is_small, module_is_valid};

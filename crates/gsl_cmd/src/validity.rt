@@ -1,5 +1,6 @@
 //! What holds of the module of each program: calls that do nothing, whose contracts are the laws.
 
+ghost use Rattle.gsl_valid.specs.Portable.{Portable};
 ghost use Rattle.gsl_valid.specs.Valid.{Valid};
 ghost use Rattle.gsl_form.specs.declared.program.Program.{Program};
 ghost use Rattle.gsl_form.specs.Form.{IsProgram};
@@ -10,6 +11,11 @@ ghost use Rattle.gsl_cmd.specs.Weight.{IsSmall};
 /// A program's module keeps the rules V1 to V18.
 pub fn module_is_valid()
     ensures { (p : Program) → IsProgram p → Valid (module_of p) }
+{}
+
+/// A program's module is one that other consumers of SPIR-V take.
+pub fn module_is_portable()
+    ensures { (p : Program) → IsProgram p → Portable (module_of p) }
 {}
 
 /// A program's module has its buffer, its members and their names where they belong.

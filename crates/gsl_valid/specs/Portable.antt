@@ -114,28 +114,28 @@ abbrev pub is_block : Module → ℕ → Bool
 is_block m id = has m decoration.BLOCK id || has m decoration.BUFFER_BLOCK id
 
 -- whether a type is a block, or has one in it
-abbrev pub has_block : Module → ℕ → Bool
-has_block m type = has_in (is_block m) (whole m) type
+abbrev pub has_block : Module → Code → ℕ → Bool
+has_block m before type = has_in (is_block m) before type
 
-abbrev pub is_lone_block : Module → ℕ → List ℕ → Bool
-is_lone_block m id members =
-    not (has m decoration.BLOCK id && has m decoration.BUFFER_BLOCK id) && not (is_block m id && list_any (has_block m) members)
+abbrev pub is_lone_block : Module → Code → ℕ → List ℕ → Bool
+is_lone_block m before id members =
+    not (has m decoration.BLOCK id && has m decoration.BUFFER_BLOCK id) && not (is_block m id && list_any (has_block m before) members)
 
-abbrev pub block_alone : Module → Shape → Bool
-block_alone m OfVoid = true
-block_alone m OfBool = true
-block_alone m (OfInt signedness) = true
-block_alone m (OfVector component count) = true
-block_alone m (OfArray element length) = true
-block_alone m (OfRuntimeArray element) = true
-block_alone m (OfStruct id members) = is_lone_block m id members
-block_alone m (OfPointer class pointee) = true
-block_alone m (OfFunction returned parameters) = true
-block_alone m NoType = true
+abbrev pub block_alone : Module → Code → Shape → Bool
+block_alone m before OfVoid = true
+block_alone m before OfBool = true
+block_alone m before (OfInt signedness) = true
+block_alone m before (OfVector component count) = true
+block_alone m before (OfArray element length) = true
+block_alone m before (OfRuntimeArray element) = true
+block_alone m before (OfStruct id members) = is_lone_block m before id members
+block_alone m before (OfPointer class pointee) = true
+block_alone m before (OfFunction returned parameters) = true
+block_alone m before NoType = true
 
 -- a block in a block, or one of both kinds
 abbrev pub nested_blocks : Module → Option ℕ
-nested_blocks m = first_broken (λ before i. block_alone m (shape_of (read i))) m
+nested_blocks m = first_broken (λ before i. block_alone m before (shape_of (read i))) m
 
 -- Arrays (SPIR-V 1.0, 3.32.6) -------------------------------------------------------------------------------------
 
@@ -345,61 +345,61 @@ is_padded (OfFunction returned parameters) = false
 is_padded NoType = false
 
 -- where the next member may stand: behind an array or a struct at a multiple of its alignment
-abbrev pub next_end : Bool → Module → ℕ → ℕ → ℕ
-next_end std140 m offset type =
+abbrev pub next_end : Bool → Module → Code → ℕ → ℕ → ℕ
+next_end std140 m before offset type =
     if is_padded (shape_of (defined_as m type))
-    then rounded (offset + extent m (whole m) type) (alignment std140 (whole m) type)
-    else offset + need m (whole m) type
+    then rounded (offset + extent m before type) (alignment std140 before type)
+    else offset + need m before type
 
 abbrev pub is_aligned : Option ℕ → ℕ → ℕ → Bool
 is_aligned None end step = false
 is_aligned (Some offset) end step = nat_le end offset && (offset % step) == 0
 
-abbrev pub end_behind : Bool → Module → Option ℕ → ℕ → ℕ
-end_behind std140 m None type = 0
-end_behind std140 m (Some offset) type = next_end std140 m offset type
+abbrev pub end_behind : Bool → Module → Code → Option ℕ → ℕ → ℕ
+end_behind std140 m before None type = 0
+end_behind std140 m before (Some offset) type = next_end std140 m before offset type
 
 -- whether these members of a struct, numbered from one on, stand at their alignments behind an end
-abbrev pub members_aligned : Bool → Module → ℕ → ℕ → ℕ → List ℕ → Bool
-members_aligned std140 m struct member end [] = true
-members_aligned std140 m struct member end (type ∷ types) =
+abbrev pub members_aligned : Bool → Module → Code → ℕ → ℕ → ℕ → List ℕ → Bool
+members_aligned std140 m before struct member end [] = true
+members_aligned std140 m before struct member end (type ∷ types) =
     let offset = number_on_member m decoration.OFFSET struct member in
-    is_aligned offset end (alignment std140 (whole m) type)
-    && members_aligned std140 m struct (member + 1) (end_behind std140 m offset type) types
+    is_aligned offset end (alignment std140 before type)
+    && members_aligned std140 m before struct (member + 1) (end_behind std140 m before offset type) types
 
 -- whether the elements of an array stand at its alignment, each behind the whole of the one before it
-abbrev pub is_stride_of : Bool → Module → ℕ → Option ℕ → Bool
-is_stride_of std140 m element None = false
-is_stride_of std140 m element (Some stride) =
-    nat_le (extent m (whole m) element) stride && (stride % raised std140 (alignment std140 (whole m) element)) == 0
+abbrev pub is_stride_of : Bool → Module → Code → ℕ → Option ℕ → Bool
+is_stride_of std140 m before element None = false
+is_stride_of std140 m before element (Some stride) =
+    nat_le (extent m before element) stride && (stride % raised std140 (alignment std140 before element)) == 0
 
 -- whether a type that stands in a block is laid by the rule
-abbrev pub laid_by : Bool → Module → ℕ → Shape → Bool
-laid_by std140 m array OfVoid = true
-laid_by std140 m array OfBool = true
-laid_by std140 m array (OfInt signedness) = true
-laid_by std140 m array (OfVector component count) = true
-laid_by std140 m array (OfArray element length) = is_stride_of std140 m element (number_on m decoration.ARRAY_STRIDE array)
-laid_by std140 m array (OfRuntimeArray element) = is_stride_of std140 m element (number_on m decoration.ARRAY_STRIDE array)
-laid_by std140 m array (OfStruct id members) = members_aligned std140 m id 0 0 members
-laid_by std140 m array (OfPointer class pointee) = true
-laid_by std140 m array (OfFunction returned parameters) = true
-laid_by std140 m array NoType = true
+abbrev pub laid_by : Bool → Module → Code → ℕ → Shape → Bool
+laid_by std140 m before type OfVoid = true
+laid_by std140 m before type OfBool = true
+laid_by std140 m before type (OfInt signedness) = true
+laid_by std140 m before type (OfVector component count) = true
+laid_by std140 m before type (OfArray element length) = is_stride_of std140 m before element (number_on m decoration.ARRAY_STRIDE type)
+laid_by std140 m before type (OfRuntimeArray element) = is_stride_of std140 m before element (number_on m decoration.ARRAY_STRIDE type)
+laid_by std140 m before type (OfStruct id members) = members_aligned std140 m before id 0 0 members
+laid_by std140 m before type (OfPointer class pointee) = true
+laid_by std140 m before type (OfFunction returned parameters) = true
+laid_by std140 m before type NoType = true
 
 -- Whether a type is laid as a variable asks that reaches it: by std140 in a uniform block, by std430 in a storage or push constant block.
-abbrev pub laid_for : Module → ℕ → Shape → Option Variable → Bool
-laid_for m id shape None = true
-laid_for m id shape (Some v) =
+abbrev pub laid_for : Module → Code → ℕ → Shape → Option Variable → Bool
+laid_for m before id shape None = true
+laid_for m before id shape (Some v) =
     not (is_block_class v.class && reaches m (pointee m v.type) id)
-    || laid_by (v.class == storage_class.UNIFORM && not (is_storage m v)) m id shape
+    || laid_by (v.class == storage_class.UNIFORM && not (is_storage m v)) m before id shape
 
-abbrev pub laid_for_all : Module → Option ℕ → Shape → Bool
-laid_for_all m None shape = true
-laid_for_all m (Some id) shape = list_all (λ i. laid_for m id shape (variable_is (read i))) (outside_of m)
+abbrev pub laid_for_all : Module → Code → Option ℕ → Shape → Bool
+laid_for_all m before None shape = true
+laid_for_all m before (Some id) shape = list_all (λ i. laid_for m before id shape (variable_is (read i))) (outside_of m)
 
 -- an offset or a stride by neither layout
 abbrev pub offsets : Module → Option ℕ
-offsets m = first_broken (λ before i. laid_for_all m (result (read i)) (shape_of (read i))) m
+offsets m = first_broken (λ before i. laid_for_all m before (result (read i)) (shape_of (read i))) m
 
 -- Counts (SPIR-V 1.0, 2.17) ------------------------------------------------------------------------------------------
 
