@@ -189,14 +189,14 @@ module _ (stage : Stage) (out file : Name) (files : Files) where
     pub ended_write : (source bytes : List ℕ) (end : Result (Unit {0}) Stop) → get files file ≡ Some source → length source ≤ MAX_SOURCE_BYTES → CompilesSource stage source (Ok bytes) →
         OnOk end (Sets (Some files) after out bytes) → KeepsOthers (Some files) after out → (end ≡ Err stop.Host → Rose faults faults' (Writing out)) →
         ((fault : Fault) → end ≡ Err (stop.Fault fault) → ⊥) → ((text : List ℕ) → end ≡ Err (stop.Rejected text) → ⊥) → Came end
-    ended_write source bytes (Ok done) read short (p, accepts, is, carries, small) sets others rose sound quiet =
+    ended_write source bytes (Ok done) read short (p, accepts, is, carries, small, portable) sets others rose sound quiet =
         wrote source bytes p (Ok done) read short accepts others (refl, refl, sets ∙ ap (λ b. Some (insert files out b)) is)
-    ended_write source bytes (Err stop.Host) read short (p, accepts, is, carries, small) sets others rose sound quiet =
+    ended_write source bytes (Err stop.Host) read short (p, accepts, is, carries, small, portable) sets others rose sound quiet =
         wrote source bytes p (Err stop.Host) read short accepts others (Writing out, contains_last (Writing out) its_reads, rose refl)
-    ended_write source bytes (Err stop.Memory) read short (p, accepts, is, carries, small) sets others rose sound quiet =
+    ended_write source bytes (Err stop.Memory) read short (p, accepts, is, carries, small, portable) sets others rose sound quiet =
         wrote source bytes p (Err stop.Memory) read short accepts others tt
-    ended_write source bytes (Err (stop.Fault fault)) read short (p, accepts, is, carries, small) sets others rose sound quiet = absurd (sound fault refl)
-    ended_write source bytes (Err (stop.Rejected text)) read short (p, accepts, is, carries, small) sets others rose sound quiet = absurd (quiet text refl)
+    ended_write source bytes (Err (stop.Fault fault)) read short (p, accepts, is, carries, small, portable) sets others rose sound quiet = absurd (sound fault refl)
+    ended_write source bytes (Err (stop.Rejected text)) read short (p, accepts, is, carries, small, portable) sets others rose sound quiet = absurd (quiet text refl)
 
 -- what rises later has risen over all
 pub later_rise : (first then last : Target → ℕ) (target : Target) → NeverFall first then → Rose then last target → Rose first last target

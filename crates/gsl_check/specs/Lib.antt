@@ -1,0 +1,6 @@
+pub mod Builtins
+pub mod Qualifiers
+pub mod Variables
+pub mod Blocks
+pub mod Functions
+pub mod Units
