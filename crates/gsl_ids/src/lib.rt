@@ -6,11 +6,17 @@
 
 mod each;
 mod once;
+mod pass;
 mod results;
+mod table;
+mod uses;
 
 pub use each::Each;
 pub use once::ids_defined_once;
+pub use pass::{Test, first_failed};
 pub use results::defined_by;
+pub use table::Definitions;
+pub use uses::defined_before_use;
 
 #[cfg(test)]
 mod tests;
