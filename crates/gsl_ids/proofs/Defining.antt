@@ -74,43 +74,35 @@ by_kinds m count (part ∷ parts) =
     one OfDecoration = refl
     one Text = refl
 
-module _ (m : Module) (few : length m.instrs < 2 ^ 32) where
-  abbrev pub passes : Uses → Instr → Bool
-  passes s i = uses_numbered s.definitions.now s.count i
+abbrev pub passes : Uses → ℕ → Instr → Bool
+passes s at i = uses_numbered s.definitions.now at i
 
-  abbrev pub behind : Uses → Instr → Uses
-  behind s i = record { definitions = s.definitions; count = min (s.count + 1) (2 ^ 32 - 1) }
+abbrev pub behind : Uses → ℕ → Instr → Uses
+behind s at i = s
 
-  -- What the pass keeps.
+module _ (m : Module) where
+  -- What the pass knows.
   record Tells (before code : Code) (s : Uses) : Type 0 where
     stands : Stands m before code
     fits : AllByRecursion IsInTable code
     same : s.definitions.now ≡ m
-    count : s.count ≡ length stands.front
 
-  agrees : (before code : Code) (s : Uses) (i : Instr) → Tells before (i ∷ code) s → passes s i ≡ uses_defined m before i
+  agrees : (before code : Code) (s : Uses) (i : Instr) → Tells before (i ∷ code) s → passes s (length before) i ≡ uses_defined m before i
   agrees before code s i t =
       let fits = t.fits.0 in
       let form = fits.form in
       let is : read i ≡ Some (read_as form i.op i.args) = ap (option_map (λ form. read_as form i.op i.args)) fits.found in
       let ids = read_agrees i.op i.args form (read_as form i.op i.args) fits fits.found is in
-      ap (λ n. uses_numbered n s.count i) t.same ∙ ap (λ n. uses_numbered m n i) t.count
-      ∙ ap (all_well_used m (length t.stands.front) i.args) fits.found
-      ∙ by_kinds m (length t.stands.front) (parts_of form i.args)
+      ap (λ n. uses_numbered n (length before) i) t.same ∙ ap (all_well_used m (length before) i.args) fits.found
+      ∙ by_kinds m (length before) (parts_of form i.args)
       ∙ both
-            (ap (list_all (is_defined_in m (length t.stands.front))) (sym ids.1 ∙ sym (ap needs is)) ∙ same_all _ _ (defined_here m before (i ∷ code) t.stands) (needs (read i)))
+            (ap (list_all (is_defined_in m (length before))) (sym ids.1 ∙ sym (ap needs is)) ∙ same_all _ _ (defined_here m before (i ∷ code) t.stands) (needs (read i)))
             (ap (list_all (λ id. nat_lt 0 (number_of m id))) (sym ids.2 ∙ sym (ap mentions is)) ∙ same_all _ _ (has_number 0 m.instrs) (mentions (read i)))
 
-  goes_on : (before code : Code) (s : Uses) (i : Instr) → Tells before (i ∷ code) s → uses_defined m before i ≡ true → Tells (i ∷ before) code (behind s i)
-  goes_on before code s i t passed =
-      let e = t.count in
-      let len = ap length t.stands.whole ∙ length-append t.stands.front (i ∷ code) in
-      let one = length_push t.stands.front i in
-      let next : min (s.count + 1) (2 ^ 32 - 1) ≡ length (t.stands.front ++ i ∷ []) = omega (arith, e, len, one, few) in
-      record { stands = one_on m before code i t.stands; fits = t.fits.1; same = t.same; count = next }
+  goes_on : (before code : Code) (s : Uses) (i : Instr) → Tells before (i ∷ code) s → uses_defined m before i ≡ true → Tells (i ∷ before) code (behind s (length before) i)
+  goes_on before code s i t passed = record { stands = one_on m before code i t.stands; fits = t.fits.1; same = t.same }
 
-  pub finds : (s : Uses) → s.definitions.now ≡ m → s.count ≡ 0 → AllByRecursion IsInTable m.instrs →
-      first_failed passes behind s (placed m) ≡ defined_before_use m
-  finds s same zero fits =
-      same_place passes behind (uses_defined m) Tells agrees goes_on [] s header_size m.instrs
-      (record { stands = at_start m; fits = fits; same = same; count = zero })
+  pub finds : (s : Uses) → s.definitions.now ≡ m → AllByRecursion IsInTable m.instrs → first_failed passes behind s 0 (placed m) ≡ defined_before_use m
+  finds s same fits =
+      same_place passes behind (uses_defined m) Tells agrees goes_on [] s 0 header_size m.instrs refl
+      (record { stands = at_start m; fits = fits; same = same })

@@ -66,10 +66,15 @@ or_false : (b : Bool) → (b || false) ≡ b
 or_false true = refl
 or_false false = refl
 
+passed_length : (before code : Code) → length (passed before code) ≡ length before + length code
+passed_length before [] = let e : length before ≡ length before + 0 = omega arith in e
+passed_length before (i ∷ code) = let h = passed_length (i ∷ before) code in omega (arith, h)
+
 -- An id has a number up to the count of the instructions before exactly where one of them defines it.
-pub defined_here : (m : Module) (before code : Code) (s : Stands m before code) (id : ℕ) → is_defined_in m (length s.front) id ≡ defined before id
+pub defined_here : (m : Module) (before code : Code) (s : Stands m before code) (id : ℕ) → is_defined_in m (length before) id ≡ defined before id
 defined_here m before code s id =
-    let n : 0 + length s.front ≡ length s.front = omega arith in
-    ap (λ c. nat_lt 0 (number_from 0 c id) && nat_le (number_from 0 c id) (length s.front)) s.whole
-    ∙ ap (λ k. nat_lt 0 (number_from 0 (s.front ++ code) id) && nat_le (number_from 0 (s.front ++ code) id) k) (sym n) ∙ in_front 0 s.front code id
+    let h = passed_length [] s.front in
+    let count : length before ≡ 0 + length s.front = ap length s.behind ∙ h in
+    ap (λ c. nat_lt 0 (number_from 0 c id) && nat_le (number_from 0 c id) (length before)) s.whole
+    ∙ ap (λ k. nat_lt 0 (number_from 0 (s.front ++ code) id) && nat_le (number_from 0 (s.front ++ code) id) k) count ∙ in_front 0 s.front code id
     ∙ sym (ap (λ b. defined b id) s.behind ∙ turned [] s.front id ∙ or_false (defined s.front id))

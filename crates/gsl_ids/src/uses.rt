@@ -9,7 +9,6 @@ ghost use Rattle.gsl_valid.specs.DefinedBeforeUse as spec;
 ghost use Rattle.gsl_ids.specs.Table as table;
 ghost use Rattle.gsl_ids.specs.Uses as using;
 
-use crate::each::Each;
 use crate::pass::{Test, first_failed};
 use crate::table::Definitions;
 use gsl_instr::{Part, Parts, Slot, form_of};
@@ -21,32 +20,24 @@ pub fn defined_before_use(definitions: &Definitions<'_>) -> Option<u32>
     requires file { HasFile definitions.now }
     ensures { result ≡ spec.defined_before_use definitions.now }
 {
-    let mut test = Uses {
-        definitions,
-        count: 0,
-    };
-    first_failed(&mut test, Each::new(definitions.module()))
+    first_failed(&mut Uses { definitions }, definitions.module())
 }
 
-/// The test of V3: it counts the instructions before.
+/// The test of V3.
 #[derive(Drop)]
 pub(crate) struct Uses<'a> {
     definitions: &'a Definitions<'a>,
-    count: u32,
 }
 
 impl<'a> Test for Uses<'a> {
-    ghost use Rattle.std.specs.Prelude.{◌+◌, ◌-◌, ◌^◌, min};
     ghost use Rattle.gsl_ids.specs.Uses as using;
 
-    ghost passes = { λ uses i. using.uses_numbered uses.definitions.now uses.count i };
+    ghost passes = { λ uses at i. using.uses_numbered uses.definitions.now at i };
 
-    ghost behind = { λ uses i. record { definitions = uses.definitions; count = min (uses.count + 1) (2 ^ 32 - 1) } };
+    ghost behind = { λ uses at i. uses };
 
-    fn test(&mut self, op: u16, args: &[u32]) -> bool {
-        let passed = all_well_used(self.definitions, self.count, op, args);
-        self.count = self.count.saturating_add(1);
-        passed
+    fn test(&mut self, at: u32, op: u16, args: &[u32]) -> bool {
+        all_well_used(self.definitions, at, op, args)
     }
 }
 

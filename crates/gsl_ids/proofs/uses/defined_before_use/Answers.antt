@@ -10,5 +10,5 @@ pub returns : goal.returns
 returns c =
     let m = c.args.definitions.now in
     c.first_failed.ensures.place
-    ∙ ap (first_failed (passes m c.requires.length) (behind m c.requires.length) (record { definitions = c.args.definitions; count = 0 })) (c.new.ensures ∙ ap placed c.module.ensures)
-    ∙ finds m c.requires.length (record { definitions = c.args.definitions; count = 0 }) refl refl (recursion_from_All IsInTable m.instrs c.requires.file.instrs)
+    ∙ ap (λ m. first_failed passes behind (record { definitions = c.args.definitions }) 0 (placed m)) c.module.ensures
+    ∙ finds m (record { definitions = c.args.definitions }) refl (recursion_from_All IsInTable m.instrs c.requires.file.instrs)
