@@ -11,7 +11,7 @@ mod results;
 mod table;
 mod uses;
 
-pub use each::Each;
+pub use each::{Each, count_of_words};
 pub use once::ids_defined_once;
 pub use pass::{Test, first_failed};
 pub use results::defined_by;

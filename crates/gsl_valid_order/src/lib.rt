@@ -1,0 +1,10 @@
+//! Do the instructions of a module stand where they may?
+//!
+//! `sections` answers what `gsl_valid` says of V1 (`specs/Sections.antt` there).
+#![tactic(auto)]
+
+mod numbers;
+mod places;
+mod sections;
+
+pub use sections::sections;
