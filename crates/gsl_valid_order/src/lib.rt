@@ -4,7 +4,7 @@
 #![tactic(auto)]
 
 mod numbers;
+mod order;
 mod places;
-mod sections;
 
-pub use sections::sections;
+pub use order::sections;

@@ -3,6 +3,7 @@
 ghost use Rattle.std.specs.Prelude.{◌≡◌};
 ghost use Rattle.gsl_valid.specs.Instruction.{read as read_as, is_such};
 ghost use Rattle.gsl_valid.specs.Sections as spec;
+ghost use Rattle.std.specs.List.{list_all};
 ghost use Rattle.std.specs.Str.{bytes_eq};
 
 use gsl_instr::enumerant::{built_in, capability, decoration, execution_mode, execution_model, memory_model, storage_class};
@@ -50,7 +51,7 @@ fn has_numbers(of: &Module, instruction: Instruction<'_>) -> bool
 fn is_extended(name: &[u32]) -> bool
     ensures { result ≡ bytes_eq name.now spec.extended_words }
 {
-    name == &EXTENDED
+    name == EXTENDED.as_slice()
 }
 
 /// Whether a number is a stage.
@@ -85,7 +86,14 @@ fn is_class(version: u32, class: u32) -> bool
 fn has_built_in(kind: u32, literals: &[u32]) -> bool
     ensures { result ≡ spec.has_built_in kind literals.now }
 {
-    kind != decoration::BUILT_IN || literals.iter().all(|n| is_built_in(*n))
+    kind != decoration::BUILT_IN || are_built_in(literals)
+}
+
+/// Whether numbers are those of built-in variables.
+fn are_built_in(numbers: &[u32]) -> bool
+    ensures { result ≡ list_all spec.is_built_in numbers.now }
+{
+    numbers.iter().all(|n| is_built_in(*n))
 }
 
 /// Whether a number is that of a built-in variable.

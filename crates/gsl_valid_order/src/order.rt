@@ -1,6 +1,7 @@
 //! The order of the sections.
 
-ghost use Rattle.std.specs.Prelude.{◌≡◌, ◌^◌, ◌<◌, length};
+ghost use Rattle.std.specs.Prelude.{◌≡◌, ◌^◌, ◌<◌, ◌&&◌, nat_le, length};
+ghost use Rattle.gsl_valid.specs.Search.{first_broken, unless, ◌otherwise◌};
 ghost use Rattle.gsl_valid.specs.Placed as placed;
 ghost use Rattle.gsl_valid.specs.Sections as spec;
 ghost use Rattle.gsl_words.specs.Instructions.{HasFile};
@@ -25,9 +26,23 @@ pub fn sections(of: &Module) -> Option<u32>
     requires file { HasFile of.now }
     ensures { result ≡ spec.sections of.now }
 {
-    if !(1 <= of.bound && of.bound <= MOST_BOUND) {
-        return Some(BOUND_PLACE);
-    }
+    if has_bound(of.bound) { in_order(of) } else { Some(BOUND_PLACE) }
+}
+
+/// Whether a bound is one that it may be.
+fn has_bound(bound: u32) -> bool
+    ensures { result ≡ (nat_le 1 bound && nat_le bound spec.most_bound) }
+{
+    1 <= bound && bound <= MOST_BOUND
+}
+
+/// The place of the first instruction, or at the end, that breaks the order of sections.
+fn in_order(of: &Module) -> Option<u32>
+    requires length { length of.now.instrs < 2 ^ 32 }
+    requires words { placed.count_of_words of.now < 2 ^ 32 }
+    requires file { HasFile of.now }
+    ensures { result ≡ (first_broken (spec.in_section of.now) of.now otherwise unless (spec.is_complete of.now) (placed.count_of_words of.now)) }
+{
     let mut at = At {
         of,
         section: 0,
