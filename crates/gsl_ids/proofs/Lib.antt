@@ -1,6 +1,6 @@
 pub mod Searched
 pub mod Places
-mod Rows
+pub mod Rows
 pub mod Passes
 pub mod Stands
 pub mod Numbers

@@ -1,7 +1,11 @@
 -- What code holds of an instruction, seen as the kinds of the rules.
 use Rattle.gsl_valid.specs.Kinds as kinds
-use Rattle.std.specs.Prelude.{Option, Some, None}
+use Rattle.std.specs.Prelude.{ℕ, Bool, Option, Some, None}
 use Rattle.gsl_valid.specs.Types as types
+use Rattle.gsl_words.specs.declared.module.Module.{Module}
+use Rattle.gsl_valid.specs.ConstantRules.{is_constant_of}
+use Rattle.gsl_kinds.specs.declared.parts.Parts.{Parts}
+use Rattle.gsl_kinds.specs.declared.parts.Parts.TheVariants as parts
 use Rattle.gsl_kinds.specs.declared.lanes.Scalar.{Scalar}
 use Rattle.gsl_kinds.specs.declared.lanes.Scalar.TheVariants as scalar
 use Rattle.gsl_kinds.specs.declared.lanes.Lanes.{Lanes}
@@ -79,3 +83,8 @@ scalar_seen (scalar.Words signedness) = types.Words signedness
 abbrev pub lanes_seen : Option Lanes → Option types.Lanes
 lanes_seen None = None
 lanes_seen (Some lanes) = Some (record { scalar = scalar_seen lanes.scalar; size = lanes.size })
+
+-- whether an id stands for a part of a type: a constant, or a value
+abbrev pub has_part : Parts → Module → ℕ → ℕ → Bool
+has_part parts.Constants m type id = is_constant_of m type id
+has_part parts.Values m type id = types.has_type m type id

@@ -5,6 +5,5 @@
 
 mod numbers;
 mod order;
-mod places;
 
 pub use order::sections;

@@ -7,9 +7,8 @@ ghost use Rattle.gsl_valid.specs.Sections as spec;
 ghost use Rattle.gsl_words.specs.Instructions.{HasFile};
 
 use crate::numbers::has_numbers_at;
-use crate::places::{inside_after, section, section_in};
 use gsl_ids::{Test, count_of_words, first_failed};
-use gsl_kinds::kind_at;
+use gsl_kinds::{inside_after, kind_at, section, section_in};
 use gsl_words::Module;
 
 /// The place of the bound in the header.

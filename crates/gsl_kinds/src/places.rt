@@ -4,10 +4,10 @@ ghost use Rattle.std.specs.Prelude.{◌≡◌};
 ghost use Rattle.gsl_kinds.specs.Seen.{kind_seen};
 ghost use Rattle.gsl_valid.specs.Where as spec;
 
-use gsl_kinds::Kind;
+use crate::kind::Kind;
 
 /// The sections of a module by their numbers (SPIR-V 1.0, 2.4).
-pub(crate) mod section {
+pub mod section {
     pub const CAPABILITIES: u32 = 1;
 
     pub const IMPORTS: u32 = 2;
@@ -28,7 +28,7 @@ pub(crate) mod section {
 }
 
 /// The section to which an instruction belongs, in a function or outside.
-pub(crate) fn section_in(inside: bool, kind: Kind<'_>) -> u32
+pub fn section_in(inside: bool, kind: Kind<'_>) -> u32
     ensures { result ≡ spec.section_in inside (kind_seen kind.entry) }
 {
     match kind {
@@ -47,7 +47,7 @@ pub(crate) fn section_in(inside: bool, kind: Kind<'_>) -> u32
 }
 
 /// Whether code stands in a function behind an instruction, where it did so, or not, before.
-pub(crate) fn inside_after(inside: bool, kind: Kind<'_>) -> bool
+pub fn inside_after(inside: bool, kind: Kind<'_>) -> bool
     ensures { result ≡ spec.inside_after inside (kind_seen kind.entry) }
 {
     match kind {
