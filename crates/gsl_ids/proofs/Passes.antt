@@ -1,9 +1,10 @@
 -- A pass finds what the rule's search finds, where what it keeps tells as much as the instructions before.
 use Rattle.std.proofs.Common.{◌≡◌, ℕ, Bool, true, false, cond, [], ◌∷◌, length, Option, Some, None, ◌+◌, refl, ap, sym, subst, ◌∙◌, arith}
 use Rattle.gsl_words.specs.declared.module.Instr.{Instr}
+use Rattle.gsl_words.specs.declared.module.Module.{Module}
 use Rattle.gsl_words.specs.Instructions.{word_count}
-use Rattle.gsl_valid.specs.Placed.{Code, placed_from}
-use Rattle.gsl_valid.specs.Search.{Test, broken_from, passed}
+use Rattle.gsl_valid.specs.Placed.{Code, placed_from, placed, header_size}
+use Rattle.gsl_valid.specs.Search.{Test, broken_from, first_broken, passed}
 use Rattle.gsl_ids.specs.Pass.{first_failed, kept}
 
 pub as_many : (at : ℕ) (code : Code) → length (placed_from at code) ≡ length code
@@ -43,3 +44,13 @@ module _ {S : Type 0} (passes : S → ℕ → Instr → Bool) (behind : S → �
       let next : number + 1 ≡ length (i ∷ before) = omega (arith, e) in
       subst (λ n. Tells (passed (i ∷ before) code) [] (kept passes behind (behind s n i) (number + 1) (placed_from (at + word_count i) code))) (sym e)
       (tells_all (i ∷ before) (behind s (length before) i) (number + 1) (at + word_count i) code next (goes_on before code s i tells parts.0) parts.1)
+
+-- A test that does not look at the instructions before keeps nothing of them.
+pub blind : {S : Type 0} (seen : S → Module) (rule : Module → Test) → ((m : Module) (before : Code) (i : Instr) → rule m [] i ≡ rule m before i) → (s : S) →
+    first_failed (λ (s : S) (at : ℕ) (i : Instr). rule (seen s) [] i) (λ (s : S) (at : ℕ) (i : Instr). s) s 0 (placed (seen s)) ≡ first_broken (rule (seen s)) (seen s)
+blind {S} seen rule same s =
+    same_place (λ (s : S) (at : ℕ) (i : Instr). rule (seen s) [] i) (λ (s : S) (at : ℕ) (i : Instr). s) (rule (seen s))
+    (λ before code t. seen t ≡ seen s)
+    (λ before code t i e. ap (λ m. rule m [] i) e ∙ same (seen s) before i)
+    (λ before code t i e passed. e)
+    [] s 0 header_size (seen s).instrs refl refl

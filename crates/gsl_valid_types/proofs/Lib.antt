@@ -1,2 +1,1 @@
-mod Fixed
 mod Outside
