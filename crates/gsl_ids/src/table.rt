@@ -1,6 +1,6 @@
 //! What the ids of a module stand for, by a table.
 
-ghost use Rattle.std.specs.Prelude.{◌≡◌, ◌+◌, ◌^◌, ◌<◌, None, length, drop, slice_get, slice_index, vec_len, IfOk};
+ghost use Rattle.std.specs.Prelude.{◌≡◌, ◌+◌, ◌^◌, ◌<◌, [], ◌∷◌, None, length, drop, slice_get, slice_index, vec_len, IfOk, MatchOption};
 ghost use Rattle.gsl_ids.specs.Table as table;
 ghost use Rattle.gsl_valid.specs.IdsDefinedOnce.{ids_defined_once};
 
@@ -19,6 +19,7 @@ pub struct Definitions<'a> {
 }
 
 impl<'a> Model for Definitions<'a> {
+    ghost use Rattle.std.specs.Prelude.{◌^◌, ◌<◌, length};
     ghost use Rattle.gsl_words.specs.declared.module.Module.{Module as OneModule};
     ghost use Rattle.gsl_ids.specs.Table.{Tells};
 
@@ -26,7 +27,7 @@ impl<'a> Model for Definitions<'a> {
 
     ghost view = { λ definitions. definitions.of.now };
 
-    ghost invariant = { λ definitions. Tells definitions.rows.items 0 definitions.of.now.instrs };
+    ghost invariant = { λ definitions. (length definitions.of.now.instrs < 2 ^ 32) × Tells definitions.rows.items 0 definitions.of.now.instrs };
 }
 
 impl<'a> Definitions<'a> {
@@ -47,6 +48,17 @@ impl<'a> Definitions<'a> {
         ensures { result.now ≡ self.now }
     {
         self.of
+    }
+
+    /// The opcode and the operand words of the instruction of a number, or `None` behind the last.
+    pub fn instr(&self, at: usize) -> Option<(u16, &'a [u32])>
+        ensures { MatchOption result (drop at self.now.instrs ≡ []) (λ p. drop at self.now.instrs ≡ record { op = p.0; args = p.1.now } ∷ drop (at + 1) self.now.instrs) }
+    {
+        if at < self.of.instrs.len() {
+            Some((self.of.instrs.op(at as u32), self.of.instrs.args(at as u32)))
+        } else {
+            None
+        }
     }
 
     /// What an id stands for.

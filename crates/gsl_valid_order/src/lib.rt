@@ -3,7 +3,10 @@
 //! `sections` answers what `gsl_valid` says of V1 (`specs/Sections.antt` there).
 #![tactic(auto)]
 
+mod function;
 mod numbers;
 mod order;
+mod standing;
 
+pub use function::function_shape;
 pub use order::sections;
