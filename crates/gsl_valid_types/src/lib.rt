@@ -6,6 +6,9 @@
 
 mod constant;
 mod global;
+mod known;
+mod type_rule;
 
 pub use constant::constants;
 pub use global::globals;
+pub use type_rule::types;
