@@ -96,8 +96,8 @@ module _ (m : Module) where
       ap (λ n. uses_numbered n (length before) i) t.same ∙ ap (all_well_used m (length before) i.args) fits.found
       ∙ by_kinds m (length before) (parts_of form i.args)
       ∙ both
-            (ap (list_all (is_defined_in m (length before))) (sym ids.1 ∙ sym (ap needs is)) ∙ same_all _ _ (defined_here m before (i ∷ code) t.stands) (needs (read i)))
-            (ap (list_all (λ id. nat_lt 0 (number_of m id))) (sym ids.2 ∙ sym (ap mentions is)) ∙ same_all _ _ (has_number 0 m.instrs) (mentions (read i)))
+      (ap (list_all (is_defined_in m (length before))) (sym ids.1 ∙ sym (ap needs is)) ∙ same_all _ _ (defined_here m before (i ∷ code) t.stands) (needs (read i)))
+      (ap (list_all (λ id. nat_lt 0 (number_of m id))) (sym ids.2 ∙ sym (ap mentions is)) ∙ same_all _ _ (has_number 0 m.instrs) (mentions (read i)))
 
   goes_on : (before code : Code) (s : Uses) (i : Instr) → Tells before (i ∷ code) s → uses_defined m before i ≡ true → Tells (i ∷ before) code (behind s (length before) i)
   goes_on before code s i t passed = record { stands = one_on m before code i t.stands; fits = t.fits.1; same = t.same }

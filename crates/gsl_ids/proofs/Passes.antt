@@ -15,7 +15,6 @@ as_many at (i ∷ code) = let h = as_many (at + word_count i) code in omega (ari
 module _ {S : Type 0} (passes : S → ℕ → Instr → Bool) (behind : S → ℕ → Instr → S) (test : Test) (Tells : Code → Code → S → Type 0)
     (agrees : (before code : Code) (s : S) (i : Instr) → Tells before (i ∷ code) s → passes s (length before) i ≡ test before i)
     (goes_on : (before code : Code) (s : S) (i : Instr) → Tells before (i ∷ code) s → test before i ≡ true → Tells (i ∷ before) code (behind s (length before) i)) where
-
   later : (b : Bool) (x y : Option ℕ) (at : ℕ) → (b ≡ true → x ≡ y) → cond b x (Some at) ≡ cond b y (Some at)
   later true x y at e = e refl
   later false x y at e = refl

@@ -1,7 +1,8 @@
-//! Does a module define its ids once?
+//! Does a module define its ids once, and before they are used?
 //!
-//! `ids_defined_once` answers what `gsl_valid` says of V2 (`specs/IdsDefinedOnce.antt` there), in one pass
-//! over the module's instructions. `Each` is the pass, the instructions one by one at their places.
+//! `ids_defined_once` and `defined_before_use` answer what `gsl_valid` says of V2 and V3 (`specs/IdsDefinedOnce.antt` and
+//! `DefinedBeforeUse.antt` there), each in one pass over the module's instructions. `Definitions` is the table of what ids stand for,
+//! and `first_failed` the pass of every rule, over a `Test` of instructions one by one.
 #![tactic(auto)]
 
 mod each;

@@ -13,9 +13,7 @@ use gsl_ids::Definitions;
 #[derive(Clone, Copy)]
 pub enum Scalar {
     Truths,
-    Words {
-        signedness: u32,
-    },
+    Words { signedness: u32 },
 }
 
 /// The components of a scalar or vector type, one for a scalar.

@@ -16,4 +16,8 @@ pub use lanes::{Lanes, Scalar, is_ints, is_ints_of, is_truth, lanes_of, same_siz
 pub use parts::{Parts, are_parts, have_each};
 pub use places::{inside_after, section, section_in};
 pub use runtimes::Runtimes;
-pub use types::{has_type, initialises, is_bool, is_constant_of, is_int, is_int_value, is_local_pointer, is_runtime, is_struct, is_value_type, is_void, shape_in, shape_of, type_in, type_of, value_in, value_of};
+pub use types::{
+    has_type, initialises, is_bool, is_constant_of, is_int, is_int_value, is_local_pointer,
+    is_runtime, is_struct, is_value_type, is_void, shape_in, shape_of, type_in, type_of, value_in,
+    value_of,
+};

@@ -31,15 +31,33 @@ pub fn are_parts(definitions: &Definitions<'_>, parts: Parts, ids: &[u32], shape
     ensures { result ≡ spec.are_parts definitions.now (seen.has_part parts definitions.now) ids.now (seen.shape_seen shape.entry) }
 {
     match shape {
-        Shape::Vector { component, count } => have_all(definitions, parts, component, Some(count), ids),
-        Shape::Array { element, length } => have_all(definitions, parts, element, value_of(definitions, length), ids),
+        Shape::Vector { component, count } => have_all(
+            definitions,
+            parts,
+            component,
+            Some(count),
+            ids,
+        ),
+        Shape::Array { element, length } => have_all(
+            definitions,
+            parts,
+            element,
+            value_of(definitions, length),
+            ids,
+        ),
         Shape::Struct { members, .. } => have_each(definitions, parts, members, ids),
         _ => false,
     }
 }
 
 /// Whether there are as many ids as said, each of one type.
-fn have_all(definitions: &Definitions<'_>, parts: Parts, type_: u32, count: Option<u32>, ids: &[u32]) -> bool
+fn have_all(
+    definitions: &Definitions<'_>,
+    parts: Parts,
+    type_: u32,
+    count: Option<u32>,
+    ids: &[u32],
+) -> bool
     ensures { result ≡ spec.have_all (seen.has_part parts definitions.now) type_ count ids.now }
 {
     match count {

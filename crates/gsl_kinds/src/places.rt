@@ -41,7 +41,13 @@ pub fn section_in(inside: bool, kind: Kind<'_>) -> u32
         Kind::Decorates(_) => section::DECORATIONS,
         Kind::Declares(_) => section::GLOBALS,
         Kind::Fixes { .. } => section::GLOBALS,
-        Kind::Holds(_) => { if inside { section::FUNCTIONS } else { section::GLOBALS } }
+        Kind::Holds(_) => {
+            if inside {
+                section::FUNCTIONS
+            } else {
+                section::GLOBALS
+            }
+        }
         _ => section::FUNCTIONS,
     }
 }

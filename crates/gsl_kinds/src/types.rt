@@ -59,7 +59,10 @@ pub fn value_in(kind: Kind<'_>) -> Option<u32>
     ensures { result ≡ kinds.word_if (kinds.constant_in (seen.kind_seen kind.entry)) }
 {
     match kind {
-        Kind::Fixes { value: Value::Word(word), .. } => Some(word),
+        Kind::Fixes {
+            value: Value::Word(word),
+            ..
+        } => Some(word),
         _ => None,
     }
 }
@@ -132,7 +135,11 @@ pub fn is_value_type(definitions: &Definitions<'_>, id: u32) -> bool
 {
     matches!(
         shape_of(definitions, id),
-        Shape::Bool | Shape::Int { .. } | Shape::Vector { .. } | Shape::Array { .. } | Shape::Struct { .. }
+        Shape::Bool
+            | Shape::Int { .. }
+            | Shape::Vector { .. }
+            | Shape::Array { .. }
+            | Shape::Struct { .. }
     )
 }
 

@@ -51,8 +51,15 @@ fn is_extended(definitions: &Definitions<'_>, instruction: Instruction<'_>) -> b
     ensures { result ≡ spec.extended_of definitions.now instruction.entry }
 {
     match instruction {
-        Instruction::ExtInst { type_, set, number, operands, .. } => {
-            is_import(definitions, set) && fits_row(definitions, type_, operands.as_slice(), row_of(number))
+        Instruction::ExtInst {
+            type_,
+            set,
+            number,
+            operands,
+            ..
+        } => {
+            is_import(definitions, set)
+                && fits_row(definitions, type_, operands.as_slice(), row_of(number))
         }
         _ => true,
     }
@@ -115,7 +122,8 @@ fn fits_row(definitions: &Definitions<'_>, type_: u32, operands: &[u32], row: Op
     ensures { result ≡ spec.fits_row definitions.now type_ operands.now (option_map seen.row_seen row) }
 {
     match row {
-        Some(row) => operands.len() == row.count as usize && fits(definitions, row, type_, operands),
+        Some(row) => operands.len() == row.count as usize
+            && fits(definitions, row, type_, operands),
         None => false,
     }
 }
@@ -131,7 +139,13 @@ fn fits(definitions: &Definitions<'_>, row: Row, type_: u32, operands: &[u32]) -
 }
 
 /// The same, by the first operand.
-fn fit_first(definitions: &Definitions<'_>, row: Row, type_: u32, operands: &[u32], first: u32) -> bool
+fn fit_first(
+    definitions: &Definitions<'_>,
+    row: Row,
+    type_: u32,
+    operands: &[u32],
+    first: u32,
+) -> bool
     ensures { result ≡ spec.fit_with definitions.now (seen.row_seen row) type_ operands.now (kinds.type_of (types.defined_as definitions.now first)) }
 {
     match type_of(definitions, first) {
@@ -149,7 +163,9 @@ fn fit_first(definitions: &Definitions<'_>, row: Row, type_: u32, operands: &[u3
 fn all_have(definitions: &Definitions<'_>, type_: u32, values: &[u32]) -> bool
     ensures { result ≡ list_all (types.has_type definitions.now type_) values.now }
 {
-    values.iter().all(|value| has_type(definitions, type_, *value))
+    values
+        .iter()
+        .all(|value| has_type(definitions, type_, *value))
 }
 
 /// Whether a result of a type is one of operands of another: the same, or signed of that size where it is the place of a bit.

@@ -15,7 +15,8 @@ pub(crate) fn is_built(definitions: &Definitions<'_>, parts: &[u32], shape: Shap
     ensures { result ≡ spec.is_built definitions.now parts.now (shape_seen shape.entry) }
 {
     match shape {
-        Shape::Vector { component, count } => are_of_scalar(definitions, component, parts) && fill(definitions, count, parts),
+        Shape::Vector { component, count } => are_of_scalar(definitions, component, parts)
+            && fill(definitions, count, parts),
         Shape::Array { .. } => are_parts(definitions, Parts::Values, parts, shape),
         Shape::Struct { .. } => are_parts(definitions, Parts::Values, parts, shape),
         _ => false,
@@ -26,7 +27,9 @@ pub(crate) fn is_built(definitions: &Definitions<'_>, parts: &[u32], shape: Shap
 fn are_of_scalar(definitions: &Definitions<'_>, scalar: u32, parts: &[u32]) -> bool
     ensures { result ≡ list_all (λ part. spec.is_of_scalar definitions.now scalar (kinds.type_of (types.defined_as definitions.now part))) parts.now }
 {
-    parts.iter().all(|part| is_of_scalar(definitions, scalar, *part))
+    parts
+        .iter()
+        .all(|part| is_of_scalar(definitions, scalar, *part))
 }
 
 /// Whether a value is a scalar of a type or a vector of it.
@@ -103,7 +106,13 @@ fn part_of_at(definitions: &Definitions<'_>, k: u32, shape: Shape<'_>) -> Option
     match shape {
         Shape::Vector { component, count } => if_below(k, Some(count), component),
         Shape::Array { element, length } => if_below(k, value_of(definitions, length), element),
-        Shape::Struct { members, .. } => { if (k as usize) < members.len() { Some(members[k as usize]) } else { None } }
+        Shape::Struct { members, .. } => {
+            if (k as usize) < members.len() {
+                Some(members[k as usize])
+            } else {
+                None
+            }
+        }
         _ => None,
     }
 }
@@ -119,7 +128,11 @@ fn if_below(k: u32, count: Option<u32>, type_: u32) -> Option<u32>
 }
 
 /// The type that places lead to from a type.
-pub(crate) fn part_within(definitions: &Definitions<'_>, from: Option<u32>, places: &[u32]) -> Option<u32>
+pub(crate) fn part_within(
+    definitions: &Definitions<'_>,
+    from: Option<u32>,
+    places: &[u32],
+) -> Option<u32>
     ensures { result ≡ spec.part_within definitions.now from places.now }
 {
     let mut reached = from;
@@ -155,13 +168,18 @@ pub(crate) fn is_type_of(definitions: &Definitions<'_>, value: u32, type_: Optio
 }
 
 /// Whether a type has these components of two vectors of one type.
-pub(crate) fn is_shuffled(definitions: &Definitions<'_>, type_: u32, places: &[u32], first: u32, second: u32) -> bool
+pub(crate) fn is_shuffled(
+    definitions: &Definitions<'_>,
+    type_: u32,
+    places: &[u32],
+    first: u32,
+    second: u32,
+) -> bool
     ensures { result ≡ spec.is_shuffled definitions.now type_ places.now (kinds.type_of (types.defined_as definitions.now first)) (kinds.type_of (types.defined_as definitions.now second)) }
 {
     match type_of(definitions, first) {
         Some(of) => {
-            has_type(definitions, of, second)
-                && is_shuffled_of(definitions, type_, places, of)
+            has_type(definitions, of, second) && is_shuffled_of(definitions, type_, places, of)
         }
         None => false,
     }
@@ -172,7 +190,12 @@ fn is_shuffled_of(definitions: &Definitions<'_>, type_: u32, places: &[u32], of:
     ensures { result ≡ spec.is_shuffled_as definitions.now places.now (kinds.shape_of (types.defined_as definitions.now type_)) (kinds.shape_of (types.defined_as definitions.now of)) }
 {
     match shape_of(definitions, type_) {
-        Shape::Vector { component, count } => are_shuffled(places, component, count, shape_of(definitions, of)),
+        Shape::Vector { component, count } => are_shuffled(
+            places,
+            component,
+            count,
+            shape_of(definitions, of),
+        ),
         _ => false,
     }
 }

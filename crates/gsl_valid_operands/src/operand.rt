@@ -51,39 +51,105 @@ fn operands_typed(definitions: &Definitions<'_>, instruction: Instruction<'_>) -
         Instruction::CompositeConstruct { type_, parts, .. } => {
             is_built(definitions, parts.as_slice(), shape_of(definitions, type_))
         }
-        Instruction::VectorExtractDynamic { type_, vector, index, .. } => {
-            is_picked(definitions, type_, vector) && is_int_value(definitions, index)
+        Instruction::VectorExtractDynamic {
+            type_,
+            vector,
+            index,
+            ..
+        } => { is_picked(definitions, type_, vector) && is_int_value(definitions, index) }
+        Instruction::VectorShuffle {
+            type_,
+            first,
+            second,
+            components,
+            ..
+        } => { is_shuffled(definitions, type_, components.as_slice(), first, second) }
+        Instruction::CompositeExtract {
+            type_,
+            composite,
+            indexes,
+            ..
+        } => {
+            is_part(
+                type_,
+                part_within(
+                    definitions,
+                    type_of(definitions, composite),
+                    indexes.as_slice(),
+                ),
+            )
         }
-        Instruction::VectorShuffle { type_, first, second, components, .. } => {
-            is_shuffled(definitions, type_, components.as_slice(), first, second)
-        }
-        Instruction::CompositeExtract { type_, composite, indexes, .. } => {
-            is_part(type_, part_within(definitions, type_of(definitions, composite), indexes.as_slice()))
-        }
-        Instruction::CompositeInsert { type_, part, composite, indexes, .. } => {
+        Instruction::CompositeInsert {
+            type_,
+            part,
+            composite,
+            indexes,
+            ..
+        } => {
             has_type(definitions, type_, composite)
-                && is_type_of(definitions, part, part_within(definitions, Some(type_), indexes.as_slice()))
+                && is_type_of(
+                    definitions,
+                    part,
+                    part_within(definitions, Some(type_), indexes.as_slice()),
+                )
         }
         Instruction::Unary { op, type_, a, .. } => is_unary(definitions, op, type_, a),
-        Instruction::Arithmetic { op, type_, a, b, .. } => is_arithmetic(definitions, op, type_, a, b),
-        Instruction::Shift { type_, base, shift, .. } => {
-            is_ints(definitions, type_) && has_type(definitions, type_, base) && is_ints_sized(definitions, type_, shift)
+        Instruction::Arithmetic {
+            op,
+            type_,
+            a,
+            b,
+            ..
+        } => is_arithmetic(definitions, op, type_, a, b),
+        Instruction::Shift {
+            type_,
+            base,
+            shift,
+            ..
+        } => {
+            is_ints(definitions, type_)
+                && has_type(definitions, type_, base)
+                && is_ints_sized(definitions, type_, shift)
         }
         Instruction::Logical { type_, a, b, .. } => {
-            is_truth(definitions, type_) && has_type(definitions, type_, a) && has_type(definitions, type_, b)
+            is_truth(definitions, type_)
+                && has_type(definitions, type_, a)
+                && has_type(definitions, type_, b)
         }
-        Instruction::Comparison { op, type_, a, b, .. } => {
-            is_truth(definitions, type_) && are_compared(definitions, sign_of(op), type_, a, b)
+        Instruction::Comparison {
+            op,
+            type_,
+            a,
+            b,
+            ..
+        } => { is_truth(definitions, type_) && are_compared(definitions, sign_of(op), type_, a, b) }
+        Instruction::Select {
+            type_,
+            condition,
+            a,
+            b,
+            ..
+        } => {
+            has_type(definitions, type_, a)
+                && has_type(definitions, type_, b)
+                && is_truth_sized(definitions, type_, condition)
         }
-        Instruction::Select { type_, condition, a, b, .. } => {
-            has_type(definitions, type_, a) && has_type(definitions, type_, b) && is_truth_sized(definitions, type_, condition)
-        }
-        Instruction::BitFieldInsert { type_, base, insert, offset, count, .. } => {
-            is_inserted(definitions, type_, base, insert, offset, count)
-        }
-        Instruction::BitFieldExtract { op, type_, base, offset, count, .. } => {
-            is_extracted(definitions, op, type_, base, offset, count)
-        }
+        Instruction::BitFieldInsert {
+            type_,
+            base,
+            insert,
+            offset,
+            count,
+            ..
+        } => { is_inserted(definitions, type_, base, insert, offset, count) }
+        Instruction::BitFieldExtract {
+            op,
+            type_,
+            base,
+            offset,
+            count,
+            ..
+        } => { is_extracted(definitions, op, type_, base, offset, count) }
         Instruction::BranchConditional { condition, .. } => is_bool_value(definitions, condition),
         Instruction::Switch { selector, .. } => is_int_value(definitions, selector),
         _ => true,
@@ -101,7 +167,14 @@ fn is_arithmetic(definitions: &Definitions<'_>, op: u16, type_: u32, a: u32, b: 
 }
 
 /// Whether bits of a value are put into one of its type.
-fn is_inserted(definitions: &Definitions<'_>, type_: u32, base: u32, insert: u32, offset: u32, count: u32) -> bool
+fn is_inserted(
+    definitions: &Definitions<'_>,
+    type_: u32,
+    base: u32,
+    insert: u32,
+    offset: u32,
+    count: u32,
+) -> bool
     ensures { result ≡ (types.is_ints definitions.now type_ && types.has_type definitions.now type_ base && types.has_type definitions.now type_ insert && types.is_int_value definitions.now offset && types.is_int_value definitions.now count) }
 {
     is_ints(definitions, type_)
@@ -112,7 +185,14 @@ fn is_inserted(definitions: &Definitions<'_>, type_: u32, base: u32, insert: u32
 }
 
 /// Whether bits of a value are taken out of it.
-fn is_extracted(definitions: &Definitions<'_>, op: u16, type_: u32, base: u32, offset: u32, count: u32) -> bool
+fn is_extracted(
+    definitions: &Definitions<'_>,
+    op: u16,
+    type_: u32,
+    base: u32,
+    offset: u32,
+    count: u32,
+) -> bool
     ensures { result ≡ (types.is_ints definitions.now type_ && spec.is_signed definitions.now (spec.sign_of op) type_ && types.has_type definitions.now type_ base && types.is_int_value definitions.now offset && types.is_int_value definitions.now count) }
 {
     is_ints(definitions, type_)

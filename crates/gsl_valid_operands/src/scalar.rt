@@ -42,7 +42,13 @@ pub(crate) fn is_bool_value(definitions: &Definitions<'_>, value: u32) -> bool
 }
 
 /// Whether two values of one type of integers of a signedness are compared to a type of their size.
-pub(crate) fn are_compared(definitions: &Definitions<'_>, sign: Sign, type_: u32, a: u32, b: u32) -> bool
+pub(crate) fn are_compared(
+    definitions: &Definitions<'_>,
+    sign: Sign,
+    type_: u32,
+    a: u32,
+    b: u32,
+) -> bool
     ensures { result ≡ spec.are_compared definitions.now (seen.sign_seen sign) type_ b (kinds.type_of (types.defined_as definitions.now a)) }
 {
     match type_of(definitions, a) {
@@ -71,7 +77,9 @@ fn is_unary_of(definitions: &Definitions<'_>, op: u16, type_: u32, other: u32) -
     ensures { result ≡ spec.is_unary_of definitions.now op type_ other }
 {
     if op == op::BITCAST || op == op::BIT_COUNT {
-        is_ints(definitions, type_) && is_ints(definitions, other) && same_size(definitions, type_, other)
+        is_ints(definitions, type_)
+            && is_ints(definitions, other)
+            && same_size(definitions, type_, other)
     } else if op == op::ANY || op == op::ALL {
         is_bool(definitions, type_) && is_truth(definitions, other) && is_vector(definitions, other)
     } else if op == op::LOGICAL_NOT {

@@ -12,9 +12,7 @@ use gsl_kinds::is_ints_of;
 #[derive(Clone, Copy)]
 pub(crate) enum Sign {
     Either,
-    Only {
-        signedness: u32,
-    },
+    Only { signedness: u32 },
 }
 
 /// The signedness that the opcode of an operator names.

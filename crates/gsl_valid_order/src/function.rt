@@ -30,7 +30,11 @@ pub fn function_shape(definitions: &Definitions<'_>) -> Option<u32>
     if let Some(place) = first_failed(&mut test, definitions.module()) {
         return Some(place);
     }
-    if test.is_outside() { None } else { Some(count_of_words(definitions.module())) }
+    if test.is_outside() {
+        None
+    } else {
+        Some(count_of_words(definitions.module()))
+    }
 }
 
 /// The test of V10, which knows where the code stands.
@@ -79,12 +83,21 @@ impl<'a> Test for FunctionTest<'a> {
 }
 
 /// Whether an instruction of a number may stand where the code stands.
-fn may_stand_here(definitions: &Definitions<'_>, at: u32, standing: Standing<'_>, kind: Kind<'_>) -> bool
+fn may_stand_here(
+    definitions: &Definitions<'_>,
+    at: u32,
+    standing: Standing<'_>,
+    kind: Kind<'_>,
+) -> bool
     ensures { result ≡ spec.may_stand_here definitions.now (drop (at + 1) definitions.now.instrs) (standing_seen standing.entry) (kind_seen kind.entry) }
 {
     match kind {
         Kind::Holds(variable) => may_be_variable(definitions, variable, standing),
-        Kind::Begins { type_, function_type, .. } => is_outside(standing) && gives(definitions, type_, function_type),
+        Kind::Begins {
+            type_,
+            function_type,
+            ..
+        } => is_outside(standing) && gives(definitions, type_, function_type),
         Kind::Takes { type_ } => may_take(type_, standing),
         Kind::Calls { .. } | Kind::Gives { .. } | Kind::Does | Kind::Leaves => in_block(standing),
         Kind::Opens => may_begin(standing),
@@ -136,7 +149,11 @@ fn leaves(kind: Kind<'_>) -> bool
 }
 
 /// Whether a variable may stand here: anywhere outside functions, else of class Function at a function's head.
-fn may_be_variable(definitions: &Definitions<'_>, variable: Variable<'_>, standing: Standing<'_>) -> bool
+fn may_be_variable(
+    definitions: &Definitions<'_>,
+    variable: Variable<'_>,
+    standing: Standing<'_>,
+) -> bool
     ensures { result ≡ spec.may_be_variable definitions.now variable.entry.type_ variable.entry.class variable.entry.initialiser.now (standing_seen standing.entry) }
 {
     match standing {

@@ -85,7 +85,13 @@ fn returned_after(returned: Option<u32>, kind: Kind<'_>) -> Option<u32>
 }
 
 /// Whether the instruction of an opcode, if it leaves a function, may stand in one that returns this.
-fn may_return_at(definitions: &Definitions<'_>, model: u32, returned: Option<u32>, op: u16, args: &[u32]) -> bool
+fn may_return_at(
+    definitions: &Definitions<'_>,
+    model: u32,
+    returned: Option<u32>,
+    op: u16,
+    args: &[u32],
+) -> bool
     ensures { result ≡ passes_if (kept.may_return definitions.now model returned) (read_as (record { op = op; args = args.now })) }
 {
     match read(op, args) {
@@ -95,7 +101,12 @@ fn may_return_at(definitions: &Definitions<'_>, model: u32, returned: Option<u32
 }
 
 /// Whether an instruction, if it leaves a function, may stand in one that returns this.
-fn may_return(definitions: &Definitions<'_>, model: u32, returned: Option<u32>, instruction: Instruction<'_>) -> bool
+fn may_return(
+    definitions: &Definitions<'_>,
+    model: u32,
+    returned: Option<u32>,
+    instruction: Instruction<'_>,
+) -> bool
     ensures { result ≡ kept.may_return definitions.now model returned instruction.entry }
 {
     match instruction {

@@ -14,3 +14,6 @@ pub use block::structure;
 pub use function::function_shape;
 pub use leaving::returns;
 pub use order::sections;
+
+#[cfg(test)]
+mod tests;

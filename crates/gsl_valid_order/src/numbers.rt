@@ -6,7 +6,9 @@ ghost use Rattle.gsl_valid.specs.Sections as spec;
 ghost use Rattle.std.specs.List.{list_all};
 ghost use Rattle.std.specs.Str.{bytes_eq};
 
-use gsl_instr::enumerant::{built_in, capability, decoration, execution_mode, execution_model, memory_model, storage_class};
+use gsl_instr::enumerant::{
+    built_in, capability, decoration, execution_mode, execution_model, memory_model, storage_class,
+};
 use gsl_instr::{Instruction, read};
 use gsl_words::{Module, VERSION_1_3};
 
@@ -39,8 +41,16 @@ fn has_numbers(of: &Module, instruction: Instruction<'_>) -> bool
         Instruction::TypePointer { class, .. } => is_class(of.version, class),
         Instruction::Function { control, .. } => control == 0,
         Instruction::Variable { class, .. } => is_class(of.version, class),
-        Instruction::Decorate { decoration, literals, .. } => has_built_in(decoration, literals.as_slice()),
-        Instruction::MemberDecorate { decoration, literals, .. } => has_built_in(decoration, literals.as_slice()),
+        Instruction::Decorate {
+            decoration,
+            literals,
+            ..
+        } => has_built_in(decoration, literals.as_slice()),
+        Instruction::MemberDecorate {
+            decoration,
+            literals,
+            ..
+        } => has_built_in(decoration, literals.as_slice()),
         Instruction::LoopMerge { control, .. } => control == 0,
         Instruction::SelectionMerge { control, .. } => control == 0,
         _ => true,
@@ -58,7 +68,9 @@ fn is_extended(name: &[u32]) -> bool
 fn is_model(model: u32) -> bool
     ensures { result ≡ spec.is_model model }
 {
-    model == execution_model::VERTEX || model == execution_model::FRAGMENT || model == execution_model::GL_COMPUTE
+    model == execution_model::VERTEX
+        || model == execution_model::FRAGMENT
+        || model == execution_model::GL_COMPUTE
 }
 
 /// Whether an execution mode has as many words as it needs.

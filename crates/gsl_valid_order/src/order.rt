@@ -25,7 +25,11 @@ pub fn sections(of: &Module) -> Option<u32>
     requires file { HasFile of.now }
     ensures { result ≡ spec.sections of.now }
 {
-    if has_bound(of.bound) { in_order(of) } else { Some(BOUND_PLACE) }
+    if has_bound(of.bound) {
+        in_order(of)
+    } else {
+        Some(BOUND_PLACE)
+    }
 }
 
 /// Whether a bound is one that it may be.
@@ -50,7 +54,11 @@ fn in_order(of: &Module) -> Option<u32>
     if let Some(place) = first_failed(&mut at, of) {
         return Some(place);
     }
-    if section::ENTRY_POINTS <= at.section { None } else { Some(count_of_words(of)) }
+    if section::ENTRY_POINTS <= at.section {
+        None
+    } else {
+        Some(count_of_words(of))
+    }
 }
 
 /// Where a pass stands: the section of the instruction before, 0 where there is none, and whether it is in a function.
@@ -90,6 +98,7 @@ fn may_come(reached: u32, section: u32) -> bool
     if section::ENTRY_POINTS <= reached {
         section::MODES <= section && reached <= section
     } else {
-        section == reached + 1 || section == section::MEMORY_MODELS && reached == section::CAPABILITIES
+        section == reached + 1
+            || section == section::MEMORY_MODELS && reached == section::CAPABILITIES
     }
 }

@@ -16,9 +16,7 @@ pub(crate) enum Standing<'a> {
     /// Between functions, or before the first.
     Outside,
     /// Behind a Function, with parameters of these types still to come.
-    Begun {
-        parameters: &'a [u32],
-    },
+    Begun { parameters: &'a [u32] },
     /// In a function's first block, where nothing but variables has come.
     AtHead,
     InBlock,
@@ -29,7 +27,11 @@ pub(crate) enum Standing<'a> {
 }
 
 /// Where the code stands behind an instruction.
-pub(crate) fn stands_after<'a>(definitions: &Definitions<'a>, standing: Standing<'a>, kind: Kind<'_>) -> Standing<'a>
+pub(crate) fn stands_after<'a>(
+    definitions: &Definitions<'a>,
+    standing: Standing<'a>,
+    kind: Kind<'_>,
+) -> Standing<'a>
     ensures { standing_seen result ≡ spec.stands_after definitions.now (standing_seen standing.entry) (kind_seen kind.entry) }
 {
     match kind {
@@ -89,7 +91,10 @@ fn block_begun(standing: Standing<'_>) -> Standing<'_>
 pub(crate) fn in_block(standing: Standing<'_>) -> bool
     ensures { result ≡ rules.in_block (standing_seen standing.entry) }
 {
-    matches!(standing, Standing::AtHead | Standing::InBlock | Standing::AtMerge)
+    matches!(
+        standing,
+        Standing::AtHead | Standing::InBlock | Standing::AtMerge
+    )
 }
 
 /// Whether a block may begin: behind a Function of which no parameter is still to come, or behind a block.

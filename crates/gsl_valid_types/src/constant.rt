@@ -15,7 +15,10 @@ pub fn constants(runtimes: &Runtimes<'_>) -> Option<u32>
     requires words { count_of_words runtimes.now < 2 ^ 32 }
     ensures { result ≡ spec.constants runtimes.now }
 {
-    first_failed(&mut ConstantTest { runtimes }, runtimes.definitions().module())
+    first_failed(
+        &mut ConstantTest { runtimes },
+        runtimes.definitions().module(),
+    )
 }
 
 /// The test of V5.
@@ -55,7 +58,12 @@ fn is_fixed(runtimes: &Runtimes<'_>, type_: u32, value: Value<'_>) -> bool
     match value {
         Value::Truth => is_bool(definitions, type_),
         Value::Word(_) => is_int(definitions, type_),
-        Value::Parts(parts) => are_parts(definitions, Parts::Constants, parts, shape_of(definitions, type_)),
+        Value::Parts(parts) => are_parts(
+            definitions,
+            Parts::Constants,
+            parts,
+            shape_of(definitions, type_),
+        ),
         Value::Zeros => runtimes.is_whole(type_),
     }
 }

@@ -9,7 +9,10 @@ ghost use Rattle.gsl_valid.specs.Types as types;
 
 use gsl_ids::{Test, first_failed};
 use gsl_instr::enumerant::storage_class;
-use gsl_kinds::{Kind, Runtimes, Shape, Variable, initialises, inside_after, is_ints, is_struct, kind_at, shape_of};
+use gsl_kinds::{
+    Kind, Runtimes, Shape, Variable, initialises, inside_after, is_ints, is_struct, kind_at,
+    shape_of,
+};
 
 /// The place of the first global variable whose class, type or initialiser breaks V6.
 pub fn globals(runtimes: &Runtimes<'_>) -> Option<u32>
@@ -66,7 +69,9 @@ fn is_global_of(runtimes: &Runtimes<'_>, variable: Variable<'_>) -> bool
 {
     match shape_of(runtimes.definitions(), variable.type_) {
         Shape::Pointer { class, pointee } => {
-            class == variable.class && holds(runtimes, variable.class, pointee) && begins_with(runtimes, variable.class, pointee, variable.initialiser)
+            class == variable.class
+                && holds(runtimes, variable.class, pointee)
+                && begins_with(runtimes, variable.class, pointee, variable.initialiser)
         }
         _ => false,
     }
@@ -90,7 +95,9 @@ fn holds(runtimes: &Runtimes<'_>, class: u32, type_: u32) -> bool
 fn is_block_class(class: u32) -> bool
     ensures { result ≡ types.is_block_class class }
 {
-    class == storage_class::UNIFORM || class == storage_class::STORAGE_BUFFER || class == storage_class::PUSH_CONSTANT
+    class == storage_class::UNIFORM
+        || class == storage_class::STORAGE_BUFFER
+        || class == storage_class::PUSH_CONSTANT
 }
 
 /// Whether a variable has the initialiser that its class needs, or none.

@@ -12,3 +12,6 @@ mod type_rule;
 pub use constant::constants;
 pub use global::globals;
 pub use type_rule::types;
+
+#[cfg(test)]
+mod tests;

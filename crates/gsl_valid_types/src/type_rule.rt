@@ -10,7 +10,10 @@ ghost use Rattle.gsl_valid_types.specs.TypeKeys as keys;
 use crate::known::Known;
 use gsl_base::Memory;
 use gsl_ids::{Definitions, Each};
-use gsl_kinds::{Kind, Shape, is_bool, is_int, is_local_pointer, is_runtime, is_value_type, is_void, kind_at, value_of};
+use gsl_kinds::{
+    Kind, Shape, is_bool, is_int, is_local_pointer, is_runtime, is_value_type, is_void, kind_at,
+    value_of,
+};
 use std::alloc::Global;
 
 /// The place of the first type that is not made as it may be, or that is declared again and may not be, which breaks V4.
@@ -25,7 +28,11 @@ pub fn types(alloc: Global, definitions: &Definitions<'_>) -> Result<Option<u32>
 
 /// The same, among instructions.
 #[tactic(auto, unfolding(crate::specs::TypeKeys::first_bad))]
-fn first_badly_made<'a>(alloc: Global, definitions: &Definitions<'_>, each: Each<'a>) -> Result<Option<u32>, Memory>
+fn first_badly_made<'a>(
+    alloc: Global,
+    definitions: &Definitions<'_>,
+    each: Each<'a>,
+) -> Result<Option<u32>, Memory>
     ensures { IfOk result (λ place. place ≡ keys.first_bad definitions.now [] each.entry) }
 {
     let mut each = each;
@@ -39,7 +46,12 @@ fn first_badly_made<'a>(alloc: Global, definitions: &Definitions<'_>, each: Each
 }
 
 /// Whether an instruction, if it declares a type, makes it as it may be.
-fn is_well_made<'a>(definitions: &Definitions<'_>, known: &mut Known<'a>, op: u16, args: &'a [u32]) -> Result<bool, Memory>
+fn is_well_made<'a>(
+    definitions: &Definitions<'_>,
+    known: &mut Known<'a>,
+    op: u16,
+    args: &'a [u32],
+) -> Result<bool, Memory>
     ensures passed { IfOk result (λ passed. passed ≡ keys.passes definitions.now known.old 0 (record { op = op; args = args.now })) }
     ensures kept { IfOk result (λ passed. known.new ≡ keys.behind known.old 0 (record { op = op; args = args.now })) }
 {
@@ -69,13 +81,15 @@ fn is_made(definitions: &Definitions<'_>, first: bool, shape: Shape<'_>) -> bool
         Shape::Vector { component, count } => {
             is_component(definitions, component) && 2 <= count && count <= 4 && first
         }
-        Shape::Array { element, length } => is_value_type(definitions, element) && is_length(value_of(definitions, length)),
+        Shape::Array { element, length } => is_value_type(definitions, element)
+            && is_length(value_of(definitions, length)),
         Shape::RuntimeArray { element } => is_value_type(definitions, element),
         Shape::Struct { members, .. } => are_members(definitions, members),
         Shape::Pointer { pointee, .. } => is_value_type(definitions, pointee) && first,
-        Shape::Function { returned, parameters } => {
-            is_returned(definitions, returned) && are_taken(definitions, parameters) && first
-        }
+        Shape::Function {
+            returned,
+            parameters,
+        } => { is_returned(definitions, returned) && are_taken(definitions, parameters) && first }
         Shape::NoType => true,
     }
 }

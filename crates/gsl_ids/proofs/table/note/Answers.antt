@@ -17,8 +17,8 @@ returns-in-Some-clause-noted c =
     let cut = here code c.args.at c.op.result c.args-2.result.now c.op.ensures c.args-2.ensures in
     let is = sym c.defined_by.ensures ∙ c.in-Some.is in
     subst (Tells _ c.args.at) (sym cut)
-        (one_noted c.args.at i (drop (c.args.at + 1) code) c.args.rows.now.items c.in-Some.id
-            (omega (arith, below c.args.of.now c.args.at i c.in-Some.id cut is c.requires.once, c.requires.room, c.args.rows.now.ok)) is c.requires.behind)
+    (one_noted c.args.at i (drop (c.args.at + 1) code) c.args.rows.now.items c.in-Some.id
+    (omega (arith, below c.args.of.now c.args.at i c.in-Some.id cut is c.requires.once, c.requires.room, c.args.rows.now.ok)) is c.requires.behind)
 
 pub returns-in_default-clause-noted : goal.returns-in_default-clause-noted
 returns-in_default-clause-noted c =

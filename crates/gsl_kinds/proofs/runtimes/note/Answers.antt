@@ -28,9 +28,9 @@ returns-in-Some-clause-noted c =
     let is = sym c.defined_by.ensures ∙ c.in-Some.is in
     let small = below m c.args.at i c.in-Some.id cut is c.requires.once in
     subst (Tells _ m) (sym (one_more m c.args.at i cut))
-        (one_held m (front m c.args.at) i c.args.rows.now.items c.in-Some.id c.is_held-held.result (omega (arith, small, c.requires.room, c.args.rows.now.ok)) is
-            (c.is_held-held.ensures ∙ ap (λ s. is_runtime m c.in-Some.id || list_any (λ id. get_or c.args.rows.now.items id false) (parts_in s)) (c.shape_in.ensures ∙ ap shape_in c.kind_at.ensures))
-            c.requires.before)
+    (one_held m (front m c.args.at) i c.args.rows.now.items c.in-Some.id c.is_held-held.result (omega (arith, small, c.requires.room, c.args.rows.now.ok)) is
+    (c.is_held-held.ensures ∙ ap (λ s. is_runtime m c.in-Some.id || list_any (λ id. get_or c.args.rows.now.items id false) (parts_in s)) (c.shape_in.ensures ∙ ap shape_in c.kind_at.ensures))
+    c.requires.before)
 
 pub returns-in_default-clause-noted : goal.returns-in_default-clause-noted
 returns-in_default-clause-noted c =
@@ -40,4 +40,4 @@ returns-in_default-clause-noted c =
     let a = subst (λ (n : Module). IsSomeAnd (slice_get n.instrs c.args.at) (λ j. c.args-args.result.now ≡ j.args)) c.module.ensures c.args-args.ensures in
     let cut = here m.instrs c.args.at c.op-op.result c.args-args.result.now o a in
     subst (Tells _ m) (sym (one_more m c.args.at i cut))
-        (none_held m (front m c.args.at) i c.args.rows.now.items (sym c.defined_by.ensures ∙ c.in_default.is) c.requires.before)
+    (none_held m (front m c.args.at) i c.args.rows.now.items (sym c.defined_by.ensures ∙ c.in_default.is) c.requires.before)

@@ -19,7 +19,7 @@ pub returns-then-is_outside : goal.returns-then-is_outside
 returns-then-is_outside c =
     let m = c.args.definitions.now in
     let none : first_broken (in_shape m) m ≡ None =
-        sym (c.in_default.ensures.place ∙ ap (λ (n : Module). first_failed passes behind (at_first m) 0 (placed n)) c.module.ensures ∙ finds m) in
+    sym (c.in_default.ensures.place ∙ ap (λ (n : Module). first_failed passes behind (at_first m) 0 (placed n)) c.module.ensures ∙ finds m) in
     let reached = ap (λ (s : Reached). s.standing) (c.in_default.ensures.kept refl ∙ ap (λ (n : Module). kept passes behind (at_first m) 0 (placed n)) c.module.ensures) ∙ ends m none in
     let is : outside (where_at m (whole m)).standing ≡ true = ap outside (sym reached) ∙ sym c.is_outside.ensures ∙ c.if-is_outside.true in
     sym (ap (λ o. o otherwise unless (outside (where_at m (whole m)).standing) (count_of_words m)) none ∙ ap (λ b. unless b (count_of_words m)) is)
@@ -28,7 +28,7 @@ pub returns-else-is_outside : goal.returns-else-is_outside
 returns-else-is_outside c =
     let m = c.args.definitions.now in
     let none : first_broken (in_shape m) m ≡ None =
-        sym (c.in_default.ensures.place ∙ ap (λ (n : Module). first_failed passes behind (at_first m) 0 (placed n)) c.module.ensures ∙ finds m) in
+    sym (c.in_default.ensures.place ∙ ap (λ (n : Module). first_failed passes behind (at_first m) 0 (placed n)) c.module.ensures ∙ finds m) in
     let reached = ap (λ (s : Reached). s.standing) (c.in_default.ensures.kept refl ∙ ap (λ (n : Module). kept passes behind (at_first m) 0 (placed n)) c.module.ensures) ∙ ends m none in
     let is : outside (where_at m (whole m)).standing ≡ false = ap outside (sym reached) ∙ sym c.is_outside.ensures ∙ c.if-is_outside.false in
     ap Some (c.count_of_words.ensures ∙ ap (λ (n : Module). count_of_words n) c.module-else-is_outside.ensures)
