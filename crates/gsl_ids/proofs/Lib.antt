@@ -1,2 +1,7 @@
 pub mod Searched
 pub mod Places
+pub mod Rows
+pub mod Passes
+pub mod Stands
+pub mod Numbers
+mod Defining

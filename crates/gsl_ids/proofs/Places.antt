@@ -1,8 +1,12 @@
 -- The instruction at a place, and those behind it.
 use Rattle.std.proofs.Common.{◌≡◌, ℕ, zero, suc, ◌+◌, ◌<◌, ◌≤◌, List, [], ◌∷◌, length, drop, refl, ap, ◌∙◌, subst, sym, arith}
-use Rattle.std.specs.Prelude.{slice_get, IsSomeAnd}
+use Rattle.std.specs.Prelude.{slice_get, IsSomeAnd, All, ◌^◌}
+use Rattle.std.specs.List.{flat_map}
+use Rattle.std.proofs.lemmas.List.{length-append}
+use Rattle.std.proofs.lemmas.List.Elements.{All-weaker}
+use Rattle.gsl_words.specs.Bytes.{instr_words}
 use Rattle.gsl_words.specs.declared.module.Instr.{Instr}
-use Rattle.gsl_words.specs.Instructions.{word_count}
+use Rattle.gsl_words.specs.Instructions.{word_count, IsInTable}
 use Rattle.gsl_valid.specs.Placed.{Code, words_from, placed_from}
 
 abbrev pub made : ℕ → List ℕ → Instr
@@ -36,3 +40,14 @@ none_left [] zero place over = refl
 none_left [] (suc at) place over = refl
 none_left (i ∷ code) zero place over = absurd (omega arith)
 none_left (i ∷ code) (suc at) place over = none_left code at place (omega arith)
+
+-- The words of some code are those that its file has behind the place where it begins.
+pub all_words : (at : ℕ) (code : Code) → words_from at code ≡ at + length (flat_map instr_words code)
+all_words at [] = let e : at ≡ at + 0 = omega arith in e
+all_words at (i ∷ code) =
+    let h = all_words (at + word_count i) code in
+    let e = length-append (instr_words i) (flat_map instr_words code) in
+    omega (arith, h, e)
+
+pub each_short : (code : Code) → All IsInTable code → All (λ (i : Instr). word_count i < 2 ^ 16) code
+each_short code all = All-weaker IsInTable (λ (i : Instr). word_count i < 2 ^ 16) (λ i fits. fits.short) code all

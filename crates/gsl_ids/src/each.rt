@@ -2,6 +2,7 @@
 
 ghost use Rattle.std.specs.Prelude.{◌≡◌, ◌+◌, ◌^◌, ◌<◌, [], ◌∷◌, length, MatchOption};
 ghost use Rattle.gsl_valid.specs.Placed as spec;
+ghost use Rattle.gsl_words.specs.Instructions.{HasFile};
 
 use gsl_words::{Instrs, Module};
 use std::marker::Model;
@@ -64,4 +65,13 @@ fn behind(place: u32, args: &[u32]) -> u32
     ensures { result ≡ place + (1 + length args.now) }
 {
     place + 1 + args.len() as u32
+}
+
+/// How many words the file of a module has.
+pub fn count_of_words(of: &Module) -> u32
+    requires file { HasFile of.now }
+    requires words { spec.count_of_words of.now < 2 ^ 32 }
+    ensures { result ≡ spec.count_of_words of.now }
+{
+    5 + of.instrs.words().len() as u32
 }

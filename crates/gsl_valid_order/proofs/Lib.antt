@@ -1,0 +1,4 @@
+mod Ordered
+mod Shaped
+mod Returning
+mod Nesting
