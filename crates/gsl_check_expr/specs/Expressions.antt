@@ -1,8 +1,7 @@
 -- The typed expression that an expression stands for, or its first fault (GLSL 4.50, chapter 5).
-use Rattle.std.specs.Prelude.{ℕ, Bool, List, [], ◌∷◌, ◌++◌, map, Option, Some, None, Ok, if◌then◌else◌}
+use Rattle.std.specs.Prelude.{ℕ, List, [], ◌∷◌, ◌++◌, Option, Some, None, Ok, if◌then◌else◌}
 use Rattle.gsl_base.specs.Checked.{Checked, ◌>>=◌}
 use Rattle.gsl_base.specs.declared.fault.Place.{Place}
-use Rattle.gsl_base.specs.declared.fault.Code.TheVariants.{E0402}
 use Rattle.gsl_syntax.specs.declared.expr.Expr.{Expr as Syntax}
 use Rattle.gsl_syntax.specs.declared.expr.TypeSpec.{TypeSpec}
 use Rattle.gsl_syntax.specs.declared.expr.Dim.{Dim}
@@ -13,7 +12,6 @@ use Rattle.gsl_types.specs.declared.ty.Ty.TheVariants as ty
 use Rattle.gsl_tree.specs.declared.expr.Expr.{Expr}
 use Rattle.gsl_tree.specs.declared.expr.ExprKind.TheVariants as kind
 use Rattle.gsl_tree.specs.Trees.{place_of}
-use Rattle.gsl_typing.specs.declared.scene.Scene.{Scene}
 use Rattle.gsl_typing.specs.declared.scene.Part.{Part}
 use Rattle.gsl_typing.specs.Scene.{type_in, made}
 use Rattle.gsl_typing.specs.Uses.{whole}
@@ -23,7 +21,7 @@ use Rattle.gsl_check_expr.specs.declared.env.Env.{Env}
 use Rattle.gsl_check_expr.specs.InOrder.{each}
 use Rattle.gsl_check_expr.specs.Named.{literal, named, instance_of}
 use Rattle.gsl_check_expr.specs.Sizes.{Bracket, size_in, dimensions}
-use Rattle.gsl_check_expr.specs.Callees.{Base, Keyword, Name, Callee, called}
+use Rattle.gsl_check_expr.specs.Callees.{Keyword, Name, Callee, called}
 
 -- ---- what stands for the parts of a tree
 

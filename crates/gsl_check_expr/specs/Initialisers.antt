@@ -12,7 +12,7 @@ use Rattle.gsl_types.specs.declared.ty.Ty.{Ty}
 use Rattle.gsl_types.specs.declared.ty.Ty.TheOpen.{Ty-F}
 use Rattle.gsl_types.specs.declared.ty.Ty.TheViews.{out-Ty}
 use Rattle.gsl_types.specs.declared.ty.Ty.TheVariants as ty
-use Rattle.gsl_tree.specs.declared.expr.Expr.{Expr, out-Expr}
+use Rattle.gsl_tree.specs.declared.expr.Expr.{out-Expr}
 use Rattle.gsl_typing.specs.declared.scene.Scene.{Scene}
 use Rattle.gsl_typing.specs.declared.scene.Part.{Part}
 use Rattle.gsl_typing.specs.Rows.{fault}

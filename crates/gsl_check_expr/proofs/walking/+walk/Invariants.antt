@@ -1,8 +1,7 @@
 use Rattle.std.proofs.Common.{◌≡◌, ◌++◌, ◌∷◌, [], drop, map}
 use Rattle.gsl_tree.specs.Trees.{place_of}
-use Rattle.gsl_check_expr.specs.Sizes.{stated_size, all_stated}
-use Rattle.gsl_check_expr.specs.InOrder.{each}
-use Rattle.gsl_check_expr.specs.Expressions.{answer, bracket, taken, in_row, behind}
+use Rattle.gsl_check_expr.specs.Sizes.{all_stated}
+use Rattle.gsl_check_expr.specs.Expressions.{answer, bracket, in_row, behind}
 use Rattle.gsl_check_expr.proofs.Loops.{after, answered}
 use Rattle.gsl_check_expr.proofs.walking.+walk.Given as goal
 
