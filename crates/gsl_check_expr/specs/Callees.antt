@@ -1,6 +1,6 @@
 -- What calls mean: constructors, functions of the unit, and built-in functions (GLSL 4.50, 5.4 and 6.1).
-use Rattle.std.specs.Prelude.{ℕ, min, Bool, List, [], ◌∷◌, length, Option, Some, None, Ok, if◌then◌else◌}
-use Rattle.gsl_base.specs.Checked.{Checked, ◌>>=◌}
+use Rattle.std.specs.Prelude.{ℕ, min, List, [], ◌∷◌, length, Option, Some, None, if◌then◌else◌}
+use Rattle.gsl_base.specs.Checked.{Checked}
 use Rattle.gsl_base.specs.declared.fault.Place.{Place}
 use Rattle.gsl_base.specs.declared.fault.Code.TheVariants.{E0401, E0402}
 use Rattle.gsl_syntax.specs.declared.expr.Basic.{Basic}

@@ -1,5 +1,5 @@
 -- What names and literals give as values (GLSL 4.50, 4.2 and 7.1).
-use Rattle.std.specs.Prelude.{ℕ, Bool, false, List, [], ◌∷◌, map, slice_get, Option, Some, None, Ok, if◌then◌else◌}
+use Rattle.std.specs.Prelude.{ℕ, Bool, false, List, [], ◌∷◌, map, slice_get, Option, Some, None, Ok}
 use Rattle.gsl_base.specs.Checked.{Checked}
 use Rattle.gsl_base.specs.declared.fault.Place.{Place}
 use Rattle.gsl_base.specs.declared.fault.Code.TheVariants.{E0401, E0402, E0605}
