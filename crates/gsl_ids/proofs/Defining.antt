@@ -1,25 +1,20 @@
 -- The pass over uses finds what V3 finds.
-use Rattle.std.proofs.Common.{◌≡◌, ℕ, ◌+◌, ◌-◌, ◌^◌, ◌<◌, Bool, true, false, cond, ◌&&◌, List, [], ◌∷◌, ◌++◌, length, Option, Some, None, refl, ap, sym, subst, ◌∙◌, arith}
-use Rattle.std.specs.Prelude.{nat_lt, min}
+use Rattle.std.proofs.Common.{◌≡◌, ℕ, Bool, true, false, cond, ◌&&◌, List, [], ◌∷◌, length, Some, refl, ap, sym, ◌∙◌}
+use Rattle.std.specs.Prelude.{nat_lt}
 use Rattle.std.specs.List.{list_all, flat_map, AllByRecursion}
 use Rattle.std.specs.Option.{option_map}
-use Rattle.std.proofs.lemmas.List.{length_push, length-append}
 use Rattle.std.proofs.lemmas.List.Folds.{list_all-append}
-use Rattle.gsl_instr.specs.declared.form.Form.{Form}
 use Rattle.gsl_instr.specs.declared.slot.Slot.{Slot}
 use Rattle.gsl_instr.specs.declared.slot.Slot.TheVariants.{Result, Id, Forward, Number, Named, OfDecoration, Text}
 use Rattle.gsl_instr.specs.declared.parts.Part.{Part}
-use Rattle.gsl_instr.specs.Fitting.{Fits}
-use Rattle.gsl_instr.specs.Forms.{form_of}
 use Rattle.gsl_instr.specs.Instructions.{read_as}
-use Rattle.gsl_instr.specs.Instructions as table
 use Rattle.gsl_instr.specs.Parts.{parts_of, words_if, is_id, is_forward}
 use Rattle.gsl_instr.proofs.Agreeing.{read_agrees}
 use Rattle.gsl_words.specs.declared.module.Instr.{Instr}
 use Rattle.gsl_words.specs.declared.module.Module.{Module}
 use Rattle.gsl_words.specs.Instructions.{IsInTable}
 use Rattle.gsl_valid.specs.Instruction.{read}
-use Rattle.gsl_valid.specs.Ids.{defined, needs, mentions}
+use Rattle.gsl_valid.specs.Ids.{needs, mentions}
 use Rattle.gsl_valid.specs.Placed.{Code, placed, header_size}
 use Rattle.gsl_valid.specs.DefinedBeforeUse.{uses_defined, defined_before_use}
 use Rattle.gsl_ids.specs.declared.uses.Uses.{Uses}

@@ -6,6 +6,7 @@
 mod block;
 mod function;
 mod leaving;
+mod near;
 mod numbers;
 mod order;
 mod standing;
@@ -13,6 +14,7 @@ mod standing;
 pub use block::structure;
 pub use function::function_shape;
 pub use leaving::returns;
+pub use near::locality;
 pub use order::sections;
 
 #[cfg(test)]
