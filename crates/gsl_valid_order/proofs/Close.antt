@@ -1,7 +1,7 @@
 -- The pass over uses finds what V13 finds.
-use Rattle.std.proofs.Common.{◌≡◌, ℕ, zero, suc, ◌+◌, ◌<◌, ◌≤◌, Bool, true, false, true≢false, cond, not, ◌&&◌, ◌||◌, List, [], ◌∷◌, ◌++◌, length, drop, Option, Some, None, refl, ap, sym, subst, ◌∙◌, if◌then◌else◌, arith}
+use Rattle.std.proofs.Common.{◌≡◌, ℕ, zero, suc, ◌+◌, ◌≤◌, Bool, true, false, true≢false, cond, not, ◌&&◌, ◌||◌, [], ◌∷◌, ◌++◌, length, drop, Option, Some, None, refl, ap, sym, subst, ◌∙◌, if◌then◌else◌, arith}
 use Rattle.std.specs.Prelude.{nat_lt, nat_le, nat_eq}
-use Rattle.std.specs.List.{list_all, AllByRecursion}
+use Rattle.std.specs.List.{AllByRecursion}
 use Rattle.std.proofs.lemmas.Bool.{and_parts, or_left, or_right, not-true, lt-ltb, le-ltb, eqb-true}
 use Rattle.std.proofs.lemmas.List.{drop_all, length_push}
 use Rattle.gsl_words.specs.declared.module.Instr.{Instr}
@@ -17,7 +17,7 @@ use Rattle.gsl_valid.specs.Types.{defined_as}
 use Rattle.gsl_valid.specs.Where.{where_at, in_function_after, bounds_block, bounds_function}
 use Rattle.gsl_valid.proofs.Searching.{passed_append, each_passes}
 use Rattle.gsl_ids.specs.Pass.{first_failed}
-use Rattle.gsl_ids.specs.Table.{number_from, number_of}
+use Rattle.gsl_ids.specs.Table.{number_from}
 use Rattle.gsl_ids.specs.Uses.{all_used}
 use Rattle.gsl_ids.proofs.Defining.{both, used_is}
 use Rattle.gsl_ids.proofs.Numbers.{same_all, in_front, turned, or_false, passed_length}

@@ -85,7 +85,10 @@ fn bounds_function(kind: Kind<'_>) -> bool
 fn bounds_block(kind: Kind<'_>) -> bool
     ensures { result ≡ places.bounds (kind_seen kind.entry) }
 {
-    matches!(kind, Kind::Begins { .. } | Kind::Opens | Kind::Leaves | Kind::Ended)
+    matches!(
+        kind,
+        Kind::Begins { .. } | Kind::Opens | Kind::Leaves | Kind::Ended
+    )
 }
 
 /// Where an instruction of a number stands.
@@ -125,7 +128,9 @@ impl<'a> Here<'a> {
         if gives_value(kind) {
             is_defined_from(self.definitions, self.block, self.at, id)
         } else {
-            !is_local(kind) || !self.inside || is_defined_from(self.definitions, self.body, self.at, id)
+            !is_local(kind)
+                || !self.inside
+                || is_defined_from(self.definitions, self.body, self.at, id)
         }
     }
 }
