@@ -4,4 +4,4 @@ pub mod Rows
 pub mod Passes
 pub mod Stands
 pub mod Numbers
-mod Defining
+pub mod Defining

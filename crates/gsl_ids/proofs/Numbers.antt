@@ -1,14 +1,13 @@
 -- The number of an id says whether it is defined, and whether before a place.
-use Rattle.std.proofs.Common.{◌≡◌, ℕ, ◌+◌, ◌<◌, ◌≤◌, Bool, true, false, cond, ◌&&◌, ◌||◌, List, [], ◌∷◌, ◌++◌, length, refl, ap, sym, ◌∙◌, arith}
+use Rattle.std.proofs.Common.{◌≡◌, ℕ, ◌+◌, ◌≤◌, Bool, true, false, cond, ◌&&◌, ◌||◌, List, [], ◌∷◌, ◌++◌, length, refl, ap, sym, ◌∙◌, arith}
 use Rattle.std.specs.Prelude.{nat_lt, nat_le}
 use Rattle.std.specs.List.{list_all}
 use Rattle.std.proofs.lemmas.Bool.{lt-ltb, le-leb, lt-leb}
-use Rattle.gsl_words.specs.declared.module.Instr.{Instr}
 use Rattle.gsl_words.specs.declared.module.Module.{Module}
 use Rattle.gsl_valid.specs.Placed.{Code}
 use Rattle.gsl_valid.specs.Search.{passed}
 use Rattle.gsl_valid.specs.Ids.{defines, defined}
-use Rattle.gsl_ids.specs.Table.{number_from, number_of, is_defined_in}
+use Rattle.gsl_ids.specs.Table.{number_from, is_defined_in}
 use Rattle.gsl_ids.proofs.Stands.{Stands}
 
 pub same_all : (f g : ℕ → Bool) → ((x : ℕ) → f x ≡ g x) → (xs : List ℕ) → list_all f xs ≡ list_all g xs
@@ -36,7 +35,7 @@ not_yet at least (i ∷ code) id low = by_cases (defines i id) (not_yet (at + 1)
     by_cases true later = ap (λ b. b && nat_le (at + 1) least) (lt-ltb 0 (at + 1) (omega arith)) ∙ lt-leb (at + 1) least (omega (arith, low))
     by_cases false later = later
 
-in_front : (at : ℕ) (front code : Code) (id : ℕ) →
+pub in_front : (at : ℕ) (front code : Code) (id : ℕ) →
     (nat_lt 0 (number_from at (front ++ code) id) && nat_le (number_from at (front ++ code) id) (at + length front)) ≡ defined front id
 unfolding number_from
 in_front at [] code id = not_yet at (at + 0) code id (omega arith)
@@ -52,7 +51,7 @@ in_front at (i ∷ front) code id = by_cases (defines i id) (in_front (at + 1) f
         let same : at + length (i ∷ front) ≡ at + 1 + length front = omega arith in
         ap (λ n. nat_lt 0 (number_from (at + 1) (front ++ code) id) && nat_le (number_from (at + 1) (front ++ code) id) n) same ∙ later
 
-turned : (before code : Code) (id : ℕ) → defined (passed before code) id ≡ (defined code id || defined before id)
+pub turned : (before code : Code) (id : ℕ) → defined (passed before code) id ≡ (defined code id || defined before id)
 turned before [] id = refl
 turned before (i ∷ code) id = turned (i ∷ before) code id ∙ swap (defined code id) (defines i id) (defined before id)
   where
@@ -62,11 +61,11 @@ turned before (i ∷ code) id = turned (i ∷ before) code id ∙ swap (defined 
     swap false true c = refl
     swap false false c = refl
 
-or_false : (b : Bool) → (b || false) ≡ b
+pub or_false : (b : Bool) → (b || false) ≡ b
 or_false true = refl
 or_false false = refl
 
-passed_length : (before code : Code) → length (passed before code) ≡ length before + length code
+pub passed_length : (before code : Code) → length (passed before code) ≡ length before + length code
 passed_length before [] = let e : length before ≡ length before + 0 = omega arith in e
 passed_length before (i ∷ code) = let h = passed_length (i ∷ before) code in omega (arith, h)
 

@@ -7,6 +7,7 @@
 
 mod each;
 mod once;
+mod operands;
 mod pass;
 mod results;
 mod table;
@@ -14,6 +15,7 @@ mod uses;
 
 pub use each::{Each, count_of_words};
 pub use once::ids_defined_once;
+pub use operands::{UseTest, all_used};
 pub use pass::{Test, first_failed};
 pub use results::defined_by;
 pub use table::Definitions;

@@ -8,13 +8,15 @@ mod kind;
 mod lanes;
 mod parts;
 mod places;
+mod reading;
 mod runtimes;
 mod types;
 
-pub use kind::{Decoration, Kind, Place, Shape, Value, Variable, kind_at, kind_if};
+pub use kind::{Decoration, Kind, Place, Shape, Value, Variable};
 pub use lanes::{Lanes, Scalar, is_ints, is_ints_of, is_truth, lanes_of, same_size};
 pub use parts::{Parts, are_parts, have_each};
 pub use places::{inside_after, section, section_in};
+pub use reading::{kind_at, kind_if};
 pub use runtimes::Runtimes;
 pub use types::{
     has_type, initialises, is_bool, is_constant_of, is_int, is_int_value, is_local_pointer,

@@ -9,7 +9,8 @@ ghost use Rattle.gsl_valid.specs.IdsDefinedOnce.{ids_defined_once};
 ghost use Rattle.gsl_valid.specs.ConstantRules as spec;
 ghost use Rattle.gsl_valid.specs.Types as types;
 
-use crate::kind::{Shape, kind_at};
+use crate::kind::Shape;
+use crate::reading::kind_at;
 use crate::types::{is_runtime, is_value_type, shape_in};
 use gsl_base::Memory;
 use gsl_ids::{Definitions, defined_by};

@@ -5,7 +5,8 @@ ghost use Rattle.gsl_kinds.specs.Seen as seen;
 ghost use Rattle.gsl_valid.specs.Kinds as kinds;
 ghost use Rattle.gsl_valid.specs.Types as spec;
 
-use crate::kind::{Kind, Shape, Value, kind_if};
+use crate::kind::{Kind, Shape, Value};
+use crate::reading::kind_if;
 use gsl_ids::Definitions;
 use gsl_instr::enumerant::storage_class;
 

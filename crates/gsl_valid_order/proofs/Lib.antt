@@ -2,3 +2,4 @@ mod Ordered
 mod Shaped
 mod Returning
 mod Nesting
+mod Close

@@ -1,5 +1,5 @@
 -- The pass over blocks finds what V12 finds.
-use Rattle.std.proofs.Common.{◌≡◌, ℕ, true, [], ◌∷◌, length, refl, ap}
+use Rattle.std.proofs.Common.{◌≡◌, true, [], ◌∷◌, length, refl, ap}
 use Rattle.gsl_words.specs.declared.module.Instr.{Instr}
 use Rattle.gsl_words.specs.declared.module.Module.{Module}
 use Rattle.gsl_valid.specs.Placed.{Code, placed, header_size}

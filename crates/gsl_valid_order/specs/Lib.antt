@@ -1,3 +1,4 @@
 pub mod Seen
 pub mod Returned
 pub mod Nested
+pub mod Nearby

@@ -1,11 +1,13 @@
-//! Do the instructions of a module stand where they may?
+//! Do the instructions of a module stand where they may, and are ids used where they may be?
 //!
-//! `sections` answers what `gsl_valid` says of V1 (`specs/Sections.antt` there).
+//! `sections`, `function_shape`, `structure`, `locality` and `returns` answer what `gsl_valid` says of V1, V10, V12, V13 and V16, each in one
+//! pass over the module's instructions. `Standing` is where the code stands in its function.
 #![tactic(auto)]
 
 mod block;
 mod function;
 mod leaving;
+mod near;
 mod numbers;
 mod order;
 mod standing;
@@ -13,6 +15,7 @@ mod standing;
 pub use block::structure;
 pub use function::function_shape;
 pub use leaving::returns;
+pub use near::locality;
 pub use order::sections;
 
 #[cfg(test)]

@@ -3,7 +3,7 @@ use Rattle.std.proofs.Common.{◌≡◌, ℕ, Bool, true, false, cond, not, ◌|
 use Rattle.std.specs.Borrow.{Bor}
 use Rattle.std.specs.List.{list_any}
 use Rattle.std.specs.Str.{bytes_eq}
-use Rattle.gsl_valid_types.specs.TypeKeys.{Key, key_seen, is_key}
+use Rattle.gsl_valid_types.specs.TypeKeys.{key_seen, is_key}
 
 pub same_keys : (op : ℕ) (operands : List ℕ) (ks : List (ℕ × Bor (List ℕ))) →
     list_any (λ (k : ℕ × Bor (List ℕ)). eqb op k.0 && bytes_eq operands k.1.now) ks ≡ list_any (is_key op operands) (map key_seen ks)

@@ -1,4 +1,4 @@
-use Rattle.std.proofs.Common.{arith, ap, ◌∙◌, sym, length}
+use Rattle.std.proofs.Common.{arith, ap, length}
 use Rattle.gsl_valid.specs.Placed.{header_size}
 use Rattle.gsl_ids.proofs.Places.{all_words, each_short}
 use Rattle.gsl_ids.proofs.each.count_of_words.Goals as goal

@@ -1,4 +1,4 @@
-use Rattle.std.proofs.Common.{length, ap, ◌∙◌, ◌+◌, ◌≡◌, arith}
+use Rattle.std.proofs.Common.{length, ap, ◌∙◌, arith}
 use Rattle.gsl_valid.specs.Placed.{header_size}
 use Rattle.gsl_ids.specs.Pass.{first_failed, kept}
 use Rattle.gsl_ids.proofs.Passes.{as_many}

@@ -1,4 +1,4 @@
-use Rattle.std.proofs.Common.{drop, ◌+◌, ◌∷◌, sym, subst, ap, ◌∙◌, arith}
+use Rattle.std.proofs.Common.{drop, ◌+◌, sym, subst, ◌∙◌, arith}
 use Rattle.gsl_ids.specs.Table.{Tells}
 use Rattle.gsl_ids.proofs.Places.{made, here}
 use Rattle.gsl_ids.proofs.Rows.{none_noted, one_noted, below}

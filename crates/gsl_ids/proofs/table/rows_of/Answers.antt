@@ -1,4 +1,4 @@
-use Rattle.std.proofs.Common.{rules, length, drop, ◌≤◌, replicate, sym, subst, ap, ◌∙◌, arith}
+use Rattle.std.proofs.Common.{rules, length, drop, ◌≤◌, sym, subst, arith}
 use Rattle.gsl_ids.specs.Table.{Tells}
 use Rattle.gsl_ids.proofs.Rows.{none_behind}
 use Rattle.gsl_ids.proofs.table.rows_of.Goals as goal

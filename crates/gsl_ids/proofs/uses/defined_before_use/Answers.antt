@@ -1,4 +1,4 @@
-use Rattle.std.proofs.Common.{refl, ◌∙◌, ap, sym}
+use Rattle.std.proofs.Common.{refl, ◌∙◌, ap}
 use Rattle.std.proofs.lemmas.List.Elements.{recursion_from_All}
 use Rattle.gsl_words.specs.Instructions.{IsInTable}
 use Rattle.gsl_valid.specs.Placed.{placed}

@@ -1,5 +1,5 @@
 use Rattle.std.specs.List.{list_any}
-use Rattle.std.proofs.Common.{drop, false, ◌||◌, get_or, ◌≡◌, ◌+◌, ◌∷◌, sym, subst, ap, ◌∙◌, arith}
+use Rattle.std.proofs.Common.{false, ◌||◌, get_or, ◌≡◌, sym, subst, ap, ◌∙◌, arith}
 use Rattle.std.specs.Prelude.{slice_get, IsSomeAnd}
 use Rattle.gsl_words.specs.declared.module.Module.{Module}
 use Rattle.gsl_kinds.specs.Runtimes.{Tells, front}

@@ -1,4 +1,4 @@
-use Rattle.std.proofs.Common.{◌≡◌, ◌-◌, ◌≤◌, length, drop, eqb}
+use Rattle.std.proofs.Common.{◌≡◌, ◌-◌, ◌≤◌, length, drop}
 use Rattle.std.specs.Prelude.{◌==◌, map}
 use Rattle.std.specs.List.{sum}
 use Rattle.gsl_valid.specs.OperandRules.{size_of}

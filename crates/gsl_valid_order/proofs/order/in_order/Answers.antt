@@ -2,8 +2,7 @@ use Rattle.std.proofs.Common.{◌≡◌, true, false, None, Some, refl, ap, sym,
 use Rattle.std.specs.Prelude.{nat_le}
 use Rattle.std.proofs.lemmas.Bool.{le-leb, lt-leb}
 use Rattle.gsl_valid.specs.Placed.{count_of_words}
-use Rattle.gsl_valid.specs.Search.{first_broken, whole, unless, ◌otherwise◌}
-use Rattle.gsl_valid.specs.Where.{where_at}
+use Rattle.gsl_valid.specs.Search.{first_broken, unless, ◌otherwise◌}
 use Rattle.gsl_valid.specs.Sections.{in_section, is_complete}
 use Rattle.gsl_valid_order.specs.declared.order.At.{At}
 use Rattle.gsl_valid_order.proofs.Ordered.{finds, ends}
