@@ -1,0 +1,23 @@
+//! Which typed statement does a statement stand for, or which is its first fault (GLSL 4.50, chapter 6)?
+//!
+//! Read `specs/Steps.antt` (one after the other, and scopes), `Declaring.antt`, `Locals.antt` and `Structs.antt` (declarations among
+//! statements), `Rules.antt` and `Switches.antt` (the rules of single statements), and then `Statements.antt`: the parts of a statement
+//! from left to right, and then the statement itself.
+#![tactic(auto)]
+
+mod asked;
+mod declaration;
+mod gathered;
+mod locals;
+mod rules;
+mod sound;
+mod statement;
+mod structs;
+mod within;
+
+pub use asked::{is_declared, is_high, is_reserved, may_be_had};
+pub use gathered::Gathered;
+pub use sound::SoundEnv;
+pub use statement::{statement, statements};
+pub use structs::structured;
+pub use within::Within;

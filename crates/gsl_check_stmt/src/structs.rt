@@ -1,0 +1,121 @@
+//! Structs.
+
+ghost use Rattle.std.specs.Prelude.{◌≡◌, ◌<◌, ◌≤◌, ◌++◌, ◌∷◌, [], IfOk, length};
+ghost use Rattle.std.specs.List.{AllByRecursion};
+ghost use Rattle.gsl_base.specs.Checked.{Gives};
+ghost use Rattle.gsl_types.specs.Known.{AreStructs, IsSound};
+ghost use Rattle.gsl_types.specs.declared.ty.Member.{Member as OneMember};
+ghost use Rattle.gsl_tree.specs.Weights.{height_of, most_high};
+ghost use Rattle.gsl_makers.specs.Heights.{AreHeights};
+ghost use Rattle.gsl_check_stmt.specs.Structs as spec;
+
+use crate::asked::{is_declared, is_high, is_reserved, may_be_had};
+use crate::sound::SoundEnv;
+use gsl_base::{Code, List, Refusal, Text};
+use gsl_check_expr::{Env, Written, declared, whole_type, written_type};
+use gsl_syntax::{Declared, Name, Struct, StructMember};
+use gsl_types::{Member, Members, Ty};
+use gsl_typing::refuse;
+use std::alloc::Global;
+
+/// Whether one of the members has a name.
+#[tactic(auto, unfolding(crate::specs::Structs::has_member))]
+fn has_member(members: &[Member], name: &Text) -> bool
+    ensures { result ≡ spec.has_member members.now name.now }
+{
+    members.iter().any(|member| member.name == *name)
+}
+
+/// Whether a member may be declared behind others.
+#[tactic(auto, unfolding(crate::specs::Structs::may_be_member))]
+fn may_be_member(env: &Env, name: &Name, ty: &Ty, members: &[Member]) -> Result<(), Refusal>
+    requires heights { AreHeights env.now.scene.structs env.now.heights }
+    ensures { Gives result (spec.may_be_member env.now.scene name.now ty.now members.now) }
+{
+    if has_member(members, &name.text) {
+        return Err(refuse(name.place, Code::E0403));
+    }
+    if is_reserved(&name.text) {
+        return Err(refuse(name.place, Code::E0404));
+    }
+    if !may_be_had(&env.scene, ty) {
+        return Err(refuse(name.place, Code::E0510));
+    }
+    if is_high(env, ty) {
+        return Err(refuse(name.place, Code::E0908));
+    }
+    Ok(())
+}
+
+/// The members of one line, behind those before it.
+fn with_names(
+    alloc: Global,
+    env: &Env,
+    base: &Written,
+    names: &[Declared],
+    members: Members,
+) -> Result<Members, Refusal>
+    requires known { AreStructs env.now.scene.structs }
+    requires heights { AreHeights env.now.scene.structs env.now.heights }
+    requires sound { AllByRecursion (λ (member : OneMember). IsSound (length env.now.scene.structs) member.ty) members }
+    ensures gives { Gives result (spec.with_names env.now base.now names.now members) }
+    ensures sound { OnOk result (λ (all : Plain OneMember). AllByRecursion (λ (member : OneMember). IsSound (length env.now.scene.structs) member.ty) all) }
+{
+    let mut members = members;
+    for k in 0..names.len() {
+        let one = &names[k];
+        let ty = whole_type(declared(alloc, env, base, one.dims.as_slice())?)?;
+        may_be_member(env, &one.name, &ty, members.as_slice())?;
+        let name = Text::from_str(alloc, one.name.text.as_str())?;
+        members.push(Member { name, ty })?;
+    }
+    Ok(members)
+}
+
+/// The members of all lines.
+fn with_lines(alloc: Global, env: &Env, lines: &[StructMember]) -> Result<Members, Refusal>
+    requires known { AreStructs env.now.scene.structs }
+    requires heights { AreHeights env.now.scene.structs env.now.heights }
+    ensures gives { Gives result (spec.with_lines env.now lines.now []) }
+    ensures sound { OnOk result (λ (all : Plain OneMember). AllByRecursion (λ (member : OneMember). IsSound (length env.now.scene.structs) member.ty) all) }
+{
+    let mut members = List::new(alloc);
+    for k in 0..lines.len() {
+        let line = &lines[k];
+        let base = written_type(alloc, env, &line.ty)?;
+        members = with_names(alloc, env, &base, line.names.as_slice(), members)?;
+    }
+    Ok(members)
+}
+
+/// Whether a struct of a name and members may be declared.
+#[tactic(auto, unfolding(crate::specs::Structs::may_be_struct))]
+fn may_be_struct(env: &Env, name: &Name, members: &Members) -> Result<(), Refusal>
+    requires heights { AreHeights env.now.scene.structs env.now.heights }
+    ensures { Gives result (spec.may_be_struct name.now members.now env.now) }
+{
+    if is_declared(env, &name.text) {
+        return Err(refuse(name.place, Code::E0403));
+    }
+    if is_reserved(&name.text) {
+        return Err(refuse(name.place, Code::E0404));
+    }
+    if is_too_large(env, &name.text, members) {
+        return Err(refuse(name.place, Code::E0908));
+    }
+    Ok(())
+}
+
+/// A struct, and its number.
+#[tactic(auto, unfolding(crate::specs::Structs::structured))]
+pub fn structured(
+    alloc: Global,
+    env: SoundEnv,
+    s: &Struct,
+) -> Result<(u32, SoundEnv), Refusal>
+    ensures { Gives result (spec.structured s.now env) }
+{
+    let members = with_lines(alloc, env.get(), s.members.as_slice())?;
+    may_be_struct(env.get(), &s.name, &members)?;
+    Ok(env.with_struct(alloc, &s.name.text, members)?)
+}
