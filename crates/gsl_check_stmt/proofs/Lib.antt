@@ -1,3 +1,4 @@
 pub mod Longer
+pub mod Pushed
 pub mod Turns
 pub mod Parts

@@ -1,5 +1,6 @@
 -- What each statement stands for, from what its parts stand for.
 use Rattle.std.proofs.Common.{◌≡◌, refl, sym, ap, ◌∙◌, ℕ, List, [], ◌∷◌, map, Ok, Option, Some, None}
+use Rattle.gsl_base.specs.Checked.{◌>>=◌}
 use Rattle.gsl_base.specs.declared.fault.Place.{Place}
 use Rattle.gsl_syntax.specs.declared.expr.Expr.{Expr as Phrase}
 use Rattle.gsl_syntax.specs.declared.declaration.Decl.{Decl}
@@ -14,10 +15,9 @@ use Rattle.gsl_types.specs.declared.ty.Ty.{Ty}
 use Rattle.gsl_tree.specs.declared.stmt.Stmt.TheVariants as stmt
 use Rattle.gsl_check_expr.specs.declared.env.Env.{Env}
 use Rattle.gsl_check_stmt.specs.declared.within.Within.{Within}
-use Rattle.gsl_check_stmt.specs.Steps.{scoped}
 use Rattle.gsl_check_stmt.specs.Rules.{broken, continued, discarded, returned}
 use Rattle.gsl_check_stmt.specs.Switches.{misplaced_default}
-use Rattle.gsl_check_stmt.specs.Statements.{Answer, answer, statement, by_parts, Label, Case, Default, declaration, in_row, still, evaluated, stray_case, return_with, block, branch, branches, switch, while_loop, for_loop, do_loop}
+use Rattle.gsl_check_stmt.specs.Statements.{Answer, answer, statement, by_parts, Label, Case, Default, declaration, in_row, still, evaluated, stray_case, return_with, block, branch, branches, switch, while_head, for_head, looped, do_loop}
 
 -- two maps as one
 map_map : {A B C : Type 0} (f : A → B) (g : B → C) (l : List A) → map g (map f l) ≡ map (λ x. g (f x)) l
@@ -121,13 +121,13 @@ module _ (r : Ty) (w : Within) (env : Env) where
   pub of-Default : (p : Place) → statement r (syntax.Default p) w env ≡ still (misplaced_default p) env
   of-Default p = ap (λ a. a.step w env) (is-Default r p)
 
-  pub of-While : (p : Place) (t : Phrase) (a : Syntax) → statement r (syntax.While p t a) w env ≡ scoped (while_loop p t (answer r a).step) env
+  pub of-While : (p : Place) (t : Phrase) (a : Syntax) → statement r (syntax.While p t a) w env ≡ (while_head t env >>= looped p (answer r a).step)
   of-While p t a = ap (λ a. a.step w env) (is-While r p t a)
 
   pub of-Do : (p : Place) (a : Syntax) (t : Phrase) → statement r (syntax.Do p a t) w env ≡ do_loop p (answer r a).step t env
   of-Do p a t = ap (λ a. a.step w env) (is-Do r p a t)
 
-  pub of-For : (p : Place) (i : ForInit) (t n : Option Phrase) (a : Syntax) → statement r (syntax.For p i t n a) w env ≡ scoped (for_loop p i t n (answer r a).step) env
+  pub of-For : (p : Place) (i : ForInit) (t n : Option Phrase) (a : Syntax) → statement r (syntax.For p i t n a) w env ≡ (for_head i t n env >>= looped p (answer r a).step)
   of-For p i t n a = ap (λ a. a.step w env) (is-For r p i t n a)
 
   pub of-Break : (p : Place) → statement r (syntax.Break p) w env ≡ still (broken w p) env
@@ -150,33 +150,55 @@ pub ruleset steps = (of-Empty, of-Block, of-Decl, of-Expr, of-If, of-IfElse, of-
 -- ---- labels
 
 module _ (r : Ty) where
+  pub label-Empty : (p : Place) → (answer r (syntax.Empty p)).label ≡ None
+  label-Empty p = ap (λ a. a.label) (is-Empty r p)
+
+  pub label-Block : (p : Place) (all : List Syntax) → (answer r (syntax.Block p all)).label ≡ None
+  label-Block p all = ap (λ a. a.label) (is-Block r p all)
+
+  pub label-Decl : (d : Decl) → (answer r (syntax.Decl d)).label ≡ None
+  label-Decl d = ap (λ a. a.label) (is-Decl r d)
+
+  pub label-Expr : (e : Phrase) → (answer r (syntax.Expr e)).label ≡ None
+  label-Expr e = ap (λ a. a.label) (is-Expr r e)
+
+  pub label-If : (p : Place) (t : Phrase) (a : Syntax) → (answer r (syntax.If p t a)).label ≡ None
+  label-If p t a = ap (λ a. a.label) (is-If r p t a)
+
+  pub label-IfElse : (p : Place) (t : Phrase) (a b : Syntax) → (answer r (syntax.IfElse p t a b)).label ≡ None
+  label-IfElse p t a b = ap (λ a. a.label) (is-IfElse r p t a b)
+
+  pub label-Switch : (p : Place) (e : Phrase) (all : List Syntax) → (answer r (syntax.Switch p e all)).label ≡ None
+  label-Switch p e all = ap (λ a. a.label) (is-Switch r p e all)
+
   pub label-Case : (p : Place) (e : Phrase) → (answer r (syntax.Case p e)).label ≡ Some (Case p e)
   label-Case p e = ap (λ a. a.label) (is-Case r p e)
 
   pub label-Default : (p : Place) → (answer r (syntax.Default p)).label ≡ Some (Default p)
   label-Default p = ap (λ a. a.label) (is-Default r p)
 
-  module _ (x : Syntax) (not_case : (p : Place) (e : Phrase) → x ≡ syntax.Case p e → ⊥) (not_default : (p : Place) → x ≡ syntax.Default p → ⊥) where
-    by_layer : (layer : Stmt-F Syntax) → x ≡ roll-Stmt layer → (answer r x).label ≡ None
-    by_layer (Stmt-F.Empty p) is = ap (λ y. (answer r y).label) (is ∙ rolls-Empty p) ∙ ap (λ a. a.label) (is-Empty r p)
-    by_layer (Stmt-F.Block p all) is = ap (λ y. (answer r y).label) (is ∙ rolls-Block p all) ∙ ap (λ a. a.label) (is-Block r p all)
-    by_layer (Stmt-F.Decl d) is = ap (λ y. (answer r y).label) (is ∙ rolls-Decl d) ∙ ap (λ a. a.label) (is-Decl r d)
-    by_layer (Stmt-F.Expr e) is = ap (λ y. (answer r y).label) (is ∙ rolls-Expr e) ∙ ap (λ a. a.label) (is-Expr r e)
-    by_layer (Stmt-F.If p t a) is = ap (λ y. (answer r y).label) (is ∙ rolls-If p t a) ∙ ap (λ a. a.label) (is-If r p t a)
-    by_layer (Stmt-F.IfElse p t a b) is = ap (λ y. (answer r y).label) (is ∙ rolls-IfElse p t a b) ∙ ap (λ a. a.label) (is-IfElse r p t a b)
-    by_layer (Stmt-F.Switch p e all) is = ap (λ y. (answer r y).label) (is ∙ rolls-Switch p e all) ∙ ap (λ a. a.label) (is-Switch r p e all)
-    by_layer (Stmt-F.Case p e) is = let never : ⊥ = not_case p e (is ∙ rolls-Case p e) in elim never [ ]
-    by_layer (Stmt-F.Default p) is = let never : ⊥ = not_default p (is ∙ rolls-Default p) in elim never [ ]
-    by_layer (Stmt-F.While p t a) is = ap (λ y. (answer r y).label) (is ∙ rolls-While p t a) ∙ ap (λ a. a.label) (is-While r p t a)
-    by_layer (Stmt-F.Do p a t) is = ap (λ y. (answer r y).label) (is ∙ rolls-Do p a t) ∙ ap (λ a. a.label) (is-Do r p a t)
-    by_layer (Stmt-F.For p i t n a) is = ap (λ y. (answer r y).label) (is ∙ rolls-For p i t n a) ∙ ap (λ a. a.label) (is-For r p i t n a)
-    by_layer (Stmt-F.Break p) is = ap (λ y. (answer r y).label) (is ∙ rolls-Break p) ∙ ap (λ a. a.label) (is-Break r p)
-    by_layer (Stmt-F.Continue p) is = ap (λ y. (answer r y).label) (is ∙ rolls-Continue p) ∙ ap (λ a. a.label) (is-Continue r p)
-    by_layer (Stmt-F.Discard p) is = ap (λ y. (answer r y).label) (is ∙ rolls-Discard p) ∙ ap (λ a. a.label) (is-Discard r p)
-    by_layer (Stmt-F.Return p) is = ap (λ y. (answer r y).label) (is ∙ rolls-Return p) ∙ ap (λ a. a.label) (is-Return r p)
-    by_layer (Stmt-F.ReturnValue p e) is = ap (λ y. (answer r y).label) (is ∙ rolls-ReturnValue p e) ∙ ap (λ a. a.label) (is-ReturnValue r p e)
+  pub label-While : (p : Place) (t : Phrase) (a : Syntax) → (answer r (syntax.While p t a)).label ≡ None
+  label-While p t a = ap (λ a. a.label) (is-While r p t a)
 
-    pub no_label : (answer r x).label ≡ None
-    no_label = by_layer (out-Stmt x) (sym (roll-out-Stmt x))
+  pub label-Do : (p : Place) (a : Syntax) (t : Phrase) → (answer r (syntax.Do p a t)).label ≡ None
+  label-Do p a t = ap (λ a. a.label) (is-Do r p a t)
 
-pub ruleset labels = (label-Case, label-Default)
+  pub label-For : (p : Place) (i : ForInit) (t n : Option Phrase) (a : Syntax) → (answer r (syntax.For p i t n a)).label ≡ None
+  label-For p i t n a = ap (λ a. a.label) (is-For r p i t n a)
+
+  pub label-Break : (p : Place) → (answer r (syntax.Break p)).label ≡ None
+  label-Break p = ap (λ a. a.label) (is-Break r p)
+
+  pub label-Continue : (p : Place) → (answer r (syntax.Continue p)).label ≡ None
+  label-Continue p = ap (λ a. a.label) (is-Continue r p)
+
+  pub label-Discard : (p : Place) → (answer r (syntax.Discard p)).label ≡ None
+  label-Discard p = ap (λ a. a.label) (is-Discard r p)
+
+  pub label-Return : (p : Place) → (answer r (syntax.Return p)).label ≡ None
+  label-Return p = ap (λ a. a.label) (is-Return r p)
+
+  pub label-ReturnValue : (p : Place) (e : Phrase) → (answer r (syntax.ReturnValue p e)).label ≡ None
+  label-ReturnValue p e = ap (λ a. a.label) (is-ReturnValue r p e)
+
+pub ruleset labels = (label-Empty, label-Block, label-Decl, label-Expr, label-If, label-IfElse, label-Switch, label-Case, label-Default, label-While, label-Do, label-For, label-Break, label-Continue, label-Discard, label-Return, label-ReturnValue)

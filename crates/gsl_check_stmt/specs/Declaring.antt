@@ -1,5 +1,5 @@
 -- What is asked of whatever is declared: of its name, and of its type.
-use Rattle.std.specs.Prelude.{ℕ, Bool, not, ◌&&◌, is_some, nat_le, List, [], ◌∷◌, take, length}
+use Rattle.std.specs.Prelude.{ℕ, Bool, true, false, not, ◌&&◌, is_some, nat_le, List, [], ◌∷◌, take, length}
 use Rattle.std.specs.Str.{bytes_eq}
 use Rattle.gsl_types.specs.Known.{sound}
 use Rattle.gsl_types.specs.declared.ty.Ty.{Ty}
@@ -8,6 +8,10 @@ use Rattle.gsl_tree.specs.WellTyped.{is_plain}
 use Rattle.gsl_names.specs.Scopes.{find_here}
 use Rattle.gsl_typing.specs.declared.scene.Scene.{Scene}
 use Rattle.gsl_check_expr.specs.declared.env.Env.{Env}
+
+abbrev pub is_empty : {A : Type 0} → List A → Bool
+is_empty [] = true
+is_empty (x ∷ xs) = false
 
 -- ---- names (GLSL 4.50, 3.7 and 4.2.2)
 

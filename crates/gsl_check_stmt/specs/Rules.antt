@@ -2,6 +2,7 @@
 use Rattle.std.specs.Prelude.{Bool, not, ◌&&◌, List, [], ◌∷◌, Option, Some, None, Ok, if◌then◌else◌}
 use Rattle.gsl_base.specs.Checked.{Checked, ◌>>=◌}
 use Rattle.gsl_base.specs.declared.fault.Place.{Place}
+use Rattle.gsl_base.specs.declared.fault.Code.{Code}
 use Rattle.gsl_base.specs.declared.fault.Code.TheVariants.{E0503, E0504, E0507, E0510, E0512, E0513, E0514}
 use Rattle.gsl_base.specs.declared.stage.Stage.{Stage}
 use Rattle.gsl_base.specs.declared.stage.Stage.TheVariants.{Vertex, Fragment, Compute}
@@ -14,7 +15,7 @@ use Rattle.gsl_tree.specs.declared.stmt.Stmt.TheVariants as stmt
 use Rattle.gsl_tree.specs.Trees.{place_of}
 use Rattle.gsl_typing.specs.declared.scene.Scene.{Scene}
 use Rattle.gsl_typing.specs.declared.scene.Part.{Part}
-use Rattle.gsl_typing.specs.Rows.{unless}
+use Rattle.gsl_typing.specs.Rows.{fault, unless}
 use Rattle.gsl_typing.specs.Scene.{type_in}
 use Rattle.gsl_typing.specs.Conversions.{serves_as, as_type}
 use Rattle.gsl_typing.specs.Uses.{is_unread, is_bool, is_runtime, whole}
@@ -24,9 +25,14 @@ use Rattle.gsl_check_stmt.specs.declared.within.Within.{Within}
 unfoldable pub alone : Scene → Part → Checked Part
 alone scene x = unless (place_of x.expr) ((E0507, is_unread scene x) ∷ (E0510, is_runtime x) ∷ []) (whole scene x)
 
--- the condition of an `if` or a loop, a `bool`
-unfoldable pub condition : Scene → Place → Part → Checked Expr
-condition scene place test = unless place ((E0503, not (is_bool test)) ∷ (E0507, is_unread scene test) ∷ []) (Ok test.expr)
+-- the fault of a condition, which is a `bool`
+unfoldable pub condition_fault : Scene → Part → Option Code
+condition_fault scene test = if not (is_bool test) then Some E0503 else (if is_unread scene test then Some E0507 else None)
+
+-- What a statement over its parts is, where its condition has this fault or none: conditions are asked behind all parts.
+abbrev pub unless_wrong : {A : Type 0} → Place → Option Code → Checked A → Checked A
+unless_wrong place None node = node
+unless_wrong place (Some code) node = fault place code
 
 -- ---- jumps
 

@@ -1,7 +1,8 @@
 -- The typed statement that a statement stands for, and what is declared behind it; or its first fault (GLSL 4.50, chapter 6).
-use Rattle.std.specs.Prelude.{ℕ, Bool, true, false, List, [], ◌∷◌, map, length, Option, Some, None, Ok, if◌then◌else◌}
+use Rattle.std.specs.Prelude.{ℕ, is_some, Bool, true, false, List, [], ◌∷◌, map, length, Option, Some, None, Ok, if◌then◌else◌}
 use Rattle.gsl_base.specs.Checked.{Checked, ◌>>=◌}
 use Rattle.gsl_base.specs.declared.fault.Place.{Place}
+use Rattle.gsl_base.specs.declared.fault.Code.{Code}
 use Rattle.gsl_base.specs.declared.fault.Code.TheVariants.{E0701}
 use Rattle.gsl_syntax.specs.declared.expr.Expr.{Expr as Phrase}
 use Rattle.gsl_syntax.specs.declared.expr.TypeSpec.{TypeSpec}
@@ -33,7 +34,7 @@ use Rattle.gsl_check_stmt.specs.declared.gathered.Gathered.{Gathered}
 use Rattle.gsl_check_stmt.specs.Steps.{Step, in_turn, as_one, opened, closed, scoped}
 use Rattle.gsl_check_stmt.specs.Locals.{qualified, declarator}
 use Rattle.gsl_check_stmt.specs.Structs.{structured}
-use Rattle.gsl_check_stmt.specs.Rules.{alone, condition, broken, continued, discarded, returned, returned_value}
+use Rattle.gsl_check_stmt.specs.Rules.{alone, condition_fault, unless_wrong, broken, continued, discarded, returned, returned_value}
 use Rattle.gsl_check_stmt.specs.Switches.{nothing, with_case, with_stmt, case_word, default_label, misplaced_case, misplaced_default, switched}
 
 -- ---- declarations among statements
@@ -102,20 +103,19 @@ group steps env = in_turn steps env >>= (λ done. Ok (stmt.Group done.0, done.1)
 unfoldable pub block : List Step → Within → Step
 block steps within = if within.shared then group steps else scoped (group steps)
 
--- a statement as a part of another, in a scope of its own
-unfoldable pub part : (Within → Step) → Within → Step
-part step within = scoped (step (in_part within))
-
 -- ---- branches and loops: their parts from left to right, and then their conditions
 
--- a condition that may be missing
-unfoldable pub taken_if : Option Phrase → Env → Checked (Option Part)
-taken_if None env = Ok None
-taken_if (Some e) env = taken_expression env e >>= (λ x. Ok (Some x))
+-- a condition: its expression, and its fault if it has one
+abbrev pub Test : Type 0
+Test = Expr × Option Code
 
-abbrev pub condition_if : Scene → Place → Option Part → Checked (Option Expr)
-condition_if scene place None = Ok None
-condition_if scene place (Some x) = condition scene place x >>= (λ test. Ok (Some test))
+unfoldable pub tested : Phrase → Env → Checked Test
+tested e env = taken_expression env e >>= (λ x. Ok (x.expr, condition_fault env.scene x))
+
+-- a condition that may be missing
+unfoldable pub tested_if : Option Phrase → Env → Checked (Option Test)
+tested_if None env = Ok None
+tested_if (Some e) env = tested e env >>= (λ test. Ok (Some test))
 
 -- an expression that stands alone
 unfoldable pub eval : Phrase → Env → Checked Expr
@@ -146,58 +146,85 @@ abbrev pub behind_header : Option Stmt → Stmt → Stmt
 behind_header None loop = loop
 behind_header (Some first) loop = stmt.Group (first ∷ loop ∷ [])
 
--- behind its test and its step
-unfoldable pub looped : Place → Option Part → Option Expr → (Within → Step) → Step
-looped place test step body env = body in_loop env
-    >>= (λ done. condition_if env.scene place test >>= (λ holds. Ok (stmt.Loop holds step done.0 false, done.1)))
+-- the header of a loop: what stands first, the test, the step, and what is declared behind them in a scope of its own
+abbrev pub Head : Type 0
+Head = Option Stmt × Option Test × Option Expr × Env
 
-unfoldable pub while_loop : Place → Phrase → (Within → Step) → Step
-while_loop place test body env = taken_expression env test >>= (λ t. looped place (Some t) None body env)
+unfoldable pub while_head : Phrase → Env → Checked Head
+while_head test env = tested test (opened env) >>= (λ t. Ok (None, Some t, None, opened env))
 
-unfoldable pub for_loop : Place → ForInit → Option Phrase → Option Phrase → (Within → Step) → Step
-for_loop place init test step body env = header init env >>= (λ first. taken_if test first.1 >>= (λ t. eval_if step first.1
-    >>= (λ s. looped place t s body first.1 >>= (λ done. Ok (behind_header first.0 done.0, done.1)))))
+unfoldable pub for_head : ForInit → Option Phrase → Option Phrase → Env → Checked Head
+for_head init test step env = header init (opened env)
+    >>= (λ first. tested_if test first.1 >>= (λ t. eval_if step first.1 >>= (λ s. Ok (first.0, t, s, first.1))))
+
+-- a loop whose test comes first, if it has one
+unfoldable pub loop_of : Place → Option Test → Option Expr → Stmt → Checked Stmt
+loop_of place None step body = Ok (stmt.Loop None step body false)
+loop_of place (Some test) step body = unless_wrong place test.1 (Ok (stmt.Loop (Some test.0) step body false))
+
+unfoldable pub loop_done : Place → Option Stmt → Option Test → Option Expr → Stmt → Step
+loop_done place first test step body env = loop_of place test step body >>= (λ s. Ok (behind_header first s, closed env))
+
+-- a loop behind its header, whose scope its body shares
+unfoldable pub looped : Place → (Within → Step) → Head → Checked (Stmt × Env)
+looped place body head = body in_loop head.3 >>= (λ done. loop_done place head.0 head.1 head.2 done.0 done.1)
+
+-- a loop whose test comes last, behind its body
+unfoldable pub behind_body : Place → Phrase → Stmt → Step
+behind_body place test body env = tested test env >>= (λ t. unless_wrong place t.1 (Ok (stmt.Loop (Some t.0) None body true, env)))
 
 unfoldable pub do_loop : Place → (Within → Step) → Phrase → Step
-do_loop place body test env = part body in_loop env
-    >>= (λ done. taken_expression done.1 test >>= (λ t. condition done.1.scene place t >>= (λ holds. Ok (stmt.Loop (Some holds) None done.0 true, done.1))))
+do_loop place body test env = body in_loop (opened env) >>= (λ done. behind_body place test done.0 (closed done.1))
 
+-- the condition of an `if`, and the scope of what stands behind it
+unfoldable pub if_head : Phrase → Env → Checked (Test × Env)
+if_head test env = tested test env >>= (λ t. Ok (t, opened env))
+
+unfoldable pub if_done : Place → Test → Stmt → Option Stmt → Step
+if_done place test body other env = unless_wrong place test.1 (Ok (stmt.If test.0 body other, closed env))
+
+-- Each part of an `if` has a scope of its own.
 unfoldable pub branch : Place → Phrase → (Within → Step) → Within → Step
-branch place test body within env = taken_expression env test
-    >>= (λ t. part body within env >>= (λ done. condition env.scene place t >>= (λ holds. Ok (stmt.If holds done.0 None, done.1))))
+branch place test body within env = if_head test env >>= (λ head. body (in_part within) head.1 >>= (λ done. if_done place head.0 done.0 None done.1))
 
 unfoldable pub branches : Place → Phrase → (Within → Step) → (Within → Step) → Within → Step
-branches place test body other within env = taken_expression env test >>= (λ t. part body within env
-    >>= (λ done. part other within done.1 >>= (λ last. condition env.scene place t >>= (λ holds. Ok (stmt.If holds done.0 (Some last.0), last.1)))))
+branches place test body other within env = if_head test env >>= (λ head. body (in_part within) head.1
+    >>= (λ done. other (in_part within) (opened (closed done.1)) >>= (λ last. if_done place head.0 done.0 (Some last.0) last.1)))
 
 -- ---- the body of a `switch`
 
 unfoldable pub case_label : Ty → Place → Phrase → Gathered → Env → Checked Gathered
 case_label selector place e g env = taken_expression env e >>= (λ x. case_word env.scene selector g place x >>= (λ word. Ok (with_case g word)))
 
-abbrev pub labelled : Ty → Label → Gathered → Env → Checked Gathered
-labelled selector (Case place e) g env = case_label selector place e g env
-labelled selector (Default place) g env = default_label g place
+-- behind a label, if it is one
+unfoldable pub labelled : Ty → Option Label → Gathered → Env → Checked Gathered
+labelled selector None g env = Ok g
+labelled selector (Some (Case place e)) g env = case_label selector place e g env
+labelled selector (Some (Default place)) g env = default_label g place
 
-abbrev pub item_by : Option Label → Within → Ty → (Within → Step) → Gathered → Env → Checked (Gathered × Env)
-item_by (Some label) within selector step g env = labelled selector label g env >>= (λ more. Ok (more, env))
-item_by None within selector step g env = step within env >>= (λ done. Ok (with_stmt g done.0, done.1))
+-- behind a statement
+unfoldable pub stated : Within → (Within → Step) → Gathered → Env → Checked (Gathered × Env)
+stated within step g env = step within env >>= (λ done. Ok (with_stmt g done.0, done.1))
 
 -- a label, or a statement behind labels
-unfoldable pub item : Within → Ty → Answer → Gathered → Env → Checked (Gathered × Env)
-item within selector a g env = item_by a.label within selector a.step g env
+abbrev pub item : Within → Ty → Answer → Gathered → Env → Checked (Gathered × Env)
+item within selector a g env = if is_some a.label then labelled selector a.label g env >>= (λ more. Ok (more, env)) else stated within a.step g env
 
 abbrev pub items : Within → Ty → List Answer → Gathered → Env → Checked (Gathered × Env)
 items within selector [] g env = Ok (g, env)
 items within selector (a ∷ answers) g env = item within selector a g env >>= (λ done. items within selector answers done.0 done.1)
 
--- the arms of a `switch`
-unfoldable pub arms : Place → Part → List Answer → Within → Step
-arms place selector answers within env = items (in_switch within) (type_in selector) answers nothing env
-    >>= (λ done. switched done.1.scene place selector done.0 >>= (λ s. Ok (s, done.1)))
+-- a `switch` behind its selector and its body
+unfoldable pub arms : Place → Part → Gathered → Step
+arms place selector g env = switched env.scene place selector g >>= (λ s. Ok (s, closed env))
+
+-- the selector of a `switch`, and the scope of its body
+unfoldable pub switch_head : Phrase → Env → Checked (Part × Env)
+switch_head e env = taken_expression env e >>= (λ selector. Ok (selector, opened env))
 
 unfoldable pub switch : Place → Phrase → List Answer → Within → Step
-switch place e answers within env = taken_expression env e >>= (λ selector. scoped (arms place selector answers within) env)
+switch place e answers within env = switch_head e env
+    >>= (λ head. items (in_switch within) (type_in head.0) answers nothing head.1 >>= (λ done. arms place head.0 done.0 done.1))
 
 -- ---- each form, from what its parts stand for, in a function of this result
 
@@ -211,9 +238,9 @@ by_parts result (Stmt-F.IfElse place test body other) = plain (branches place te
 by_parts result (Stmt-F.Switch place e answers) = plain (switch place e answers)
 by_parts result (Stmt-F.Case place e) = record { step = λ within. stray_case place e; label = Some (Case place e) }
 by_parts result (Stmt-F.Default place) = record { step = λ within. still (misplaced_default place); label = Some (Default place) }
-by_parts result (Stmt-F.While place test body) = plain (λ within. scoped (while_loop place test body.step))
+by_parts result (Stmt-F.While place test body) = plain (λ within env. while_head test env >>= looped place body.step)
 by_parts result (Stmt-F.Do place body test) = plain (λ within. do_loop place body.step test)
-by_parts result (Stmt-F.For place init test step body) = plain (λ within. scoped (for_loop place init test step body.step))
+by_parts result (Stmt-F.For place init test step body) = plain (λ within env. for_head init test step env >>= looped place body.step)
 by_parts result (Stmt-F.Break place) = plain (λ within. still (broken within place))
 by_parts result (Stmt-F.Continue place) = plain (λ within. still (continued within place))
 by_parts result (Stmt-F.Discard place) = plain (λ within env. still (discarded env.scene.stage place) env)

@@ -1,5 +1,5 @@
 -- Structs (GLSL 4.50, 4.1.8).
-use Rattle.std.specs.Prelude.{ℕ, ◌+◌, Bool, not, ◌||◌, nat_le, List, [], ◌∷◌, ◌++◌, map, length, Ok}
+use Rattle.std.specs.Prelude.{ℕ, ◌+◌, min, Bool, not, ◌||◌, nat_le, List, [], ◌∷◌, ◌++◌, map, length, Ok}
 use Rattle.std.specs.List.{list_any}
 use Rattle.std.specs.Str.{bytes_eq}
 use Rattle.gsl_base.specs.Checked.{Checked, ◌>>=◌}
@@ -11,19 +11,19 @@ use Rattle.gsl_syntax.specs.declared.declaration.Struct.{Struct}
 use Rattle.gsl_types.specs.declared.ty.Member.{Member}
 use Rattle.gsl_types.specs.declared.ty.StructType.{StructType}
 use Rattle.gsl_types.specs.declared.ty.Ty.{Ty}
-use Rattle.gsl_types.specs.declared.ty.Ty.TheVariants as ty
-use Rattle.gsl_types.specs.Leaves.{told_leaves}
+use Rattle.gsl_types.specs.Structs.{members_meaning}
+use Rattle.gsl_types.specs.Leaves.{counting, leaves_together, most_leaves}
 use Rattle.gsl_names.specs.declared.entry.Entry.TheVariants as entry
 use Rattle.gsl_names.specs.Scopes.{declare}
 use Rattle.gsl_tree.specs.Expressions.{most_parts}
-use Rattle.gsl_tree.specs.Weights.{height_of, most_high}
+use Rattle.gsl_tree.specs.Weights.{highest, height_meaning, most_high}
 use Rattle.gsl_typing.specs.declared.scene.Scene.{Scene}
 use Rattle.gsl_typing.specs.Rows.{unless}
 use Rattle.gsl_check_expr.specs.declared.env.Env.{Env}
 use Rattle.gsl_check_expr.specs.declared.writing.Written.{Written}
 use Rattle.gsl_check_expr.specs.Expressions.{bracket}
 use Rattle.gsl_check_expr.specs.Written.{written_type, declared, whole_type}
-use Rattle.gsl_check_stmt.specs.Declaring.{is_declared, is_reserved, may_be_had, is_high}
+use Rattle.gsl_check_stmt.specs.Declaring.{is_empty, is_declared, is_reserved, may_be_had, is_high}
 
 -- ---- members
 
@@ -59,39 +59,40 @@ with_lines env (line ∷ lines) members = written_type env line.ty >>= (λ base.
 
 -- ---- the struct
 
--- the structs with one more of this name and these members
-abbrev pub longer_by : List StructType → List ℕ → List Member → ℕ → List StructType
-longer_by structs name members leaves = structs ++ record { name = name; members = members; leaves = leaves } ∷ []
+-- the leaves of members together, as they are told
+abbrev pub leaves_together_told : List StructType → List Member → ℕ
+leaves_together_told structs members = min (leaves_together (members_meaning counting structs members)) most_leaves
 
--- the leaves that the next struct tells
-abbrev pub leaves_told : List StructType → List ℕ → List Member → ℕ
-leaves_told structs name members = told_leaves (longer_by structs name members 0) (ty.Struct (length structs))
-
--- how high the next struct is
-abbrev pub next_height : List StructType → List ℕ → List Member → ℕ
-next_height structs name members = height_of (longer_by structs name members 0) (ty.Struct (length structs))
+-- how high a struct of these members is: one more than the highest of them
+abbrev pub height_over : List StructType → List Member → ℕ
+height_over structs members = 1 + highest (members_meaning height_meaning structs members)
 
 -- more members than a struct may have, or a type that is higher than types may be
-unfoldable pub is_too_large : Scene → List ℕ → List Member → Bool
-is_too_large scene name members = not (nat_le (length members) most_parts) || not (nat_le (next_height scene.structs name members) most_high)
+unfoldable pub is_too_large : Scene → List Member → Bool
+is_too_large scene members = not (nat_le (length members) most_parts) || not (nat_le (height_over scene.structs members) most_high)
+
+-- the struct of this name and these members
+abbrev pub struct_of : List StructType → List ℕ → List Member → StructType
+struct_of structs name members = record { name = name; members = members; leaves = leaves_together_told structs members }
 
 -- what is declared behind a struct of these members; its height is kept beside it
 unfoldable pub with_struct : List ℕ → List Member → Env → Env
 with_struct name members env = record env {
   names = declare name (entry.Struct (length env.scene.structs)) env.names;
-  scene = record env.scene { structs = longer_by env.scene.structs name members (leaves_told env.scene.structs name members) };
-  heights = env.heights ++ next_height env.scene.structs name members ∷ [];
+  scene = record env.scene { structs = env.scene.structs ++ struct_of env.scene.structs name members ∷ [] };
+  heights = env.heights ++ height_over env.scene.structs members ∷ [];
 }
 
--- a struct of these members may be declared
-unfoldable pub may_be_struct : Name → List Member → Env → Checked (Unit {0})
+-- How high a struct of these members is, which may be declared. The grammar gives each struct a member; a type without one is no type of variables.
+unfoldable pub may_be_struct : Name → List Member → Env → Checked ℕ
 may_be_struct name members env = unless name.place (
     (E0403, is_declared env name.text)
     ∷ (E0404, is_reserved name.text)
-    ∷ (E0908, is_too_large env.scene name.text members)
+    ∷ (E0510, is_empty members)
+    ∷ (E0908, is_too_large env.scene members)
     ∷ []
     )
-    (Ok tt)
+    (Ok (height_over env.scene.structs members))
 
 -- The number of a struct, which is declared behind its members, and what is declared behind it.
 unfoldable pub structured : Struct → Env → Checked (ℕ × Env)

@@ -22,6 +22,7 @@ use Rattle.gsl_typing.specs.Uses.{is_unread}
 use Rattle.gsl_makers.specs.Paths.{is_index}
 use Rattle.gsl_check_expr.specs.Sizes.{is_not_constant, is_left_open, word_of}
 use Rattle.gsl_check_stmt.specs.declared.gathered.Gathered.{Gathered}
+use Rattle.gsl_check_stmt.specs.Declaring.{is_empty}
 
 -- ---- arms, as they are read from left to right
 
@@ -36,10 +37,6 @@ last_arm g = roll-Arm (record { labels = g.labels; is_default = g.is_default; bo
 -- behind the end of the arm that is read
 abbrev pub behind_arm : Gathered → Gathered
 behind_arm g = record g { arms = g.arms ++ last_arm g ∷ []; labels = []; is_default = false; body = [] }
-
-abbrev pub is_empty : {A : Type 0} → List A → Bool
-is_empty [] = true
-is_empty (x ∷ xs) = false
 
 -- where a label may be put: statements behind labels end their arm
 abbrev pub at_label : Gathered → Gathered

@@ -1,7 +1,7 @@
 //! What is asked of whatever is declared.
 
-ghost use Rattle.std.specs.Prelude.{◌≡◌, length};
-ghost use Rattle.gsl_types.specs.Known.{sound};
+ghost use Rattle.std.specs.Prelude.{◌≡◌, IsTrue, length};
+ghost use Rattle.gsl_types.specs.Known.{IsSound, sound};
 ghost use Rattle.gsl_tree.specs.WellTyped.{is_plain as is_plain_type};
 ghost use Rattle.gsl_makers.specs.Heights.{AreHeights};
 ghost use Rattle.gsl_check_stmt.specs.Declaring as spec;
@@ -55,7 +55,8 @@ fn is_sound(count: usize, ty: &Ty) -> bool
 /// Whether variables and members may have a type.
 #[tactic(auto, unfolding(crate::specs::Declaring::may_be_had))]
 pub fn may_be_had(scene: &Scene, ty: &Ty) -> bool
-    ensures { result ≡ spec.may_be_had scene.now ty.now }
+    ensures is { result ≡ spec.may_be_had scene.now ty.now }
+    ensures sound { IsTrue result → IsSound (length scene.now.structs) ty.now }
 {
     is_plain(ty) && is_sound(scene.structs.len(), ty)
 }

@@ -6,18 +6,20 @@
 #![tactic(auto)]
 
 mod asked;
-mod declaration;
+mod declarations;
 mod gathered;
+mod heads;
+mod heights;
 mod locals;
 mod rules;
 mod sound;
-mod statement;
+mod walk;
 mod structs;
 mod within;
 
 pub use asked::{is_declared, is_high, is_reserved, may_be_had};
 pub use gathered::Gathered;
 pub use sound::SoundEnv;
-pub use statement::{statement, statements};
+pub use walk::{statement, statements};
 pub use structs::structured;
 pub use within::Within;

@@ -28,18 +28,18 @@ pub(crate) fn alone(scene: &Scene, x: Part) -> Result<Part, Refusal>
     whole(scene, x)
 }
 
-/// The condition of an `if` or a loop.
-#[tactic(auto, unfolding(crate::specs::Rules::condition))]
-pub(crate) fn condition(scene: &Scene, place: Place, test: Part) -> Result<Expr, Refusal>
-    ensures { Gives result (spec.condition scene.now place test) }
+/// The fault of a condition, if it has one.
+#[tactic(auto, unfolding(crate::specs::Rules::condition_fault))]
+pub(crate) fn condition_fault(scene: &Scene, test: &Part) -> Option<Code>
+    ensures { result ≡ spec.condition_fault scene.now test.now }
 {
-    if !is_bool(&test) {
-        return Err(refuse(place, Code::E0503));
+    if !is_bool(test) {
+        Some(Code::E0503)
+    } else if is_unread(scene, test) {
+        Some(Code::E0507)
+    } else {
+        None
     }
-    if is_unread(scene, &test) {
-        return Err(refuse(place, Code::E0507));
-    }
-    Ok(test.expr)
 }
 
 #[tactic(auto, unfolding(crate::specs::Rules::broken))]

@@ -1,10 +1,9 @@
 //! What is declared so far, with what is known of it.
 
-ghost use Rattle.std.specs.Prelude.{◌≡◌, length, IfOk};
+ghost use Rattle.std.specs.Prelude.{◌≡◌, ◌<◌, length, IfOk};
 ghost use Rattle.std.specs.List.{AllByRecursion};
 ghost use Rattle.gsl_types.specs.Known.{AreStructs, IsSound};
 ghost use Rattle.gsl_types.specs.declared.ty.Member.{Member as OneMember};
-ghost use Rattle.gsl_tree.specs.Weights.{most_high};
 ghost use Rattle.gsl_makers.specs.Heights.{AreHeights};
 ghost use Rattle.gsl_check_stmt.specs.Steps as steps;
 ghost use Rattle.gsl_check_stmt.specs.Locals as locals;
@@ -26,6 +25,7 @@ pub struct SoundEnv {
 }
 
 impl Model for SoundEnv {
+    ghost use Rattle.std.specs.Prelude.{◌≡◌, length};
     ghost use Rattle.gsl_types.specs.Known.{AreStructs};
     ghost use Rattle.gsl_makers.specs.Heights.{AreHeights};
     ghost use Rattle.gsl_check_expr.specs.declared.env.Env.{Env as Seen};
@@ -37,7 +37,7 @@ impl Model for SoundEnv {
 
     ghost view = { λ s. s.env };
 
-    ghost invariant = { λ s. AreStructs s.env.scene.structs × AreHeights s.env.scene.structs s.env.heights };
+    ghost invariant = { λ s. AreStructs s.env.scene.structs × AreHeights s.env.scene.structs s.env.heights × (length s.env.heights ≡ length s.env.scene.structs) };
 }
 
 /// The number of what stands behind so many others. What no word counts has no room.
@@ -55,6 +55,7 @@ impl SoundEnv {
     pub fn new(env: Env) -> SoundEnv
         requires known { AreStructs env.scene.structs }
         requires heights { AreHeights env.scene.structs env.heights }
+        requires count { length env.heights ≡ length env.scene.structs }
         ensures { result ≡ env }
     {
         SoundEnv { env }
@@ -145,6 +146,45 @@ impl SoundEnv {
         scene.consts.locals.push(folded)?;
         let name = Text::from_str(alloc, name.as_str())?;
         let names = names.with(alloc, name, Entry::Local(number, fixed))?;
+        Ok((
+            number,
+            SoundEnv {
+                env: Env {
+                    names,
+                    scene,
+                    heights,
+                },
+            },
+        ))
+    }
+
+    /// Behind one more struct, which is so high. Its number comes with it.
+    #[tactic(auto, unfolding(crate::specs::Structs::with_struct), using(crate::proofs::Longer::longer_heights))]
+    pub(crate) fn with_struct(
+        self,
+        alloc: Global,
+        name: &Text,
+        members: Members,
+        height: u32,
+    ) -> Result<(u32, SoundEnv), Memory>
+        requires some { 0 < length members }
+        requires sound { AllByRecursion (λ (member : OneMember). IsSound (length self.scene.structs) member.ty) members }
+        requires height { height ≡ structs.height_over self.scene.structs members }
+        ensures { IfOk result (λ more. (more.0 ≡ length self.scene.structs) × (more.1 ≡ structs.with_struct name.now members self)) }
+    {
+        let SoundEnv {
+            env: Env {
+                names,
+                mut scene,
+                mut heights,
+            },
+        } = self;
+        let number = number_behind(scene.structs.len())?;
+        let next = next_struct(&scene.structs, Text::from_str(alloc, name.as_str())?, members);
+        scene.structs.push(next)?;
+        heights.push(height)?;
+        let name = Text::from_str(alloc, name.as_str())?;
+        let names = names.with(alloc, name, Entry::Struct(number))?;
         Ok((
             number,
             SoundEnv {

@@ -1,15 +1,15 @@
 //! Structs.
 
-ghost use Rattle.std.specs.Prelude.{◌≡◌, ◌<◌, ◌≤◌, ◌++◌, ◌∷◌, [], IfOk, length};
+ghost use Rattle.std.specs.Prelude.{◌≡◌, List as Plain, [], IfOk, length};
 ghost use Rattle.std.specs.List.{AllByRecursion};
 ghost use Rattle.gsl_base.specs.Checked.{Gives};
 ghost use Rattle.gsl_types.specs.Known.{AreStructs, IsSound};
 ghost use Rattle.gsl_types.specs.declared.ty.Member.{Member as OneMember};
-ghost use Rattle.gsl_tree.specs.Weights.{height_of, most_high};
 ghost use Rattle.gsl_makers.specs.Heights.{AreHeights};
 ghost use Rattle.gsl_check_stmt.specs.Structs as spec;
 
 use crate::asked::{is_declared, is_high, is_reserved, may_be_had};
+use crate::heights::highest;
 use crate::sound::SoundEnv;
 use gsl_base::{Code, List, Refusal, Text};
 use gsl_check_expr::{Env, Written, declared, whole_type, written_type};
@@ -30,7 +30,8 @@ fn has_member(members: &[Member], name: &Text) -> bool
 #[tactic(auto, unfolding(crate::specs::Structs::may_be_member))]
 fn may_be_member(env: &Env, name: &Name, ty: &Ty, members: &[Member]) -> Result<(), Refusal>
     requires heights { AreHeights env.now.scene.structs env.now.heights }
-    ensures { Gives result (spec.may_be_member env.now.scene name.now ty.now members.now) }
+    ensures gives { Gives result (spec.may_be_member env.now.scene name.now ty.now members.now) }
+    ensures sound { IfOk result (λ _. IsSound (length env.now.scene.structs) ty.now) }
 {
     if has_member(members, &name.text) {
         return Err(refuse(name.place, Code::E0403));
@@ -59,7 +60,7 @@ fn with_names(
     requires heights { AreHeights env.now.scene.structs env.now.heights }
     requires sound { AllByRecursion (λ (member : OneMember). IsSound (length env.now.scene.structs) member.ty) members }
     ensures gives { Gives result (spec.with_names env.now base.now names.now members) }
-    ensures sound { OnOk result (λ (all : Plain OneMember). AllByRecursion (λ (member : OneMember). IsSound (length env.now.scene.structs) member.ty) all) }
+    ensures sound { IfOk result (λ (all : Plain OneMember). AllByRecursion (λ (member : OneMember). IsSound (length env.now.scene.structs) member.ty) all) }
 {
     let mut members = members;
     for k in 0..names.len() {
@@ -77,7 +78,7 @@ fn with_lines(alloc: Global, env: &Env, lines: &[StructMember]) -> Result<Member
     requires known { AreStructs env.now.scene.structs }
     requires heights { AreHeights env.now.scene.structs env.now.heights }
     ensures gives { Gives result (spec.with_lines env.now lines.now []) }
-    ensures sound { OnOk result (λ (all : Plain OneMember). AllByRecursion (λ (member : OneMember). IsSound (length env.now.scene.structs) member.ty) all) }
+    ensures sound { IfOk result (λ (all : Plain OneMember). AllByRecursion (λ (member : OneMember). IsSound (length env.now.scene.structs) member.ty) all) }
 {
     let mut members = List::new(alloc);
     for k in 0..lines.len() {
@@ -88,9 +89,9 @@ fn with_lines(alloc: Global, env: &Env, lines: &[StructMember]) -> Result<Member
     Ok(members)
 }
 
-/// Whether a struct of a name and members may be declared.
-#[tactic(auto, unfolding(crate::specs::Structs::may_be_struct))]
-fn may_be_struct(env: &Env, name: &Name, members: &Members) -> Result<(), Refusal>
+/// How high a struct of a name and members is, which may be declared.
+#[tactic(auto, unfolding(crate::specs::Structs::may_be_struct, crate::specs::Structs::is_too_large))]
+fn may_be_struct(env: &Env, name: &Name, members: &[Member]) -> Result<u32, Refusal>
     requires heights { AreHeights env.now.scene.structs env.now.heights }
     ensures { Gives result (spec.may_be_struct name.now members.now env.now) }
 {
@@ -100,22 +101,24 @@ fn may_be_struct(env: &Env, name: &Name, members: &Members) -> Result<(), Refusa
     if is_reserved(&name.text) {
         return Err(refuse(name.place, Code::E0404));
     }
-    if is_too_large(env, &name.text, members) {
+    if members.is_empty() {
+        return Err(refuse(name.place, Code::E0510));
+    }
+    if members.len() > 16383 {
         return Err(refuse(name.place, Code::E0908));
     }
-    Ok(())
+    match highest(env, members, 63) {
+        Some(inner) => Ok(inner + 1),
+        None => Err(refuse(name.place, Code::E0908)),
+    }
 }
 
-/// A struct, and its number.
+/// A struct, whose number comes with what is declared behind it.
 #[tactic(auto, unfolding(crate::specs::Structs::structured))]
-pub fn structured(
-    alloc: Global,
-    env: SoundEnv,
-    s: &Struct,
-) -> Result<(u32, SoundEnv), Refusal>
+pub fn structured(alloc: Global, env: SoundEnv, s: &Struct) -> Result<(u32, SoundEnv), Refusal>
     ensures { Gives result (spec.structured s.now env) }
 {
     let members = with_lines(alloc, env.get(), s.members.as_slice())?;
-    may_be_struct(env.get(), &s.name, &members)?;
-    Ok(env.with_struct(alloc, &s.name.text, members)?)
+    let height = may_be_struct(env.get(), &s.name, members.as_slice())?;
+    Ok(env.with_struct(alloc, &s.name.text, members, height)?)
 }
