@@ -13,6 +13,8 @@ use Rattle.gsl_types.proofs.Layers.{over_struct}
 use Rattle.gsl_types.proofs.Structs.{numbered_is, members_agree}
 use Rattle.gsl_types.proofs.Longer.{numbered_push}
 use Rattle.gsl_tree.specs.Weights.{height_of, height_meaning, highest}
+use Rattle.gsl_makers.specs.Heights.{AreHeights}
+use Rattle.gsl_check_stmt.specs.Structs.{struct_of, leaves_together_told, height_over}
 
 -- a table of meanings has one for each struct
 table_length : {A : Type 0} (m : Meaning A) (structs : List StructType) (before : List A) → length (table_from m before structs) ≡ length before + length structs
@@ -66,3 +68,24 @@ module _ (structs : List StructType) (s : StructType) (known : AreStructs (struc
         | inr within ↦ subst At (let e : length structs ≡ k = omega (arith, above, within) in e) at_end
       ]
     ]
+
+-- what was put at the end of a list stands there
+pub found_last : {X : Type 0} (xs : List X) (y : X) → slice_get (xs ++ y ∷ []) (length xs) ≡ Some y
+found_last [] y = refl
+found_last (x ∷ xs) y = found_last xs y
+
+-- the next struct, by its name and its members
+pub next_is : (structs : List StructType) (s : StructType) (name : List ℕ) (members : List Member) → s.name ≡ name → s.members ≡ members → AreStructs (structs ++ s ∷ [])
+    → s ≡ struct_of structs name members
+next_is structs s name members named has known =
+    let told : s.leaves ≡ leaves_together_told structs s.members = last_leaves structs s known (found_last structs s) in
+    ap (λ (leaves : ℕ). record { name = s.name; members = s.members; leaves = leaves }) told
+    ∙ ap (λ (n : List ℕ). record { name = n; members = s.members; leaves = leaves_together_told structs s.members }) named
+    ∙ ap (λ (ms : List Member). record { name = name; members = ms; leaves = leaves_together_told structs ms }) has
+
+-- the heights of structs, with that of the next one
+pub heights_behind : (structs : List StructType) (s : StructType) (heights : List ℕ) (h : ℕ) → AreStructs (structs ++ s ∷ []) → length heights ≡ length structs → AreHeights structs heights
+    → h ≡ height_over structs s.members → AreHeights (structs ++ s ∷ []) (heights ++ h ∷ [])
+heights_behind structs s heights h known count are is k =
+    subst (λ n. slice_index_or (heights ++ n ∷ []) k 0 ≡ height_of (structs ++ s ∷ []) (ty.Struct k)) (sym is)
+      (longer_heights structs s known (found_last structs s) heights count are k)

@@ -46,16 +46,23 @@ may_be_member scene name t members = unless name.place (
 abbrev pub with_member : Scene → Name → Ty → List Member → Checked (List Member)
 with_member scene name t members = may_be_member scene name t members >>= (λ _. Ok (members ++ record { name = name.text; ty = t } ∷ []))
 
+-- the members with one more, where this type stands before its name
+unfoldable pub with_name : Env → Written → Declared → List Member → Checked (List Member)
+with_name env base one members = declared (map (bracket env) one.dims) base
+    >>= (λ t. whole_type t >>= (λ whole. with_member env.scene one.name whole members))
+
 -- the members of one line, behind those before it
 abbrev pub with_names : Env → Written → List Declared → List Member → Checked (List Member)
 with_names env base [] members = Ok members
-with_names env base (one ∷ more) members = declared (map (bracket env) one.dims) base
-    >>= (λ t. whole_type t >>= (λ whole. with_member env.scene one.name whole members >>= (λ longer. with_names env base more longer)))
+with_names env base (one ∷ more) members = with_name env base one members >>= with_names env base more
+
+unfoldable pub with_line : Env → StructMember → List Member → Checked (List Member)
+with_line env line members = written_type env line.ty >>= (λ base. with_names env base line.names members)
 
 -- the members of all lines
 abbrev pub with_lines : Env → List StructMember → List Member → Checked (List Member)
 with_lines env [] members = Ok members
-with_lines env (line ∷ lines) members = written_type env line.ty >>= (λ base. with_names env base line.names members >>= (λ longer. with_lines env lines longer))
+with_lines env (line ∷ lines) members = with_line env line members >>= with_lines env lines
 
 -- ---- the struct
 

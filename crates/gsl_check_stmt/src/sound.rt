@@ -1,6 +1,6 @@
 //! What is declared so far, with what is known of it.
 
-ghost use Rattle.std.specs.Prelude.{◌≡◌, ◌<◌, length, IfOk};
+ghost use Rattle.std.specs.Prelude.{◌≡◌, ◌<◌, ◌++◌, ◌∷◌, [], length, IfOk};
 ghost use Rattle.std.specs.List.{AllByRecursion};
 ghost use Rattle.gsl_types.specs.Known.{AreStructs, IsSound};
 ghost use Rattle.gsl_types.specs.declared.ty.Member.{Member as OneMember};
@@ -13,7 +13,7 @@ use gsl_base::{Memory, Text};
 use gsl_check_expr::Env;
 use gsl_names::{Entry, Names};
 use gsl_tree::Folded;
-use gsl_types::{Members, Ty, next_struct};
+use gsl_types::{Members, StructType, Structs, Ty, next_struct};
 use std::alloc::Global;
 use std::marker::Model;
 
@@ -159,7 +159,7 @@ impl SoundEnv {
     }
 
     /// Behind one more struct, which is so high. Its number comes with it.
-    #[tactic(auto, unfolding(crate::specs::Structs::with_struct), using(crate::proofs::Longer::longer_heights))]
+    #[tactic(auto, unfolding(crate::specs::Structs::with_struct), using(crate::proofs::Longer::heights_behind))]
     pub(crate) fn with_struct(
         self,
         alloc: Global,
@@ -180,7 +180,8 @@ impl SoundEnv {
             },
         } = self;
         let number = number_behind(scene.structs.len())?;
-        let next = next_struct(&scene.structs, Text::from_str(alloc, name.as_str())?, members);
+        let declared = Text::from_str(alloc, name.as_str())?;
+        let next = struct_behind(&scene.structs, declared, members);
         scene.structs.push(next)?;
         heights.push(height)?;
         let name = Text::from_str(alloc, name.as_str())?;
@@ -196,6 +197,19 @@ impl SoundEnv {
             },
         ))
     }
+}
+
+/// The struct of a name and members that stands next behind some structs.
+#[tactic(auto, using(crate::proofs::Longer::next_is))]
+fn struct_behind(all: &Structs, name: Text, members: Members) -> StructType
+    requires known { AreStructs all.now }
+    requires some { 0 < length members }
+    requires sound { AllByRecursion (λ (member : OneMember). IsSound (length all.now) member.ty) members }
+    ensures is { result ≡ structs.struct_of all.now name members }
+    ensures members { result.members ≡ members }
+    ensures known { AreStructs (all.now ++ result ∷ []) }
+{
+    next_struct(all, name, members)
 }
 
 /// Names behind the end of their innermost scope.

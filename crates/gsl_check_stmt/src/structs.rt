@@ -48,6 +48,30 @@ fn may_be_member(env: &Env, name: &Name, ty: &Ty, members: &[Member]) -> Result<
     Ok(())
 }
 
+/// A member behind others, where a type stands before its name.
+#[tactic(auto, unfolding(crate::specs::Structs::with_name), using(crate::proofs::Pushed::all_pushed))]
+fn with_name(
+    alloc: Global,
+    env: &Env,
+    base: &Written,
+    one: &Declared,
+    members: Members,
+) -> Result<Members, Refusal>
+    requires known { AreStructs env.now.scene.structs }
+    requires heights { AreHeights env.now.scene.structs env.now.heights }
+    requires sound { AllByRecursion (λ (member : OneMember). IsSound (length env.now.scene.structs) member.ty) members }
+    ensures gives { Gives result (spec.with_name env.now base.now one.now members) }
+    ensures sound { IfOk result (λ (all : Plain OneMember). AllByRecursion (λ (member : OneMember). IsSound (length env.now.scene.structs) member.ty) all) }
+{
+    let written = declared(alloc, env, base, one.dims.as_slice())?;
+    let ty = whole_type(written)?;
+    may_be_member(env, &one.name, &ty, members.as_slice())?;
+    let name = Text::from_str(alloc, one.name.text.as_str())?;
+    let mut members = members;
+    members.push(Member { name, ty })?;
+    Ok(members)
+}
+
 /// The members of one line, behind those before it.
 fn with_names(
     alloc: Global,
@@ -64,13 +88,26 @@ fn with_names(
 {
     let mut members = members;
     for k in 0..names.len() {
-        let one = &names[k];
-        let ty = whole_type(declared(alloc, env, base, one.dims.as_slice())?)?;
-        may_be_member(env, &one.name, &ty, members.as_slice())?;
-        let name = Text::from_str(alloc, one.name.text.as_str())?;
-        members.push(Member { name, ty })?;
+        members = with_name(alloc, env, base, &names[k], members)?;
     }
     Ok(members)
+}
+
+#[tactic(auto, unfolding(crate::specs::Structs::with_line))]
+fn with_line(
+    alloc: Global,
+    env: &Env,
+    line: &StructMember,
+    members: Members,
+) -> Result<Members, Refusal>
+    requires known { AreStructs env.now.scene.structs }
+    requires heights { AreHeights env.now.scene.structs env.now.heights }
+    requires sound { AllByRecursion (λ (member : OneMember). IsSound (length env.now.scene.structs) member.ty) members }
+    ensures gives { Gives result (spec.with_line env.now line.now members) }
+    ensures sound { IfOk result (λ (all : Plain OneMember). AllByRecursion (λ (member : OneMember). IsSound (length env.now.scene.structs) member.ty) all) }
+{
+    let base = written_type(alloc, env, &line.ty)?;
+    with_names(alloc, env, &base, line.names.as_slice(), members)
 }
 
 /// The members of all lines.
@@ -82,9 +119,7 @@ fn with_lines(alloc: Global, env: &Env, lines: &[StructMember]) -> Result<Member
 {
     let mut members = List::new(alloc);
     for k in 0..lines.len() {
-        let line = &lines[k];
-        let base = written_type(alloc, env, &line.ty)?;
-        members = with_names(alloc, env, &base, line.names.as_slice(), members)?;
+        members = with_line(alloc, env, &lines[k], members)?;
     }
     Ok(members)
 }

@@ -177,6 +177,28 @@ fn do_loop(
     behind_body(alloc, place, test, body, env.closed())
 }
 
+/// A label of a `switch`, or a statement behind its labels.
+#[cycle(walk)]
+#[tactic(auto, unfolding(crate::specs::Statements::stated))]
+fn item(
+    alloc: Global,
+    returns: &Ty,
+    within: Within,
+    selector: &Ty,
+    g: Gathered,
+    env: SoundEnv,
+    s: &Syntax,
+) -> Result<(Gathered, SoundEnv), Refusal>
+    ensures { Gives result (spec.item within selector.now (spec.answer returns.now s.now) g env) }
+{
+    if is_label(returns, s) {
+        let g = labelled(alloc, returns, &env, selector, g, s)?;
+        return Ok((g, env));
+    }
+    let (s, env) = statement(alloc, returns, within, env, s)?;
+    Ok((g.with_stmt(s)?, env))
+}
+
 /// The labels and statements of a `switch`.
 #[cycle(walk)]
 fn items(
@@ -192,13 +214,9 @@ fn items(
     let mut env = env;
     let mut g = Gathered::new(alloc);
     for k in 0..all.len() {
-        if is_label(returns, &all[k]) {
-            g = labelled(alloc, returns, &env, selector, g, &all[k])?;
-        } else {
-            let (s, behind) = statement(alloc, returns, within, env, &all[k])?;
-            env = behind;
-            g = g.with_stmt(s)?;
-        }
+        let (more, behind) = item(alloc, returns, within, selector, g, env, &all[k])?;
+        env = behind;
+        g = more;
     }
     Ok((g, env))
 }
