@@ -1,7 +1,8 @@
 //! What stands before and behind the parts of statements.
 
-ghost use Rattle.std.specs.Prelude.{◌≡◌, IfOk, is_some};
-ghost use Rattle.gsl_base.specs.Checked.{Gives};
+ghost use Rattle.std.specs.Prelude.{◌≡◌, IfOk, Ok, is_some};
+ghost use Rattle.gsl_base.specs.Checked.{Gives, ◌>>=◌};
+ghost use Rattle.gsl_check_stmt.specs.Switches.{with_stmt};
 ghost use Rattle.gsl_check_stmt.specs.Steps as steps;
 ghost use Rattle.gsl_check_stmt.specs.Statements as spec;
 
@@ -22,6 +23,9 @@ pub(crate) type Test = (Expr, Option<Code>);
 
 /// The header of a loop: what stands first, the test, the step, and what is declared behind them.
 pub(crate) type Head = (Option<Stmt>, Option<Test>, Option<Expr>, SoundEnv);
+
+/// The header of a loop without what is declared behind it.
+pub(crate) type Header = (Option<Stmt>, Option<Test>, Option<Expr>);
 
 /// An expression that stands alone.
 #[tactic(auto, unfolding(crate::specs::Statements::eval))]
@@ -167,7 +171,7 @@ fn loop_of(
 
 /// A loop behind its body.
 #[tactic(auto, unfolding(crate::specs::Statements::loop_done))]
-pub(crate) fn loop_done(
+fn loop_done(
     alloc: Global,
     place: Place,
     first: Option<Stmt>,
@@ -180,6 +184,28 @@ pub(crate) fn loop_done(
 {
     let s = loop_of(place, test, step, Boxed::new(alloc, body)?)?;
     Ok((behind_header(alloc, first, s)?, env.closed()))
+}
+
+/// A header without what is declared behind it, and that.
+pub(crate) fn split(head: Head) -> (Header, SoundEnv)
+    ensures { result ≡ ((head.0, head.1, head.2), head.3) }
+{
+    let (first, test, step, env) = head;
+    ((first, test, step), env)
+}
+
+/// A loop behind its header and its body.
+pub(crate) fn loop_end(
+    alloc: Global,
+    place: Place,
+    header: Header,
+    body: Stmt,
+    env: SoundEnv,
+) -> Result<(Stmt, SoundEnv), Refusal>
+    ensures { Gives result (spec.loop_done place header.0 header.1 header.2 body env) }
+{
+    let (first, test, step) = header;
+    loop_done(alloc, place, first, test, step, body, env)
 }
 
 /// A loop whose test comes last, behind its body.
@@ -334,7 +360,7 @@ fn case_label(
 
 /// Behind a label, if a statement is one.
 #[tactic(auto, unfolding(crate::specs::Statements::labelled), using(crate::proofs::Parts::labels))]
-pub(crate) fn labelled(
+fn labelled(
     alloc: Global,
     _returns: &Ty,
     env: &SoundEnv,
@@ -363,6 +389,32 @@ pub(crate) fn labelled(
         | Syntax::Return(_)
         | Syntax::ReturnValue(_, _) => Ok(g),
     }
+}
+
+/// Behind a label, which declares nothing.
+pub(crate) fn behind_label(
+    alloc: Global,
+    returns: &Ty,
+    selector: &Ty,
+    g: Gathered,
+    env: SoundEnv,
+    s: &Syntax,
+) -> Result<(Gathered, SoundEnv), Refusal>
+    ensures { Gives result (spec.labelled selector.now (spec.answer returns.now s.now).label g env >>= (λ more. Ok (more, env))) }
+{
+    let g = labelled(alloc, returns, &env, selector, g, s)?;
+    Ok((g, env))
+}
+
+/// Behind a statement.
+pub(crate) fn behind_stmt(
+    g: Gathered,
+    done: (Stmt, SoundEnv),
+) -> Result<(Gathered, SoundEnv), Memory>
+    ensures { IfOk result (λ more. (more.0 ≡ with_stmt g done.0) × (more.1 ≡ done.1)) }
+{
+    let (s, env) = done;
+    Ok((g.with_stmt(s)?, env))
 }
 
 /// The selector of a `switch`, and the scope of its body.

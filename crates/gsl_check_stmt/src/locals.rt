@@ -4,6 +4,7 @@ ghost use Rattle.std.specs.Prelude.{◌≡◌, IfOk, map};
 ghost use Rattle.gsl_base.specs.Checked.{Gives};
 ghost use Rattle.gsl_types.specs.Known.{AreStructs};
 ghost use Rattle.gsl_makers.specs.Heights.{AreHeights};
+ghost use Rattle.gsl_syntax.specs.declared.declaration.Declarator.TheVariants as written;
 ghost use Rattle.gsl_check_stmt.specs.Steps.{in_turn};
 ghost use Rattle.gsl_check_stmt.specs.Locals as spec;
 
@@ -14,7 +15,7 @@ use gsl_check_expr::{
     Env, Written, begun_type, declared, initial, taken_expression, whole_type,
 };
 use gsl_fold::constant;
-use gsl_syntax::{Declarator, Lay, Name, Qual};
+use gsl_syntax::{Declarator, Dim, Init, Lay, Name, Qual};
 use gsl_tree::{Expr, Folded, Stmt, Stmts};
 use gsl_types::Ty;
 use gsl_typing::{Part, Scene, as_type, is_unread, refuse};
@@ -212,6 +213,39 @@ fn begun_variable(
     set_variable(alloc, fixed, name, ty, e, env)
 }
 
+/// A variable without an initialiser, behind the type before its name.
+fn plain_declarator(
+    alloc: Global,
+    fixed: bool,
+    base: &Written,
+    env: SoundEnv,
+    name: &Name,
+    dims: &[Dim],
+) -> Result<(Stmt, SoundEnv), Refusal>
+    ensures { Gives result (spec.declarator_by fixed base.now (written.Plain name.now dims.now) env) }
+{
+    let written = declared(alloc, env.get(), base, dims)?;
+    let ty = whole_type(written)?;
+    plain_variable(alloc, fixed, name, ty, env)
+}
+
+/// A variable with an initialiser, behind the type before its name.
+fn begun_declarator(
+    alloc: Global,
+    fixed: bool,
+    base: &Written,
+    env: SoundEnv,
+    name: &Name,
+    dims: &[Dim],
+    init: &Init,
+) -> Result<(Stmt, SoundEnv), Refusal>
+    ensures { Gives result (spec.declarator_by fixed base.now (written.Initialised name.now dims.now init.now) env) }
+{
+    let written = declared(alloc, env.get(), base, dims)?;
+    let x = initial(alloc, env.get(), &written, init)?;
+    begun_variable(alloc, fixed, name, &written, x, env)
+}
+
 /// One variable, behind the type before its name.
 #[tactic(auto, unfolding(crate::specs::Locals::declarator))]
 fn declarator(
@@ -225,14 +259,10 @@ fn declarator(
 {
     match one {
         Declarator::Plain(name, dims) => {
-            let written = declared(alloc, env.get(), base, dims.as_slice())?;
-            let ty = whole_type(written)?;
-            plain_variable(alloc, fixed, name, ty, env)
+            plain_declarator(alloc, fixed, base, env, name, dims.as_slice())
         }
         Declarator::Initialised(name, dims, init) => {
-            let written = declared(alloc, env.get(), base, dims.as_slice())?;
-            let x = initial(alloc, env.get(), &written, init)?;
-            begun_variable(alloc, fixed, name, &written, x, env)
+            begun_declarator(alloc, fixed, base, env, name, dims.as_slice(), init)
         }
     }
 }

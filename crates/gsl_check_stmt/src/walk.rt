@@ -8,8 +8,8 @@ ghost use Rattle.gsl_check_stmt.specs.Statements as spec;
 use crate::declarations::declaration;
 use crate::gathered::{Gathered, misplaced_default};
 use crate::heads::{
-    Head, arms, behind_body, between, evaluated, for_head, if_done, if_head, is_label, labelled,
-    loop_done, return_with, stray_case, switch_head, while_head,
+    Head, arms, behind_body, behind_label, behind_stmt, between, evaluated, for_head, if_done,
+    if_head, is_label, loop_end, return_with, split, stray_case, switch_head, while_head,
 };
 use crate::rules::{broken, continued, discarded, returned};
 use crate::sound::SoundEnv;
@@ -156,9 +156,9 @@ fn looped(
 ) -> Result<(Stmt, SoundEnv), Refusal>
     ensures { Gives result (spec.looped place (spec.answer returns.now body.now).step head) }
 {
-    let (first, test, step, env) = head;
+    let (header, env) = split(head);
     let (body, env) = statement(alloc, returns, in_loop(), env, body)?;
-    loop_done(alloc, place, first, test, step, body, env)
+    loop_end(alloc, place, header, body, env)
 }
 
 #[cycle(walk)]
@@ -192,11 +192,10 @@ fn item(
     ensures { Gives result (spec.item within selector.now (spec.answer returns.now s.now) g env) }
 {
     if is_label(returns, s) {
-        let g = labelled(alloc, returns, &env, selector, g, s)?;
-        return Ok((g, env));
+        return behind_label(alloc, returns, selector, g, env, s);
     }
-    let (s, env) = statement(alloc, returns, within, env, s)?;
-    Ok((g.with_stmt(s)?, env))
+    let done = statement(alloc, returns, within, env, s)?;
+    Ok(behind_stmt(g, done)?)
 }
 
 /// The labels and statements of a `switch`.
