@@ -88,4 +88,4 @@ pub heights_behind : (structs : List StructType) (s : StructType) (heights : Lis
     → h ≡ height_over structs s.members → AreHeights (structs ++ s ∷ []) (heights ++ h ∷ [])
 heights_behind structs s heights h known count are is k =
     subst (λ n. slice_index_or (heights ++ n ∷ []) k 0 ≡ height_of (structs ++ s ∷ []) (ty.Struct k)) (sym is)
-      (longer_heights structs s known (found_last structs s) heights count are k)
+    (longer_heights structs s known (found_last structs s) heights count are k)

@@ -17,5 +17,5 @@ module _ (structs : List StructType) where
       → most < height_of structs x.ty → most < highest (members_meaning height_meaning structs members)
   above_all members k top most x split is above =
       let here : highest (members_meaning height_meaning structs (drop k members)) ≡ max (height_of structs x.ty) (highest (members_meaning height_meaning structs (drop (k + 1) members))) =
-          ap (λ l. highest (members_meaning height_meaning structs l)) split in
+      ap (λ l. highest (members_meaning height_meaning structs l)) split in
       omega (arith, here, is, above)

@@ -177,11 +177,7 @@ fn constant_word(
 
 /// With `default`, which may stand once.
 #[tactic(auto, unfolding(crate::specs::Switches::default_label))]
-pub(crate) fn default_label(
-    alloc: Global,
-    g: Gathered,
-    place: Place,
-) -> Result<Gathered, Refusal>
+pub(crate) fn default_label(alloc: Global, g: Gathered, place: Place) -> Result<Gathered, Refusal>
     ensures { Gives result (spec.default_label g place) }
 {
     if g.has_default {

@@ -84,11 +84,7 @@ fn tested_if(alloc: Global, env: &SoundEnv, e: &Option<Phrase>) -> Result<Option
 
 /// What stands first in the header of a `for`.
 #[tactic(auto, unfolding(crate::specs::Statements::header))]
-fn header(
-    alloc: Global,
-    env: SoundEnv,
-    init: &ForInit,
-) -> Result<(Option<Stmt>, SoundEnv), Refusal>
+fn header(alloc: Global, env: SoundEnv, init: &ForInit) -> Result<(Option<Stmt>, SoundEnv), Refusal>
     ensures { Gives result (spec.header init.now env) }
 {
     match init {

@@ -13,13 +13,13 @@ mod heights;
 mod locals;
 mod rules;
 mod sound;
-mod walk;
 mod structs;
+mod walk;
 mod within;
 
 pub use asked::{is_declared, is_high, is_reserved, may_be_had};
 pub use gathered::Gathered;
 pub use sound::SoundEnv;
-pub use walk::{statement, statements};
 pub use structs::structured;
+pub use walk::{statement, statements};
 pub use within::Within;

@@ -11,9 +11,7 @@ ghost use Rattle.gsl_check_stmt.specs.Locals as spec;
 use crate::asked::{is_declared, is_high, is_reserved, may_be_had};
 use crate::sound::SoundEnv;
 use gsl_base::{Code, List, Memory, Place, Refusal};
-use gsl_check_expr::{
-    Env, Written, begun_type, declared, initial, taken_expression, whole_type,
-};
+use gsl_check_expr::{Env, Written, begun_type, declared, initial, taken_expression, whole_type};
 use gsl_fold::constant;
 use gsl_syntax::{Declarator, Dim, Init, Lay, Name, Qual};
 use gsl_tree::{Expr, Folded, Stmt, Stmts};

@@ -41,7 +41,16 @@ pub fn statement(
             branch(alloc, returns, within, env, *place, test, body.get())
         }
         Syntax::IfElse(place, test, body, other) => {
-            branches(alloc, returns, within, env, *place, test, body.get(), other.get())
+            branches(
+                alloc,
+                returns,
+                within,
+                env,
+                *place,
+                test,
+                body.get(),
+                other.get(),
+            )
         }
         Syntax::Switch(place, e, all) => {
             switch(alloc, returns, within, env, *place, e, all.as_slice())
@@ -234,6 +243,13 @@ fn switch(
     ensures { Gives result (spec.switch place e.now (map (spec.answer returns.now) all.now) within env) }
 {
     let (selector, env) = switch_head(alloc, env, e)?;
-    let (g, env) = items(alloc, returns, in_switch(within), &selector.expr.ty, env, all)?;
+    let (g, env) = items(
+        alloc,
+        returns,
+        in_switch(within),
+        &selector.expr.ty,
+        env,
+        all,
+    )?;
     arms(alloc, place, selector, g, env)
 }
