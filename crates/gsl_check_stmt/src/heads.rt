@@ -1,7 +1,7 @@
 //! What stands before and behind the parts of statements.
 
-ghost use Rattle.std.specs.Prelude.{◌≡◌, IfOk, Ok, is_some};
-ghost use Rattle.gsl_base.specs.Checked.{Gives, ◌>>=◌};
+ghost use Rattle.std.specs.Prelude.{◌≡◌, IfOk, is_some};
+ghost use Rattle.gsl_base.specs.Checked.{Gives};
 ghost use Rattle.gsl_check_stmt.specs.Switches.{with_stmt};
 ghost use Rattle.gsl_check_stmt.specs.Steps as steps;
 ghost use Rattle.gsl_check_stmt.specs.Statements as spec;
@@ -356,7 +356,7 @@ fn case_label(
 
 /// Behind a label, if a statement is one.
 #[tactic(auto, unfolding(crate::specs::Statements::labelled), using(crate::proofs::Parts::labels))]
-fn labelled(
+pub(crate) fn labelled(
     alloc: Global,
     _returns: &Ty,
     env: &SoundEnv,
@@ -385,21 +385,6 @@ fn labelled(
         | Syntax::Return(_)
         | Syntax::ReturnValue(_, _) => Ok(g),
     }
-}
-
-/// Behind a label, which declares nothing.
-pub(crate) fn behind_label(
-    alloc: Global,
-    returns: &Ty,
-    selector: &Ty,
-    g: Gathered,
-    env: SoundEnv,
-    s: &Syntax,
-) -> Result<(Gathered, SoundEnv), Refusal>
-    ensures { Gives result (spec.labelled selector.now (spec.answer returns.now s.now).label g env >>= (λ more. Ok (more, env))) }
-{
-    let g = labelled(alloc, returns, &env, selector, g, s)?;
-    Ok((g, env))
 }
 
 /// Behind a statement.

@@ -8,8 +8,8 @@ ghost use Rattle.gsl_check_stmt.specs.Statements as spec;
 use crate::declarations::declaration;
 use crate::gathered::{Gathered, misplaced_default};
 use crate::heads::{
-    Head, arms, behind_body, behind_label, behind_stmt, between, evaluated, for_head, if_done,
-    if_head, is_label, loop_end, return_with, split, stray_case, switch_head, while_head,
+    Head, arms, behind_body, behind_stmt, between, evaluated, for_head, if_done,
+    if_head, is_label, labelled, loop_end, return_with, split, stray_case, switch_head, while_head,
 };
 use crate::rules::{broken, continued, discarded, returned};
 use crate::sound::SoundEnv;
@@ -201,7 +201,8 @@ fn item(
     ensures { Gives result (spec.item within selector.now (spec.answer returns.now s.now) g env) }
 {
     if is_label(returns, s) {
-        return behind_label(alloc, returns, selector, g, env, s);
+        let g = labelled(alloc, returns, &env, selector, g, s)?;
+        return Ok((g, env));
     }
     let done = statement(alloc, returns, within, env, s)?;
     Ok(behind_stmt(g, done)?)
