@@ -1,2 +1,3 @@
 mod Example
+pub mod Loops
 pub mod Steps

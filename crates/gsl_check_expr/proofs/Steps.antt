@@ -17,9 +17,18 @@ use Rattle.gsl_syntax.specs.declared.expr.Dim.TheVariants as d
 use Rattle.gsl_syntax.specs.declared.expr.Dim.TheVariants.{rolls-Open, rolls-Sized}
 use Rattle.gsl_syntax.specs.declared.expr.Dim.TheOpen.{Expr-F, TypeSpec-F, Dim-F}
 use Rattle.gsl_syntax.specs.declared.expr.Dim.TheFolds.{fold-roll-Expr, fold-roll-TypeSpec, fold-roll-Dim}
+use Rattle.gsl_base.specs.Checked.{Checked}
+use Rattle.gsl_syntax.specs.declared.declaration.Init.{Init}
+use Rattle.gsl_syntax.specs.declared.declaration.Init.TheVariants as init
+use Rattle.gsl_syntax.specs.declared.declaration.Init.TheVariants.{rolls-Expr, rolls-Braces}
+use Rattle.gsl_syntax.specs.declared.declaration.Init.TheOpen.{Init-F}
+use Rattle.gsl_syntax.specs.declared.declaration.Init.TheFolds.{fold-roll-Init}
+use Rattle.gsl_types.specs.declared.ty.Ty.{Ty}
+use Rattle.gsl_typing.specs.declared.scene.Part.{Part}
 use Rattle.gsl_check_expr.specs.declared.env.Env.{Env}
 use Rattle.gsl_check_expr.specs.Sizes.{Bracket}
 use Rattle.gsl_check_expr.specs.Callees.{Callee}
+use Rattle.gsl_check_expr.specs.Initialisers.{value_as, by_items}
 use Rattle.gsl_check_expr.specs.Expressions.{Answer, answer, callee, bracket, by_parts, dim_by, callee_by}
 
 module _ (env : Env) where
@@ -104,3 +113,16 @@ module _ (env : Env) where
   of-Sized p a = ap (bracket env) (sym (rolls-Sized p a)) ∙ fold-roll-Dim Bracket Answer Callee (dim_by env) (by_parts env) callee_by (Dim-F.Sized p a)
 
 pub ruleset steps = (of-Name, of-Signed, of-Unsigned, of-Bool, of-Paren, of-CallVoid, of-Call, of-Index, of-Member, of-Method, of-Postfix, of-Unary, of-Binary, of-Conditional, of-Assign, of-Sequence, of-Basic, of-Named, of-Open, of-Sized)
+
+-- ---- initialisers
+
+module _ (env : Env) where
+  pub of-Expr : (a : Expr) (t : Ty) → value_as env (init.Expr a) t ≡ by_items env (Init-F.Expr a) t
+  unfolding value_as
+  of-Expr a t = ap (λ x. value_as env x t) (sym (rolls-Expr a)) ∙ ap (λ (f : Ty → Checked Part). f t) (fold-roll-Init (Ty → Checked Part) (by_items env) (Init-F.Expr a))
+
+  pub of-Braces : (p : Place) (items : List Init) (t : Ty) → value_as env (init.Braces p items) t ≡ by_items env (Init-F.Braces p (map (value_as env) items)) t
+  unfolding value_as
+  of-Braces p items t = ap (λ x. value_as env x t) (sym (rolls-Braces p items)) ∙ ap (λ (f : Ty → Checked Part). f t) (fold-roll-Init (Ty → Checked Part) (by_items env) (Init-F.Braces p items))
+
+pub ruleset inits = (of-Expr, of-Braces)

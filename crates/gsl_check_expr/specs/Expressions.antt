@@ -12,6 +12,7 @@ use Rattle.gsl_types.specs.declared.ty.Scalar.TheVariants.{Bool as Boolean, Int,
 use Rattle.gsl_types.specs.declared.ty.Ty.TheVariants as ty
 use Rattle.gsl_tree.specs.declared.expr.Expr.{Expr}
 use Rattle.gsl_tree.specs.declared.expr.ExprKind.TheVariants as kind
+use Rattle.gsl_tree.specs.Trees.{place_of}
 use Rattle.gsl_typing.specs.declared.scene.Scene.{Scene}
 use Rattle.gsl_typing.specs.declared.scene.Part.{Part}
 use Rattle.gsl_typing.specs.Scene.{type_in, made}
@@ -19,6 +20,7 @@ use Rattle.gsl_typing.specs.Uses.{whole}
 use Rattle.gsl_typing.specs.Operators.{binary, unary, postfix, assigned, choice, comma}
 use Rattle.gsl_makers.specs.Paths.{index, member, block_member, method}
 use Rattle.gsl_check_expr.specs.declared.env.Env.{Env}
+use Rattle.gsl_check_expr.specs.InOrder.{each}
 use Rattle.gsl_check_expr.specs.Named.{literal, named, instance_of}
 use Rattle.gsl_check_expr.specs.Sizes.{Bracket, size_in, dimensions}
 use Rattle.gsl_check_expr.specs.Callees.{Base, Keyword, Name, Callee, called}
@@ -52,8 +54,7 @@ callee_by (TypeSpec-F.Named place name dims) = record { place = place; base = Na
 
 -- arguments from left to right
 abbrev pub in_row : Env → List Answer → Checked (List Part)
-in_row env [] = Ok []
-in_row env (answer ∷ answers) = taken env answer >>= (λ first. in_row env answers >>= (λ rest. Ok (first ∷ rest)))
+in_row env answers = each (taken env) answers
 
 -- a call: its brackets, then its arguments, and then what it means
 abbrev pub call_answer : Env → Callee → List Answer → Checked Part
@@ -65,8 +66,7 @@ behind env last items place [] = Ok (made place (type_in last) (kind.Comma items
 behind env last items place (next ∷ rest) = taken env next.1 >>= (λ y. comma env.scene next.0 last y >>= (λ z. behind env z (items ++ z.expr ∷ []) next.0 rest))
 
 abbrev pub sequence : Env → Answer → List (Place × Answer) → Checked Part
-sequence env first [] = first.value
-sequence env first (next ∷ rest) = taken env first >>= (λ x. behind env x (x.expr ∷ []) next.0 (next ∷ rest))
+sequence env first rest = taken env first >>= (λ x. behind env x (x.expr ∷ []) (place_of x.expr) rest)
 
 -- ---- members
 

@@ -17,6 +17,7 @@ use Rattle.gsl_typing.specs.declared.scene.Part.{Part}
 use Rattle.gsl_typing.specs.Rows.{fault, unless}
 use Rattle.gsl_typing.specs.Scene.{type_in}
 use Rattle.gsl_typing.specs.Uses.{is_unread}
+use Rattle.gsl_check_expr.specs.InOrder.{each}
 use Rattle.gsl_check_expr.specs.declared.brackets.Dimensions.{Dimensions}
 use Rattle.gsl_check_expr.specs.declared.brackets.Dimensions.TheVariants.{Plain, Sized}
 
@@ -70,9 +71,11 @@ abbrev pub stated : Place → Option ℕ → Checked ℕ
 stated place None = fault place E0603
 stated place (Some size) = Ok size
 
+abbrev pub stated_size : Bracket → Checked ℕ
+stated_size bracket = bracket.size >>= stated bracket.place
+
 abbrev pub all_stated : List Bracket → Checked (List ℕ)
-all_stated [] = Ok []
-all_stated (bracket ∷ brackets) = bracket.size >>= (λ size. stated bracket.place size >>= (λ first. all_stated brackets >>= (λ rest. Ok (first ∷ rest))))
+all_stated brackets = each stated_size brackets
 
 -- an array of arrays, the outermost size first
 abbrev pub arrayed : List ℕ → Ty → Ty
@@ -82,14 +85,14 @@ arrayed (size ∷ sizes) element = ty.Array (arrayed sizes element) size
 -- The sizes in their order; only that of the first bracket may be left out.
 unfoldable pub dimensions : List Bracket → Checked Dimensions
 dimensions [] = Ok Plain
-dimensions (bracket ∷ brackets) = bracket.size >>= (λ size. all_stated brackets >>= (λ rest. Ok (Sized size rest)))
+dimensions (bracket ∷ brackets) = bracket.size >>= (λ size. all_stated brackets >>= (λ rest. Ok (Sized bracket.place size rest)))
 
 -- a type with its brackets, where a size that is left out is this one
 abbrev pub with_dimensions : ℕ → Dimensions → Ty → Ty
 with_dimensions count Plain element = element
-with_dimensions count (Sized (Some size) rest) element = ty.Array (arrayed rest element) size
-with_dimensions count (Sized None rest) element = ty.Array (arrayed rest element) count
+with_dimensions count (Sized place (Some size) rest) element = ty.Array (arrayed rest element) size
+with_dimensions count (Sized place None rest) element = ty.Array (arrayed rest element) count
 
 abbrev pub is_plain_name : Dimensions → Bool
 is_plain_name Plain = true
-is_plain_name (Sized size rest) = false
+is_plain_name (Sized place size rest) = false

@@ -3,7 +3,7 @@
 ghost use Rattle.std.specs.Prelude.{◌≡◌, drop, IfOk};
 ghost use Rattle.gsl_check_expr.specs.Sizes as spec;
 
-use gsl_base::{Boxed, List, Memory};
+use gsl_base::{Boxed, List, Memory, Place};
 use gsl_types::Ty;
 use std::alloc::Global;
 
@@ -11,12 +11,12 @@ use std::alloc::Global;
 #[derive(Debug, Drop)]
 pub enum Dimensions {
     Plain,
-    /// The first size, which may be left out, and those behind it.
-    Sized(Option<u32>, List<u32>),
+    /// The place of the first pair, its size, which may be left out, and the sizes behind it.
+    Sized(Place, Option<u32>, List<u32>),
 }
 
 /// An array of arrays, the outermost size first.
-fn arrayed(alloc: Global, sizes: &[u32], element: Ty) -> Result<Ty, Memory>
+pub(crate) fn arrayed(alloc: Global, sizes: &[u32], element: Ty) -> Result<Ty, Memory>
     ensures { IfOk result (λ t. t ≡ spec.arrayed sizes.now element) }
 {
     arrayed_from(alloc, sizes, 0, element)
@@ -45,11 +45,11 @@ pub fn with_dimensions(
 {
     match dims {
         Dimensions::Plain => Ok(element),
-        Dimensions::Sized(Some(size), rest) => {
+        Dimensions::Sized(_, Some(size), rest) => {
             let inner = arrayed(alloc, rest.as_slice(), element)?;
             Ok(Ty::Array(Boxed::new(alloc, inner)?, *size))
         }
-        Dimensions::Sized(None, rest) => {
+        Dimensions::Sized(_, None, rest) => {
             let inner = arrayed(alloc, rest.as_slice(), element)?;
             Ok(Ty::Array(Boxed::new(alloc, inner)?, count))
         }
@@ -62,6 +62,6 @@ pub fn is_plain_name(dims: &Dimensions) -> bool
 {
     match dims {
         Dimensions::Plain => true,
-        Dimensions::Sized(_, _) => false,
+        Dimensions::Sized(_, _, _) => false,
     }
 }
