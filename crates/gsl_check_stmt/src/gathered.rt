@@ -1,14 +1,12 @@
 //! The body of a `switch`, as it is read from left to right.
 
-ghost use Rattle.std.specs.Prelude.{◌≡◌, [], IfOk};
+ghost use Rattle.std.specs.Prelude.{◌≡◌, IfOk};
 ghost use Rattle.gsl_base.specs.Checked.{Gives};
 ghost use Rattle.gsl_check_stmt.specs.Switches as spec;
 
 use gsl_base::{Code, List, Memory, Place, Refusal};
-use gsl_check_expr::Env;
 use gsl_compute::word_in;
 use gsl_fold::constant;
-use gsl_makers::is_index;
 use gsl_tree::{Arm, Arms, Folded, Labels, Stmt, Stmts};
 use gsl_types::Ty;
 use gsl_typing::{Part, Scene, is_unread, refuse, serves_as};
@@ -32,7 +30,7 @@ pub struct Gathered {
 
 impl Gathered {
     /// No arm, and no label.
-    pub(crate) fn new(alloc: Global) -> Gathered
+    pub fn new(alloc: Global) -> Gathered
         ensures { result ≡ spec.nothing }
     {
         Gathered {
@@ -84,7 +82,7 @@ impl Gathered {
 
     /// With a label of a word.
     #[tactic(auto, unfolding(crate::specs::Switches::with_case))]
-    pub(crate) fn with_case(self, alloc: Global, word: u32) -> Result<Gathered, Memory>
+    pub fn with_case(self, alloc: Global, word: u32) -> Result<Gathered, Memory>
         ensures { IfOk result (λ g. g ≡ spec.with_case self word) }
     {
         let mut g = self.at_label(alloc)?;
@@ -95,7 +93,7 @@ impl Gathered {
 
     /// With `default`.
     #[tactic(auto, unfolding(crate::specs::Switches::with_default))]
-    fn with_default(self, alloc: Global) -> Result<Gathered, Memory>
+    pub fn with_default(self, alloc: Global) -> Result<Gathered, Memory>
         ensures { IfOk result (λ g. g ≡ spec.with_default self) }
     {
         let mut g = self.at_label(alloc)?;
@@ -106,7 +104,7 @@ impl Gathered {
 
     /// With a statement.
     #[tactic(auto, unfolding(crate::specs::Switches::with_stmt))]
-    pub(crate) fn with_stmt(self, s: Stmt) -> Result<Gathered, Memory>
+    pub fn with_stmt(self, s: Stmt) -> Result<Gathered, Memory>
         ensures { IfOk result (λ g. g ≡ spec.with_stmt self s) }
     {
         let mut g = self;
@@ -116,7 +114,7 @@ impl Gathered {
 
     /// All arms.
     #[tactic(auto, unfolding(crate::specs::Switches::all_arms))]
-    fn all_arms(self, alloc: Global) -> Result<Arms, Memory>
+    pub fn all_arms(self, alloc: Global) -> Result<Arms, Memory>
         ensures { IfOk result (λ arms. arms ≡ spec.all_arms self) }
     {
         if self.labels.is_empty() && !self.is_default && self.body.is_empty() {
@@ -135,7 +133,7 @@ fn has_word(words: &[u32], word: u32) -> bool
 
 /// The word of a `case`, beside a selector of a type.
 #[tactic(auto, unfolding(crate::specs::Switches::case_word))]
-pub(crate) fn case_word(
+pub fn case_word(
     alloc: Global,
     scene: &Scene,
     selector: &Ty,
@@ -155,7 +153,7 @@ pub(crate) fn case_word(
 }
 
 /// The word of a constant that no earlier label has.
-fn constant_word(
+pub fn constant_word(
     alloc: Global,
     scene: &Scene,
     words: &[u32],
@@ -177,7 +175,7 @@ fn constant_word(
 
 /// With `default`, which may stand once.
 #[tactic(auto, unfolding(crate::specs::Switches::default_label))]
-pub(crate) fn default_label(alloc: Global, g: Gathered, place: Place) -> Result<Gathered, Refusal>
+pub fn default_label(alloc: Global, g: Gathered, place: Place) -> Result<Gathered, Refusal>
     ensures { Gives result (spec.default_label g place) }
 {
     if g.has_default {
@@ -188,7 +186,7 @@ pub(crate) fn default_label(alloc: Global, g: Gathered, place: Place) -> Result<
 
 /// A `case` that may not stand there.
 #[tactic(auto, unfolding(crate::specs::Switches::misplaced_case))]
-pub(crate) fn misplaced_case(scene: &Scene, place: Place, x: &Part) -> Result<Stmt, Refusal>
+pub fn misplaced_case(scene: &Scene, place: Place, x: &Part) -> Result<Stmt, Refusal>
     ensures { Gives result (spec.misplaced_case scene.now place x.now) }
 {
     if is_unread(scene, x) {
@@ -199,7 +197,7 @@ pub(crate) fn misplaced_case(scene: &Scene, place: Place, x: &Part) -> Result<St
 
 /// A `default` that may not stand there.
 #[tactic(auto, unfolding(crate::specs::Switches::misplaced_default))]
-pub(crate) fn misplaced_default(place: Place) -> Result<Stmt, Refusal>
+pub fn misplaced_default(place: Place) -> Result<Stmt, Refusal>
     ensures { Gives result (spec.misplaced_default place) }
 {
     Err(refuse(place, Code::E0511))
@@ -207,7 +205,7 @@ pub(crate) fn misplaced_default(place: Place) -> Result<Stmt, Refusal>
 
 /// Whether each arm begins with a label and has a statement.
 #[tactic(auto, unfolding(crate::specs::Switches::are_arms))]
-fn are_arms(arms: &[Arm]) -> bool
+pub fn are_arms(arms: &[Arm]) -> bool
     ensures { result ≡ spec.are_arms arms.now }
 {
     arms.iter().all(|arm| is_arm(arm))
@@ -221,7 +219,7 @@ fn is_arm(arm: &Arm) -> bool
 
 /// Whether there are more labels than a `switch` may have.
 #[tactic(auto, unfolding(crate::specs::Switches::has_many))]
-fn has_many(words: &[u32], has_default: bool) -> bool
+pub fn has_many(words: &[u32], has_default: bool) -> bool
     ensures { result ≡ spec.has_many words.now has_default }
 {
     if has_default {
@@ -229,29 +227,4 @@ fn has_many(words: &[u32], has_default: bool) -> bool
     } else {
         words.len() > 16383
     }
-}
-
-/// A `switch` over the arms of its body.
-#[tactic(auto, unfolding(crate::specs::Switches::switched))]
-pub(crate) fn switched(
-    alloc: Global,
-    scene: &Scene,
-    place: Place,
-    selector: Part,
-    g: Gathered,
-) -> Result<Stmt, Refusal>
-    ensures { Gives result (spec.switched scene.now place selector g) }
-{
-    if is_unread(scene, &selector) {
-        return Err(refuse(place, Code::E0507));
-    }
-    let many = has_many(g.words.as_slice(), g.has_default);
-    let arms = g.all_arms(alloc)?;
-    if !(is_index(&selector) && are_arms(arms.as_slice())) {
-        return Err(refuse(place, Code::E0511));
-    }
-    if many {
-        return Err(refuse(place, Code::E0908));
-    }
-    Ok(Stmt::Switch(selector.expr, arms))
 }

@@ -48,7 +48,7 @@ fn height(env: &Env, ty: &Ty, most: u32) -> Option<u32>
 }
 
 /// How high the highest of some members is, where it is at most so high.
-pub(crate) fn highest(env: &Env, members: &[Member], most: u32) -> Option<u32>
+pub fn highest(env: &Env, members: &[Member], most: u32) -> Option<u32>
     requires heights { AreHeights env.now.scene.structs env.now.heights }
     ensures { MatchOption result (most < highest_of (members_meaning height_meaning env.now.scene.structs members.now)) (λ h. (h ≡ highest_of (members_meaning height_meaning env.now.scene.structs members.now)) × (h ≤ most)) }
 {

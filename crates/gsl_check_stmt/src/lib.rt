@@ -14,12 +14,24 @@ mod locals;
 mod rules;
 mod sound;
 mod structs;
-mod walk;
 mod within;
 
 pub use asked::{is_declared, is_high, is_reserved, may_be_had};
-pub use gathered::Gathered;
-pub use sound::SoundEnv;
-pub use structs::structured;
-pub use walk::{statement, statements};
-pub use within::Within;
+pub use declarations::as_one;
+pub use gathered::{
+    Gathered, are_arms, case_word, constant_word, default_label, has_many, misplaced_case,
+    misplaced_default,
+};
+pub use heads::{
+    Head, Test, between, boxed, eval, eval_if, evaluated, if_done, if_head, is_label, stray_case,
+    tested, tested_if, while_head,
+};
+pub use heights::highest;
+pub use locals::{
+    begun_variable, known_as, may_be_plain, may_begin, qualified, qualified_by, refused_layout,
+    refused_value, set_variable,
+};
+pub use rules::{alone, broken, condition_fault, continued, discarded, returned, returned_value};
+pub use sound::{SoundEnv, struct_behind};
+pub use structs::{has_member, may_be_member, may_be_struct};
+pub use within::{Within, in_loop, in_part, in_row, in_switch};

@@ -15,7 +15,7 @@ use std::alloc::Global;
 
 /// An expression that stands alone.
 #[tactic(auto, unfolding(crate::specs::Rules::alone))]
-pub(crate) fn alone(scene: &Scene, x: Part) -> Result<Part, Refusal>
+pub fn alone(scene: &Scene, x: Part) -> Result<Part, Refusal>
     requires known { AreStructs scene.now.structs }
     ensures { Gives result (spec.alone scene.now x) }
 {
@@ -30,7 +30,7 @@ pub(crate) fn alone(scene: &Scene, x: Part) -> Result<Part, Refusal>
 
 /// The fault of a condition, if it has one.
 #[tactic(auto, unfolding(crate::specs::Rules::condition_fault))]
-pub(crate) fn condition_fault(scene: &Scene, test: &Part) -> Option<Code>
+pub fn condition_fault(scene: &Scene, test: &Part) -> Option<Code>
     ensures { result ≡ spec.condition_fault scene.now test.now }
 {
     if !is_bool(test) {
@@ -43,7 +43,7 @@ pub(crate) fn condition_fault(scene: &Scene, test: &Part) -> Option<Code>
 }
 
 #[tactic(auto, unfolding(crate::specs::Rules::broken))]
-pub(crate) fn broken(within: Within, place: Place) -> Result<Stmt, Refusal>
+pub fn broken(within: Within, place: Place) -> Result<Stmt, Refusal>
     ensures { Gives result (spec.broken within place) }
 {
     if !within.breaks {
@@ -53,7 +53,7 @@ pub(crate) fn broken(within: Within, place: Place) -> Result<Stmt, Refusal>
 }
 
 #[tactic(auto, unfolding(crate::specs::Rules::continued))]
-pub(crate) fn continued(within: Within, place: Place) -> Result<Stmt, Refusal>
+pub fn continued(within: Within, place: Place) -> Result<Stmt, Refusal>
     ensures { Gives result (spec.continued within place) }
 {
     if !within.continues {
@@ -63,7 +63,7 @@ pub(crate) fn continued(within: Within, place: Place) -> Result<Stmt, Refusal>
 }
 
 #[tactic(auto, unfolding(crate::specs::Rules::discarded))]
-pub(crate) fn discarded(stage: Stage, place: Place) -> Result<Stmt, Refusal>
+pub fn discarded(stage: Stage, place: Place) -> Result<Stmt, Refusal>
     ensures { Gives result (spec.discarded stage place) }
 {
     match stage {
@@ -80,7 +80,7 @@ fn is_void(ty: &Ty) -> bool
 
 /// `return` without a value.
 #[tactic(auto, unfolding(crate::specs::Rules::returned))]
-pub(crate) fn returned(returns: &Ty, place: Place) -> Result<Stmt, Refusal>
+pub fn returned(returns: &Ty, place: Place) -> Result<Stmt, Refusal>
     ensures { Gives result (spec.returned returns.now place) }
 {
     if !is_void(returns) {
@@ -91,7 +91,7 @@ pub(crate) fn returned(returns: &Ty, place: Place) -> Result<Stmt, Refusal>
 
 /// `return` with a value.
 #[tactic(auto, unfolding(crate::specs::Rules::returned_value))]
-pub(crate) fn returned_value(
+pub fn returned_value(
     alloc: Global,
     scene: &Scene,
     returns: &Ty,

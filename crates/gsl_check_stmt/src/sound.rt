@@ -157,51 +157,11 @@ impl SoundEnv {
             },
         ))
     }
-
-    /// Behind one more struct, which is so high. Its number comes with it.
-    #[tactic(auto, unfolding(crate::specs::Structs::with_struct), using(crate::proofs::Longer::heights_behind))]
-    pub(crate) fn with_struct(
-        self,
-        alloc: Global,
-        name: &Text,
-        members: Members,
-        height: u32,
-    ) -> Result<(u32, SoundEnv), Memory>
-        requires some { 0 < length members }
-        requires sound { AllByRecursion (λ (member : OneMember). IsSound (length self.scene.structs) member.ty) members }
-        requires height { height ≡ structs.height_over self.scene.structs members }
-        ensures { IfOk result (λ more. (more.0 ≡ length self.scene.structs) × (more.1 ≡ structs.with_struct name.now members self)) }
-    {
-        let SoundEnv {
-            env: Env {
-                names,
-                mut scene,
-                mut heights,
-            },
-        } = self;
-        let number = number_behind(scene.structs.len())?;
-        let declared = Text::from_str(alloc, name.as_str())?;
-        let next = struct_behind(&scene.structs, declared, members);
-        scene.structs.push(next)?;
-        heights.push(height)?;
-        let name = Text::from_str(alloc, name.as_str())?;
-        let names = names.with(alloc, name, Entry::Struct(number))?;
-        Ok((
-            number,
-            SoundEnv {
-                env: Env {
-                    names,
-                    scene,
-                    heights,
-                },
-            },
-        ))
-    }
 }
 
 /// The struct of a name and members that stands next behind some structs.
 #[tactic(auto, using(crate::proofs::Longer::next_is))]
-fn struct_behind(all: &Structs, name: Text, members: Members) -> StructType
+pub fn struct_behind(all: &Structs, name: Text, members: Members) -> StructType
     requires known { AreStructs all.now }
     requires some { 0 < length members }
     requires sound { AllByRecursion (λ (member : OneMember). IsSound (length all.now) member.ty) members }

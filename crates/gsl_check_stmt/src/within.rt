@@ -15,7 +15,7 @@ pub struct Within {
 }
 
 /// Among other statements.
-pub(crate) fn in_row(within: Within) -> Within
+pub fn in_row(within: Within) -> Within
     ensures { result ≡ spec.in_row within }
 {
     Within {
@@ -26,7 +26,7 @@ pub(crate) fn in_row(within: Within) -> Within
 }
 
 /// As a part of another statement, in a scope that is open for it.
-pub(crate) fn in_part(within: Within) -> Within
+pub fn in_part(within: Within) -> Within
     ensures { result ≡ spec.in_part within }
 {
     Within {
@@ -36,7 +36,7 @@ pub(crate) fn in_part(within: Within) -> Within
     }
 }
 
-pub(crate) fn in_loop() -> Within
+pub fn in_loop() -> Within
     ensures { result ≡ spec.in_loop }
 {
     Within {
@@ -46,7 +46,7 @@ pub(crate) fn in_loop() -> Within
     }
 }
 
-pub(crate) fn in_switch(within: Within) -> Within
+pub fn in_switch(within: Within) -> Within
     ensures { result ≡ spec.in_switch within }
 {
     Within {
