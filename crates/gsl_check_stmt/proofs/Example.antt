@@ -1,13 +1,13 @@
 -- Statements with the typed statements or the faults that they stand for, so that a wrong definition is seen.
-use Rattle.std.proofs.Common.{◌≡◌, refl, sym, ap, ◌∙◌, ℕ, true, false, List, [], ◌∷◌, Ok, Some, None}
+use Rattle.std.proofs.Common.{◌≡◌, refl, sym, ap, ◌∙◌, true, false, [], ◌∷◌, Ok, None}
 use Rattle.std.specs.Prelude.{Bool, ◌&&◌, not, nat_le}
 use Rattle.gsl_base.specs.declared.fault.Place.{Place}
-use Rattle.gsl_base.specs.declared.fault.Code.TheVariants.{E0403, E0404, E0503, E0504, E0510, E0511, E0512, E0513, E0514, E0604, E0701}
-use Rattle.gsl_base.specs.declared.stage.Stage.TheVariants.{Compute, Fragment}
+use Rattle.gsl_base.specs.declared.fault.Code.TheVariants.{E0403, E0404, E0510, E0511, E0512, E0514, E0604, E0701}
+use Rattle.gsl_base.specs.declared.stage.Stage.TheVariants.{Compute}
 use Rattle.gsl_syntax.specs.declared.declaration.Name.{Name}
 use Rattle.gsl_syntax.specs.declared.declaration.Qual.TheVariants as qual
 use Rattle.gsl_syntax.specs.declared.statement.Stmt.TheVariants as s
-use Rattle.gsl_types.specs.declared.ty.Scalar.TheVariants.{Bool as Boolean, Int, Uint}
+use Rattle.gsl_types.specs.declared.ty.Scalar.TheVariants.{Int}
 use Rattle.gsl_types.specs.declared.ty.Ty.{Ty}
 use Rattle.gsl_types.specs.declared.ty.Ty.TheVariants as ty
 use Rattle.gsl_types.specs.declared.ty.Ty.TheVariants.{rolls-One, rolls-Void}
@@ -16,24 +16,18 @@ use Rattle.gsl_types.specs.declared.ty.Ty.TheFolds.{fold-roll-Ty}
 use Rattle.gsl_types.specs.Known.{sound, sound_kind}
 use Rattle.gsl_tree.specs.WellTyped.{is_plain, is_plain_kind}
 use Rattle.gsl_makers.proofs.Layers.{of_one}
-use Rattle.gsl_values.specs.declared.value.Value.TheVariants.{Word}
-use Rattle.gsl_names.specs.declared.entry.Entry.TheVariants.{Local, Global}
-use Rattle.gsl_tree.specs.declared.expr.Expr.{Expr}
-use Rattle.gsl_tree.specs.declared.expr.ExprKind.TheVariants as kind
+use Rattle.gsl_names.specs.declared.entry.Entry.TheVariants.{Global}
 use Rattle.gsl_tree.specs.declared.folded.Folded.TheVariants.{NotConstant}
 use Rattle.gsl_tree.specs.declared.stmt.Stmt.TheVariants as stmt
 use Rattle.gsl_tree.specs.declared.stmt.Arm.{roll-Arm}
-use Rattle.gsl_tree.specs.Trees.{typed}
-use Rattle.gsl_typing.specs.declared.scene.Part.{Part}
 use Rattle.gsl_typing.specs.Rows.{fault}
-use Rattle.gsl_typing.specs.Scene.{made}
 use Rattle.gsl_check_expr.specs.declared.env.Env.{Env}
 use Rattle.gsl_check_stmt.specs.declared.within.Within.{Within}
 use Rattle.gsl_check_stmt.specs.Steps.{opened, closed}
 use Rattle.gsl_check_stmt.specs.Declaring.{is_declared, is_reserved, may_be_had, is_high}
 use Rattle.gsl_check_stmt.specs.Locals.{qualified, plain_variable, may_be_plain, with_local}
-use Rattle.gsl_check_stmt.specs.Rules.{condition_fault, broken, continued, discarded, returned, returned_value}
-use Rattle.gsl_check_stmt.specs.Switches.{nothing, with_case, with_default, with_stmt, all_arms, are_arms, default_label, misplaced_default}
+use Rattle.gsl_check_stmt.specs.Rules.{broken, continued, discarded}
+use Rattle.gsl_check_stmt.specs.Switches.{nothing, with_case, with_default, with_stmt, all_arms, default_label, misplaced_default}
 use Rattle.gsl_check_stmt.specs.Statements.{statement, in_loop}
 use Rattle.gsl_check_stmt.proofs.Parts.{of-Break, of-Continue, of-Discard, of-Default}
 

@@ -1,13 +1,12 @@
 -- Lists of structs with one more, and their heights.
-use Rattle.std.proofs.Common.{◌≡◌, refl, sym, ap, subst, ◌∙◌, ℕ, ◌+◌, ◌<◌, ◌≤◌, ◌⊎◌, inl, inr, List, [], ◌∷◌, ◌++◌, length, slice_get, slice_index_or, Some, get_or, min, arith, length-append}
-use Rattle.std.specs.List.{AllByRecursion}
+use Rattle.std.proofs.Common.{◌≡◌, refl, sym, ap, subst, ◌∙◌, ℕ, ◌+◌, ◌<◌, inl, inr, List, [], ◌∷◌, ◌++◌, length, slice_get, slice_index_or, Some, get_or, min, arith, length-append}
 use Rattle.std.proofs.lemmas.Bool.{cases_lt}
 use Rattle.std.proofs.lemmas.List.{get_or_append_left, get_or_push, get_or_past}
 use Rattle.gsl_types.specs.declared.ty.Ty.TheVariants as ty
 use Rattle.gsl_types.specs.declared.ty.StructType.{StructType}
 use Rattle.gsl_types.specs.declared.ty.Member.{Member}
-use Rattle.gsl_types.specs.Known.{AreStructs, IsStruct, IsSound}
-use Rattle.gsl_types.specs.Leaves.{told_leaves, leaves_of, leaves_together, counting, most_leaves}
+use Rattle.gsl_types.specs.Known.{AreStructs, IsStruct}
+use Rattle.gsl_types.specs.Leaves.{leaves_together, counting, most_leaves}
 use Rattle.gsl_types.specs.Structs.{Meaning, struct_over, table_from, numbered, members_meaning}
 use Rattle.gsl_types.proofs.Layers.{over_struct}
 use Rattle.gsl_types.proofs.Structs.{numbered_is, members_agree}

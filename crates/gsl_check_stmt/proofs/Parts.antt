@@ -1,5 +1,5 @@
 -- What each statement stands for, from what its parts stand for.
-use Rattle.std.proofs.Common.{◌≡◌, refl, sym, ap, ◌∙◌, ℕ, List, [], ◌∷◌, map, Ok, Option, Some, None}
+use Rattle.std.proofs.Common.{◌≡◌, refl, sym, ap, ◌∙◌, List, [], ◌∷◌, map, Ok, Option, Some, None}
 use Rattle.gsl_base.specs.Checked.{◌>>=◌}
 use Rattle.gsl_base.specs.declared.fault.Place.{Place}
 use Rattle.gsl_syntax.specs.declared.expr.Expr.{Expr as Phrase}
@@ -10,14 +10,13 @@ use Rattle.gsl_syntax.specs.declared.statement.Stmt.TheVariants as syntax
 use Rattle.gsl_syntax.specs.declared.statement.Stmt.TheVariants.{rolls-Empty, rolls-Block, rolls-Decl, rolls-Expr, rolls-If, rolls-IfElse, rolls-Switch, rolls-Case, rolls-Default, rolls-While, rolls-Do, rolls-For, rolls-Break, rolls-Continue, rolls-Discard, rolls-Return, rolls-ReturnValue}
 use Rattle.gsl_syntax.specs.declared.statement.Stmt.TheOpen.{Stmt-F}
 use Rattle.gsl_syntax.specs.declared.statement.Stmt.TheFolds.{fold-roll-Stmt}
-use Rattle.gsl_syntax.specs.declared.statement.Stmt.TheViews.{roll-Stmt, out-Stmt, roll-out-Stmt}
 use Rattle.gsl_types.specs.declared.ty.Ty.{Ty}
 use Rattle.gsl_tree.specs.declared.stmt.Stmt.TheVariants as stmt
 use Rattle.gsl_check_expr.specs.declared.env.Env.{Env}
 use Rattle.gsl_check_stmt.specs.declared.within.Within.{Within}
 use Rattle.gsl_check_stmt.specs.Rules.{broken, continued, discarded, returned}
 use Rattle.gsl_check_stmt.specs.Switches.{misplaced_default}
-use Rattle.gsl_check_stmt.specs.Statements.{Answer, answer, statement, by_parts, Label, Case, Default, declaration, in_row, still, evaluated, stray_case, return_with, block, branch, branches, switch, while_head, for_head, looped, do_loop}
+use Rattle.gsl_check_stmt.specs.Statements.{Answer, answer, statement, by_parts, Case, Default, declaration, in_row, still, evaluated, stray_case, return_with, block, branch, branches, switch, while_head, for_head, looped, do_loop}
 
 -- two maps as one
 map_map : {A B C : Type 0} (f : A → B) (g : B → C) (l : List A) → map g (map f l) ≡ map (λ x. g (f x)) l

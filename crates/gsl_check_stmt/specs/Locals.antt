@@ -1,15 +1,13 @@
 -- Local variables (GLSL 4.50, 4.1 and 4.3): their qualifiers, their types, and what they begin as.
-use Rattle.std.specs.Prelude.{ℕ, Bool, true, false, not, List, [], ◌∷◌, ◌++◌, map, length, Option, Some, None, is_none, unwrap_or, Ok, if◌then◌else◌}
+use Rattle.std.specs.Prelude.{ℕ, Bool, true, false, not, List, [], ◌∷◌, ◌++◌, map, length, Some, None, is_none, unwrap_or, Ok, if◌then◌else◌}
 use Rattle.gsl_base.specs.Checked.{Checked, ◌>>=◌}
 use Rattle.gsl_base.specs.declared.fault.Place.{Place}
 use Rattle.gsl_base.specs.declared.fault.Code.TheVariants.{E0403, E0404, E0504, E0507, E0510, E0601, E0602, E0604, E0701, E0704, E0908}
-use Rattle.gsl_syntax.specs.declared.expr.Expr.{Expr as Syntax}
 use Rattle.gsl_syntax.specs.declared.declaration.Name.{Name}
 use Rattle.gsl_syntax.specs.declared.declaration.Lay.{Lay}
 use Rattle.gsl_syntax.specs.declared.declaration.Lay.TheVariants as lay
 use Rattle.gsl_syntax.specs.declared.declaration.Qual.{Qual}
 use Rattle.gsl_syntax.specs.declared.declaration.Qual.TheVariants as qual
-use Rattle.gsl_syntax.specs.declared.declaration.Init.{Init}
 use Rattle.gsl_syntax.specs.declared.declaration.Declarator.{Declarator}
 use Rattle.gsl_syntax.specs.declared.declaration.Declarator.TheVariants as declarator_of
 use Rattle.gsl_types.specs.declared.ty.Ty.{Ty}
@@ -19,7 +17,6 @@ use Rattle.gsl_names.specs.Scopes.{declare}
 use Rattle.gsl_tree.specs.declared.expr.Expr.{Expr}
 use Rattle.gsl_tree.specs.declared.folded.Folded.{Folded}
 use Rattle.gsl_tree.specs.declared.folded.Folded.TheVariants.{NotConstant}
-use Rattle.gsl_tree.specs.declared.stmt.Stmt.{Stmt}
 use Rattle.gsl_tree.specs.declared.stmt.Stmt.TheVariants as stmt
 use Rattle.gsl_tree.specs.Constants.{constant_of}
 use Rattle.gsl_typing.specs.declared.scene.Scene.{Scene}

@@ -1,6 +1,6 @@
 -- The rules of single statements over typed parts (GLSL 4.50, chapter 6). Their faults stand at the statement's keyword.
-use Rattle.std.specs.Prelude.{Bool, not, ◌&&◌, List, [], ◌∷◌, Option, Some, None, Ok, if◌then◌else◌}
-use Rattle.gsl_base.specs.Checked.{Checked, ◌>>=◌}
+use Rattle.std.specs.Prelude.{Bool, not, ◌&&◌, [], ◌∷◌, Option, Some, None, Ok, if◌then◌else◌}
+use Rattle.gsl_base.specs.Checked.{Checked}
 use Rattle.gsl_base.specs.declared.fault.Place.{Place}
 use Rattle.gsl_base.specs.declared.fault.Code.{Code}
 use Rattle.gsl_base.specs.declared.fault.Code.TheVariants.{E0503, E0504, E0507, E0510, E0512, E0513, E0514}
@@ -9,7 +9,6 @@ use Rattle.gsl_base.specs.declared.stage.Stage.TheVariants.{Vertex, Fragment, Co
 use Rattle.gsl_overload.specs.Identity.{identical}
 use Rattle.gsl_types.specs.declared.ty.Ty.{Ty}
 use Rattle.gsl_types.specs.declared.ty.Ty.TheVariants as ty
-use Rattle.gsl_tree.specs.declared.expr.Expr.{Expr}
 use Rattle.gsl_tree.specs.declared.stmt.Stmt.{Stmt}
 use Rattle.gsl_tree.specs.declared.stmt.Stmt.TheVariants as stmt
 use Rattle.gsl_tree.specs.Trees.{place_of}

@@ -1,5 +1,5 @@
 -- The typed statement that a statement stands for, and what is declared behind it; or its first fault (GLSL 4.50, chapter 6).
-use Rattle.std.specs.Prelude.{ℕ, is_some, Bool, true, false, List, [], ◌∷◌, map, length, Option, Some, None, Ok, if◌then◌else◌}
+use Rattle.std.specs.Prelude.{is_some, true, false, List, [], ◌∷◌, map, Option, Some, None, Ok, if◌then◌else◌}
 use Rattle.gsl_base.specs.Checked.{Checked, ◌>>=◌}
 use Rattle.gsl_base.specs.declared.fault.Place.{Place}
 use Rattle.gsl_base.specs.declared.fault.Code.{Code}
@@ -21,7 +21,6 @@ use Rattle.gsl_types.specs.declared.ty.Ty.TheVariants as ty
 use Rattle.gsl_tree.specs.declared.expr.Expr.{Expr}
 use Rattle.gsl_tree.specs.declared.stmt.Stmt.{Stmt}
 use Rattle.gsl_tree.specs.declared.stmt.Stmt.TheVariants as stmt
-use Rattle.gsl_typing.specs.declared.scene.Scene.{Scene}
 use Rattle.gsl_typing.specs.declared.scene.Part.{Part}
 use Rattle.gsl_typing.specs.Rows.{fault}
 use Rattle.gsl_typing.specs.Scene.{type_in}

@@ -1,11 +1,10 @@
 -- The body of a `switch` (GLSL 4.50, 6.2): labels, and statements behind them.
-use Rattle.std.specs.Prelude.{ℕ, ◌+◌, Bool, true, false, not, ◌&&◌, ◌||◌, nat_le, nat_lt, nat_eq, List, [], ◌∷◌, ◌++◌, length, Option, Some, None, Ok, if◌then◌else◌}
+use Rattle.std.specs.Prelude.{ℕ, Bool, true, false, not, ◌&&◌, ◌||◌, nat_le, nat_eq, List, [], ◌∷◌, ◌++◌, length, Ok, if◌then◌else◌}
 use Rattle.std.specs.List.{list_any, list_all}
-use Rattle.gsl_base.specs.Checked.{Checked, ◌>>=◌}
+use Rattle.gsl_base.specs.Checked.{Checked}
 use Rattle.gsl_base.specs.declared.fault.Place.{Place}
 use Rattle.gsl_base.specs.declared.fault.Code.TheVariants.{E0504, E0507, E0511, E0601, E0602, E0908}
 use Rattle.gsl_types.specs.declared.ty.Ty.{Ty}
-use Rattle.gsl_tree.specs.declared.expr.Expr.{Expr}
 use Rattle.gsl_tree.specs.declared.folded.Folded.{Folded}
 use Rattle.gsl_tree.specs.declared.folded.Folded.TheVariants.{Known, NotConstant, Free}
 use Rattle.gsl_tree.specs.declared.stmt.Stmt.{Stmt}

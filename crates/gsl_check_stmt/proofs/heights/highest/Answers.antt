@@ -12,4 +12,4 @@ returns-in-None c =
     let x = c.index-members-k.result in
     let split : drop k members ≡ x ∷ drop (k + 1) members = drop_more members k x c.loop-k-test.true ∙ ap (λ y. y ∷ drop (k + 1) members) (sym c.index-members-k.is) in
     above_all c.args.env.now.scene.structs members k c.loop-k.top c.args.most x split c.loop-k.invariant.0
-      (subst (λ (m : Member). c.args.most < height_of c.args.env.now.scene.structs m.ty) (sym c.index-members-k.is) c.in-None.ensures)
+    (subst (λ (m : Member). c.args.most < height_of c.args.env.now.scene.structs m.ty) (sym c.index-members-k.is) c.in-None.ensures)
