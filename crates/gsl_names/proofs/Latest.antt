@@ -16,6 +16,11 @@ all_in-append (x ∷ xs) ys name = elim (bytes_eq x.0 name) as (λ b. (if b then
   | false ↦ all_in-append xs ys name
 ]
 
+-- there are as many scopes as counts
+pub cut_length : (counts : List ℕ) (all : List Declared) → length (cut counts all) ≡ length counts
+cut_length [] all = refl
+cut_length (n ∷ counts) all = ap (λ k. suc k) (cut_length counts (drop n all))
+
 pub cut_all : (counts : List ℕ) (all : List Declared) (name : List ℕ) → together counts ≡ length all → all_of (cut counts all) name ≡ all_in all name
 cut_all [] [] name is = refl
 cut_all [] (x ∷ all) name is = let never : ⊥ = omega (arith, is) in elim never [ ]

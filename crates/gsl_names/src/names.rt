@@ -1,6 +1,6 @@
 //! The table of names: one look-up for each name, however many scopes there are.
 
-ghost use Rattle.std.specs.Prelude.{◌≡◌, ◌<◌, ◌≤◌, ◌+◌, ◌∷◌, [], ℕ, List as Plain, if◌then◌else◌, length, drop, IfOk, IfSome, IsSome};
+ghost use Rattle.std.specs.Prelude.{◌≡◌, ◌<◌, ◌≤◌, ◌+◌, ◌∷◌, [], ℕ, List as Plain, if◌then◌else◌, length, nat_lt, drop, IfOk, IfSome, IsSome};
 ghost use Rattle.std.specs.BTreeMap.{get_by_text};
 ghost use Rattle.std.specs.Str.{bytes_eq};
 ghost use Rattle.gsl_names.specs.Scopes.{all_in, all_of, declare, find, find_here, outer};
@@ -154,6 +154,14 @@ impl Names {
             around,
             places,
         })
+    }
+
+    /// Whether there is a scope around the innermost one.
+    #[tactic(auto, using(crate::proofs::Latest::cut_length))]
+    pub fn is_nested(&self) -> bool
+        ensures { result ≡ nat_lt 1 (length self.now) }
+    {
+        self.around.len() > 0
     }
 
     /// The names of the scopes around the innermost one.
