@@ -2,14 +2,16 @@
 
 ghost use Rattle.std.specs.Prelude.{◌≡◌, ◌≤◌, ◌<◌, IfOk, OnOk};
 ghost use Rattle.std.specs.Option.{option_map};
-ghost use Rattle.gsl_base.specs.declared.token.Token.{Token};
+ghost use Rattle.gsl_base.specs.declared.token.Token.{Token as OneToken};
 ghost use Rattle.gsl_syntax.specs.Nesting as spec;
+ghost use Rattle.gsl_nesting.specs.Passing as passing;
 ghost use Rattle.gsl_nesting.specs.Walking.{counters, Holds};
 
 use crate::stack::Stack;
 use gsl_base::{Key, Kind, Memory, Place, Punct, Token};
 use gsl_syntax::Counter;
 use std::alloc::Global;
+use std::marker::Model;
 
 const LIMIT: u32 = 256;
 
@@ -230,32 +232,91 @@ fn before_label(kind: &Kind) -> bool
     }
 }
 
-fn goes_on(tokens: &[Token]) -> bool
-    ensures { result ≡ spec.goes_on tokens.now }
+/// Whether a token of this kind, directly behind a `;` or a `}`, tells that the statement goes on.
+pub fn is_continuation(kind: &Kind) -> bool
+    ensures { result ≡ spec.is_continuation kind.now }
 {
-    match tokens {
-        [] => false,
-        [token, ..] => matches!(token.kind, Kind::Key(Key::Else | Key::While)),
+    matches!(kind, Kind::Key(Key::Else | Key::While))
+}
+
+/// How deeply tokens nest, behind those that were passed.
+#[derive(Drop)]
+pub struct Nesting {
+    walk: Walk,
+    /// What the token that was passed last tells of the next one.
+    list: bool,
+    label: bool,
+}
+
+impl Model for Nesting {
+    ghost use Rattle.std.specs.Prelude.{◌≤◌};
+    ghost use Rattle.gsl_nesting.specs.Passing.{Passed};
+
+    ghost Value = { Passed };
+
+    ghost use Rattle.gsl_nesting.specs.Walking.{counters, Holds};
+
+    ghost view = { λ n. record { list = n.list; label = n.label; counters = counters n.walk } };
+
+    ghost invariant = { λ n. Holds n.walk × (n.walk.weight ≤ 256) };
+}
+
+impl Nesting {
+    /// Before the first token.
+    pub fn new(alloc: Global) -> Nesting
+        ensures { result ≡ passing.at_start }
+    {
+        Nesting {
+            walk: Walk::new(alloc),
+            list: false,
+            label: false,
+        }
+    }
+
+    /// Behind a token of this kind, which another follows that continues a statement or does not; none where it
+    /// nests too deeply.
+    pub fn passed(self, kind: &Kind, on: bool) -> Result<Option<Nesting>, Memory>
+        ensures { IfOk result (λ next. next ≡ passing.passed self on kind.now) }
+    {
+        let Nesting {
+            mut walk,
+            list,
+            label,
+        } = self;
+        walk.count(list, label, on, kind)?;
+        if walk.weight > LIMIT {
+            return Ok(None);
+        }
+        Ok(Some(Nesting {
+            walk,
+            list: begins_list(kind),
+            label: before_label(kind),
+        }))
     }
 }
 
 /// The place of the first token that is nested too deeply, if there is one.
 #[tactic(auto, unfolding(gsl_syntax::specs::Nesting::deep_from, gsl_syntax::specs::Nesting::first_deep))]
 pub fn first_deep(alloc: Global, tokens: &[Token]) -> Result<Option<Place>, Memory>
-    ensures { IfOk result (λ place. place ≡ option_map (λ (t : Token). t.place) (spec.first_deep tokens.now)) }
+    ensures { IfOk result (λ place. place ≡ option_map (λ (t : OneToken). t.place) (spec.first_deep tokens.now)) }
 {
-    let mut walk = Walk::new(alloc);
-    let mut list = false;
-    let mut label = false;
+    let mut nesting = Nesting::new(alloc);
     let mut rest = tokens;
     while let [token, more @ ..] = rest {
-        walk.count(list, label, goes_on(more), &token.kind)?;
-        if walk.weight > LIMIT {
-            return Ok(Some(token.place));
+        match nesting.passed(&token.kind, goes_on(more))? {
+            Some(next) => nesting = next,
+            None => return Ok(Some(token.place)),
         }
-        list = begins_list(&token.kind);
-        label = before_label(&token.kind);
         rest = more;
     }
     Ok(None)
+}
+
+fn goes_on(tokens: &[Token]) -> bool
+    ensures { result ≡ spec.goes_on tokens.now }
+{
+    match tokens {
+        [] => false,
+        [token, ..] => is_continuation(&token.kind),
+    }
 }

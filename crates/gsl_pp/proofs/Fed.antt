@@ -180,6 +180,11 @@ feed_at unit raws rest None state stream refused feed h s e r fs ft fr ff =
     ∙ rest_none (initial unit) rest ∙ sym h
 feed_at unit raws rest (Some fault) state stream refused feed h s e r fs ft fr ff = ap (feeds_on feed) (ff ∙ r) ∙ sym h
 
+-- nothing is left, and no group is open
+pub ended_rest : (s : State) (tokens : Seen) (raws : List Raw) → tokens ≡ [] → raws ≡ [] → s.groups ≡ [] → rest_of s tokens raws ≡ ended s.left
+ended_rest s tokens raws t r g =
+    ap (λ x. rest_of s x raws) t ∙ ap (λ x. rest_of s [] x) r ∙ rest_none s [] ∙ unit_none s ∙ ap (λ x. at_end s (outermost x)) g
+
 -- ---- live tokens
 
 pub tells_fault : (before later next : Trace) (n : ℕ) (refusal : Refusal) → Draws (Err refusal) before later n → Tells (Err refusal) before next

@@ -7,7 +7,7 @@ ghost use Rattle.std.specs.Str.{bytes_eq};
 ghost use Rattle.indexmap.specs.IndexMap.{insert_entry};
 ghost use Rattle.gsl_base.specs.Checked.{Gives};
 ghost use Rattle.gsl_base.specs.declared.fault.Refusal.{Refusal};
-ghost use Rattle.gsl_macros.specs.Expanding.{fresh, traced};
+ghost use Rattle.gsl_macros.specs.Expanding.{ended as at_its_end, fresh, traced};
 ghost use Rattle.gsl_macros.specs.Steps as steps;
 ghost use Rattle.gsl_pp.specs.Directives.{is_live, outermost, with_left};
 ghost use Rattle.gsl_pp.specs.Feeding as feeding;
@@ -21,6 +21,7 @@ use crate::word::is_hash;
 use gsl_base::{Code, Fault, Memory, Place, Raw, Raws, Refusal, Text, Token, Tokens};
 use gsl_macros::{Hid, MAX_DEPTH, Macro, Macros, Shift, Stream, Table, fault, next};
 use std::alloc::Global;
+use std::mem::replace;
 
 /// A place in a unit.
 #[derive(Drop)]
@@ -73,6 +74,41 @@ impl<'a> Feed<'a> {
                 Err(refusal)
             }
         }
+    }
+
+    /// A feed that is at its end, which takes no memory.
+    pub fn ended(alloc: Global) -> Feed<'a>
+        ensures { feeding.feeds result ≡ at_its_end 0 }
+    {
+        let shift = Shift {
+            after: 0,
+            number: 1,
+            file: 0,
+        };
+        let macros = Macros {
+            table: Table::new(alloc),
+            shift,
+        };
+        let state = State {
+            macros,
+            groups: Groups::new(alloc),
+            left: 0,
+        };
+        Feed {
+            alloc,
+            state,
+            stream: Stream::new(alloc, &[]),
+            rest: &[],
+            refused: None,
+        }
+    }
+
+    /// What is still to come, taken out of the feed, which is at its end then.
+    pub fn taken(&mut self) -> Feed<'a>
+        ensures { result ≡ self.old }
+    {
+        let end = Feed::ended(self.alloc);
+        replace(self, end)
     }
 
     /// The next live token, where there was no refusal.
