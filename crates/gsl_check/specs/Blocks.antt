@@ -1,5 +1,5 @@
 -- Blocks and their members (GLSL 4.50, 4.3.9 and 4.4.5; GL_KHR_vulkan_glsl).
-use Rattle.std.specs.Prelude.{ℕ, ◌+◌, Bool, true, false, not, ◌&&◌, ◌||◌, nat_le, nat_lt, List, [], ◌∷◌, ◌++◌, map, length, Option, Some, None, is_none, is_some, unwrap_or, Ok, if◌then◌else◌}
+use Rattle.std.specs.Prelude.{ℕ, ◌+◌, Bool, true, false, not, ◌&&◌, ◌||◌, nat_le, nat_lt, List, [], ◌∷◌, ◌++◌, map, length, Option, Some, None, is_none, is_some, unwrap_or, Ok}
 use Rattle.std.specs.List.{list_any}
 use Rattle.std.specs.Str.{bytes_eq}
 use Rattle.gsl_base.specs.Checked.{Checked, ◌>>=◌}
@@ -25,7 +25,7 @@ use Rattle.gsl_tree.specs.Expressions.{most_parts}
 use Rattle.gsl_tree.specs.Laying.{rule_of, members_of, placings_of, extent_of, layout_of}
 use Rattle.gsl_tree.specs.WellTyped.{push_blocks}
 use Rattle.gsl_typing.specs.declared.scene.Scene.{Scene}
-use Rattle.gsl_typing.specs.Rows.{fault, unless}
+use Rattle.gsl_typing.specs.Rows.{unless}
 use Rattle.gsl_check_expr.specs.declared.env.Env.{Env}
 use Rattle.gsl_check_expr.specs.declared.writing.Written.{Written}
 use Rattle.gsl_check_expr.specs.declared.writing.Written.TheVariants.{Whole, Open}

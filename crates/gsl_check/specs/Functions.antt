@@ -1,6 +1,6 @@
 -- Functions and their prototypes (GLSL 4.50, 6.1). The header of a function is a node of its own, before its body.
 use Rattle.std.specs.Prelude.{ℕ, ◌+◌, Bool, true, false, not, ◌&&◌, ◌||◌, nat_le, nat_eq, List, [], ◌∷◌, ◌++◌, map, length, codes, slice_get, Option, Some, None, is_some, Ok, if◌then◌else◌}
-use Rattle.std.specs.List.{list_any, list_all}
+use Rattle.std.specs.List.{list_any}
 use Rattle.std.specs.Str.{bytes_eq}
 use Rattle.gsl_base.specs.Checked.{Checked, ◌>>=◌}
 use Rattle.gsl_base.specs.declared.fault.Place.{Place}
@@ -8,7 +8,6 @@ use Rattle.gsl_base.specs.declared.fault.Code.TheVariants.{E0403, E0404, E0405, 
 use Rattle.gsl_syntax.specs.declared.declaration.Name.{Name}
 use Rattle.gsl_syntax.specs.declared.declaration.Qual.{Qual}
 use Rattle.gsl_syntax.specs.declared.declaration.Qual.TheVariants as qual
-use Rattle.gsl_syntax.specs.declared.expr.TypeSpec.{TypeSpec}
 use Rattle.gsl_syntax.specs.declared.statement.Stmt.{Stmt as Statement}
 use Rattle.gsl_syntax.specs.declared.statement.Param.{Param}
 use Rattle.gsl_syntax.specs.declared.statement.Param.TheVariants as param_of
@@ -20,18 +19,15 @@ use Rattle.gsl_syntax.specs.declared.statement.Function.{Function as FunctionTre
 use Rattle.gsl_types.specs.declared.ty.Direction.{Direction}
 use Rattle.gsl_types.specs.declared.ty.Direction.TheVariants.{In, Out, InOut}
 use Rattle.gsl_types.specs.declared.ty.Ty.{Ty}
-use Rattle.gsl_types.specs.declared.ty.Ty.TheVariants as ty
 use Rattle.gsl_overload.specs.Identity.{identical}
 use Rattle.gsl_names.specs.declared.entry.Entry.{Entry}
 use Rattle.gsl_names.specs.declared.entry.Entry.TheVariants as entry
-use Rattle.gsl_names.specs.Scopes.{Scope, Scopes, declare, find_here}
-use Rattle.gsl_tree.specs.declared.stmt.Stmt.{Stmt}
+use Rattle.gsl_names.specs.Scopes.{Scopes, declare, find_here}
 use Rattle.gsl_tree.specs.declared.unit.Function.{Function}
 use Rattle.gsl_tree.specs.declared.unit.Prototype.{Prototype}
 use Rattle.gsl_typing.specs.declared.scene.Scene.{Scene}
 use Rattle.gsl_typing.specs.Rows.{fault, unless}
 use Rattle.gsl_check_expr.specs.declared.env.Env.{Env}
-use Rattle.gsl_check_expr.specs.Callees.{Callee}
 use Rattle.gsl_check_expr.specs.Expressions.{bracket, callee}
 use Rattle.gsl_check_expr.specs.Written.{written_type, declared, whole_type}
 use Rattle.gsl_check_stmt.specs.declared.within.Within.{Within}

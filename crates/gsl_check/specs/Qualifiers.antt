@@ -1,6 +1,6 @@
 -- Qualifiers of declarations at the top of a unit and in blocks (GLSL 4.50, 4.3 to 4.10; GL_KHR_vulkan_glsl). The form of a declaration and its first
 -- storage qualifier say what it declares; then each qualifier is judged, from left to right, by that and by those before it.
-use Rattle.std.specs.Prelude.{ℕ, Bool, true, false, not, ◌&&◌, ◌||◌, nat_le, List, [], ◌∷◌, codes, Option, Some, None, is_some, is_none, Ok, if◌then◌else◌}
+use Rattle.std.specs.Prelude.{ℕ, Bool, true, false, not, ◌&&◌, ◌||◌, nat_le, List, [], ◌∷◌, codes, Option, Some, None, is_none, Ok, if◌then◌else◌}
 use Rattle.std.specs.Str.{bytes_eq}
 use Rattle.std.specs.List.{list_any}
 use Rattle.gsl_base.specs.Checked.{Checked, ◌>>=◌}

@@ -1,5 +1,5 @@
 -- Units: the typed unit that a unit stands for, or its first fault (GLSL 4.50, chapters 3 to 7).
-use Rattle.std.specs.Prelude.{ℕ, Bool, true, false, List, [], ◌∷◌, ◌++◌, map, Option, Some, None, is_none, unwrap_or, ◌&&◌, Ok}
+use Rattle.std.specs.Prelude.{Bool, List, [], ◌∷◌, ◌++◌, map, Option, Some, None, is_none, unwrap_or, ◌&&◌, Ok}
 use Rattle.gsl_base.specs.Checked.{Checked, ◌>>=◌}
 use Rattle.gsl_base.specs.declared.fault.Place.{Place}
 use Rattle.gsl_base.specs.declared.fault.Code.TheVariants.{E0701}
@@ -15,9 +15,8 @@ use Rattle.gsl_syntax.specs.declared.statement.Global.TheVariants as global
 use Rattle.gsl_types.specs.declared.ty.Ty.TheVariants as ty
 use Rattle.gsl_tree.specs.declared.unit.Function.{Function}
 use Rattle.gsl_tree.specs.declared.unit.TypedUnit.{TypedUnit}
-use Rattle.gsl_typing.specs.Rows.{fault, unless}
+use Rattle.gsl_typing.specs.Rows.{unless}
 use Rattle.gsl_check_expr.specs.declared.env.Env.{Env}
-use Rattle.gsl_check_expr.specs.declared.writing.Written.{Written}
 use Rattle.gsl_check_expr.specs.declared.writing.Written.TheVariants.{Whole}
 use Rattle.gsl_check_expr.specs.Written.{written_type}
 use Rattle.gsl_check_stmt.specs.Structs.{structured}

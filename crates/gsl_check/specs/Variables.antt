@@ -1,5 +1,5 @@
 -- Variables at the top of a unit: global ones, inputs and outputs (GLSL 4.50, 4.3).
-use Rattle.std.specs.Prelude.{ℕ, Bool, true, false, not, ◌&&◌, ◌||◌, List, [], ◌∷◌, ◌++◌, map, length, Option, Some, None, is_none, unwrap_or, Ok, if◌then◌else◌}
+use Rattle.std.specs.Prelude.{Bool, true, false, not, ◌||◌, List, [], ◌∷◌, ◌++◌, map, length, Option, Some, None, is_none, unwrap_or, Ok, if◌then◌else◌}
 use Rattle.gsl_base.specs.Checked.{Checked, ◌>>=◌}
 use Rattle.gsl_base.specs.declared.fault.Code.TheVariants.{E0403, E0404, E0504, E0507, E0510, E0601, E0602, E0702, E0703, E0706, E0908}
 use Rattle.gsl_base.specs.declared.stage.Stage.{Stage}
@@ -8,7 +8,6 @@ use Rattle.gsl_syntax.specs.declared.declaration.Name.{Name}
 use Rattle.gsl_syntax.specs.declared.declaration.Declarator.{Declarator}
 use Rattle.gsl_syntax.specs.declared.declaration.Declarator.TheVariants as declarator_of
 use Rattle.gsl_types.specs.declared.ty.Ty.{Ty}
-use Rattle.gsl_types.specs.declared.ty.Ty.TheVariants as ty
 use Rattle.gsl_values.specs.declared.value.Value.{Value}
 use Rattle.gsl_names.specs.declared.entry.Entry.TheVariants as entry
 use Rattle.gsl_names.specs.Scopes.{declare}
@@ -19,7 +18,6 @@ use Rattle.gsl_tree.specs.declared.unit.GlobalVar.{GlobalVar}
 use Rattle.gsl_tree.specs.declared.unit.Interface.{Interface}
 use Rattle.gsl_tree.specs.Constants.{constant_of}
 use Rattle.gsl_tree.specs.Shapes.{shape_of}
-use Rattle.gsl_typing.specs.declared.scene.Scene.{Scene}
 use Rattle.gsl_typing.specs.declared.scene.Part.{Part}
 use Rattle.gsl_typing.specs.Rows.{fault, unless}
 use Rattle.gsl_typing.specs.Conversions.{as_type}
