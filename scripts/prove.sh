@@ -43,17 +43,31 @@ hand_back() {
   done
 }
 
-left=${#wanted[@]}
-echo "gsl: $left crates to prove" >&2
-status=0
-(cd "$work" && rt all check --jobs "$(nproc)" 2>&1) | tee "$work/log" | {
-  while read -r line; do
+# Says which crates are proved as the lines of `rt all` come. What it says of a crate begins with "== NAME", and comes at once when it has ended.
+announce() {
+  local name='' line left=${#wanted[@]} refused='' ended
+  while true; do
+    ended=0
+    IFS= read -r -t 1 line || ended=$?
+    if [ -n "$name" ] && { [ "$ended" -ne 0 ] || [ "${line#== }" != "$line" ]; }; then
+      left=$((left - 1))
+      echo "gsl: $name ${refused:-proved}, $left left" >&2
+      name=''
+    fi
+    # More than 128 says that no line came yet.
+    if [ "$ended" -gt 128 ]; then continue; fi
+    if [ "$ended" -ne 0 ]; then return 0; fi
     case $line in
-      '== '*) name=${line#== } ;;
-      'logic=proved'*) left=$((left - 1)); echo "gsl: $name proved, $left left" >&2 ;;
+      '== summary'*) ;;
+      '== '*) name=${line#== } refused='' ;;
+      logic=not-proved*) refused='is not proved' ;;
     esac
   done
-} || status=$?
+}
+
+echo "gsl: ${#wanted[@]} crates to prove" >&2
+status=0
+(cd "$work" && rt all check --jobs "$(nproc)" 2>&1) | tee "$work/log" | announce || status=$?
 hand_back
 if [ "$status" -ne 0 ]; then
   tail -20 "$work/log" >&2
