@@ -1,11 +1,15 @@
 -- The first instructions that pass a test: as an instruction more is noted, and those at the front of a module.
-use Rattle.std.proofs.Common.{◌≡◌, ℕ, zero, suc, ◌+◌, ◌≤◌, Bool, true, false, cond, ◌||◌, [], ◌∷◌, length, take, drop, Option, refl, ap, sym, ◌∙◌, arith}
+use Rattle.std.proofs.Common.{◌≡◌, ℕ, zero, suc, ◌+◌, ◌≤◌, Bool, true, false, cond, ◌||◌, [], ◌∷◌, ◌++◌, length, take, drop, Option, refl, ap, sym, ◌∙◌, arith}
 use Rattle.std.specs.List.{list_any}
 use Rattle.std.proofs.lemmas.List.{drop_all}
 use Rattle.std.proofs.lemmas.Bool.{lt-ltb, le-ltb}
-use Rattle.std.proofs.Common.{Some, None}
+use Rattle.std.proofs.Common.{Some, None, is_some}
 use Rattle.gsl_words.specs.declared.module.Instr.{Instr}
+use Rattle.gsl_words.specs.declared.module.Module.{Module}
 use Rattle.gsl_valid.specs.Placed.{Code}
+use Rattle.gsl_valid.specs.Search.{passed}
+use Rattle.gsl_ids.proofs.Numbers.{passed_length, or_false}
+use Rattle.gsl_ids.proofs.Stands.{Stands}
 use Rattle.gsl_decorations.specs.Firsts.{first_from, is_below}
 
 module _ (test : Instr → Bool) where
@@ -43,3 +47,38 @@ module _ (test : Instr → Bool) where
   pub none_behind : (at : ℕ) (code : Code) → length code ≤ at → first_from test at (drop at code) ≡ None
   unfolding first_from
   none_behind at code over = ap (first_from test at) (drop_all at code over)
+
+  -- one has a number exactly where one passes
+  pub somewhere : (at : ℕ) (code : Code) → is_some (first_from test at code) ≡ list_any test code
+  unfolding first_from
+  somewhere at [] = refl
+  somewhere at (i ∷ code) = by_cases (test i) (somewhere (at + 1) code)
+    where
+      by_cases : (b : Bool) → is_some (first_from test (at + 1) code) ≡ list_any test code → is_some (cond b (Some at) (first_from test (at + 1) code)) ≡ (b || list_any test code)
+      by_cases true later = refl
+      by_cases false later = later
+
+-- What stands before, read either way ----------------------------------------------------------------------------
+
+swap : (a b c : Bool) → (a || (b || c)) ≡ ((b || a) || c)
+swap true true c = refl
+swap true false c = refl
+swap false true c = refl
+swap false false c = refl
+
+module _ (test : Instr → Bool) where
+  turned : (before code : Code) → list_any test (passed before code) ≡ (list_any test code || list_any test before)
+  turned before [] = refl
+  turned before (i ∷ code) = turned (i ∷ before) code ∙ swap (list_any test code) (test i) (list_any test before)
+
+  front_taken : (front code : Code) → take (length front) (front ++ code) ≡ front
+  front_taken [] code = refl
+  front_taken (i ∷ front) code = ap (λ l. i ∷ l) (front_taken front code)
+
+  -- whether one of those before passes, whichever way they are read
+  pub any_before : (m : Module) (before code : Code) → Stands m before code → list_any test (take (length before) m.instrs) ≡ list_any test before
+  any_before m before code s =
+      let count : length before ≡ length s.front = let h = passed_length [] s.front in ap length s.behind ∙ (let e : length (passed [] s.front) ≡ length s.front = omega (arith, h) in e) in
+      ap (λ n. list_any test (take n m.instrs)) count ∙ ap (λ c. list_any test (take (length s.front) c)) s.whole
+      ∙ ap (list_any test) (front_taken s.front code)
+      ∙ sym (ap (list_any test) s.behind ∙ turned [] s.front ∙ or_false (list_any test s.front))

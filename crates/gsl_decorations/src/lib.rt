@@ -7,6 +7,8 @@
 mod decorations;
 mod first;
 mod mark;
+mod pointer;
 
 pub use decorations::Decorations;
 pub use first::{Keyed, firsts, is_below};
+pub use pointer::pointee;

@@ -19,7 +19,7 @@ use Rattle.gsl_ids.proofs.Passes.{same_place}
 use Rattle.gsl_ids.proofs.Stands.{Stands, at_start, one_on}
 use Rattle.gsl_valid_blocks.specs.declared.decoration.DecorationTest.{DecorationTest}
 use Rattle.gsl_valid_blocks.specs.Decorated.{decoration_at, variable_at, kind_decorated, decorated_at}
-use Rattle.gsl_valid_blocks.proofs.Fronts.{any_before}
+use Rattle.gsl_decorations.proofs.Fronts.{any_before}
 
 abbrev pub passes : DecorationTest → ℕ → Instr → Bool
 passes s at i = decorated_at s.variables.now at s.inside i

@@ -1,4 +1,4 @@
--- The instructions at the front of a module, and those outside its functions.
+-- The instructions outside functions.
 use Rattle.std.proofs.Common.{◌≡◌, ℕ, zero, suc, ◌+◌, ◌<◌, ◌≤◌, ◌⊎◌, inl, inr, ◌&&◌, Some, Bool, true, false, cond, ◌||◌, [], ◌∷◌, ◌++◌, length, take, drop, refl, ap, sym, ◌∙◌, true≢false, arith}
 use Rattle.std.specs.List.{list_any}
 use Rattle.gsl_words.specs.declared.module.Instr.{Instr}
@@ -15,29 +15,6 @@ use Rattle.std.specs.Prelude.{nat_lt, nat_le}
 use Rattle.std.proofs.lemmas.Bool.{lt-ltb, le-ltb, le-leb, lt-leb, cases_lt}
 use Rattle.gsl_decorations.specs.Firsts.{first_from, is_below}
 use Rattle.gsl_decorations.proofs.Fronts.{in_front_of_all}
-
-swap : (a b c : Bool) → (a || (b || c)) ≡ ((b || a) || c)
-swap true true c = refl
-swap true false c = refl
-swap false true c = refl
-swap false false c = refl
-
-module _ (test : Instr → Bool) where
-  turned : (before code : Code) → list_any test (passed before code) ≡ (list_any test code || list_any test before)
-  turned before [] = refl
-  turned before (i ∷ code) = turned (i ∷ before) code ∙ swap (list_any test code) (test i) (list_any test before)
-
-  front_taken : (front code : Code) → take (length front) (front ++ code) ≡ front
-  front_taken [] code = refl
-  front_taken (i ∷ front) code = ap (λ l. i ∷ l) (front_taken front code)
-
-  -- whether one of those before passes, whichever way they are read
-  pub any_before : (m : Module) (before code : Code) → Stands m before code → list_any test (take (length before) m.instrs) ≡ list_any test before
-  any_before m before code s =
-      let count : length before ≡ length s.front = let h = passed_length [] s.front in ap length s.behind ∙ (let e : length (passed [] s.front) ≡ length s.front = omega (arith, h) in e) in
-      ap (λ n. list_any test (take n m.instrs)) count ∙ ap (λ c. list_any test (take (length s.front) c)) s.whole
-      ∙ ap (list_any test) (front_taken s.front code)
-      ∙ sym (ap (list_any test) s.behind ∙ turned [] s.front ∙ or_false (list_any test s.front))
 
 -- Outside functions ---------------------------------------------------------------------------------------------
 

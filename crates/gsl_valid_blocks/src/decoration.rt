@@ -9,10 +9,10 @@ ghost use Rattle.gsl_valid_blocks.specs.Decorated as decorated;
 use crate::placing::{has_literals, may_stand};
 use crate::variables::Variables;
 use gsl_base::Memory;
-use gsl_decorations::Decorations;
-use gsl_ids::{Definitions, Test, first_failed};
+use gsl_decorations::{Decorations, pointee};
+use gsl_ids::{Test, first_failed};
 use gsl_instr::enumerant::{decoration, storage_class};
-use gsl_kinds::{Decoration, Kind, Shape, Variable, inside_after, kind_at, shape_of};
+use gsl_kinds::{Decoration, Kind, Variable, inside_after, kind_at};
 use std::alloc::Global;
 
 /// The place of the first instruction that breaks V7: a decoration that may not stand where it does, or a global variable that has not
@@ -109,16 +109,6 @@ fn is_decorated(variables: &Variables<'_>, at: u32, variable: Variable<'_>) -> b
         )
     } else {
         true
-    }
-}
-
-/// The type that a pointer type points to, 0 for any other.
-pub(crate) fn pointee(definitions: &Definitions<'_>, type_: u32) -> u32
-    ensures { result ≡ spec.pointee definitions.now type_ }
-{
-    match shape_of(definitions, type_) {
-        Shape::Pointer { pointee, .. } => pointee,
-        _ => 0,
     }
 }
 

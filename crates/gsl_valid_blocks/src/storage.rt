@@ -8,8 +8,7 @@ ghost use Rattle.gsl_valid.specs.MemoryRules as spec;
 ghost use Rattle.gsl_valid.specs.Types as types;
 ghost use Rattle.gsl_valid_blocks.specs.Seen.{chain_seen};
 
-use crate::decoration::pointee;
-use gsl_decorations::Decorations;
+use gsl_decorations::{Decorations, pointee};
 use gsl_ids::Definitions;
 use gsl_instr::Instruction;
 use gsl_instr::enumerant::{decoration, storage_class};
