@@ -1,0 +1,4 @@
+mod Readings
+mod Known
+mod Located
+mod Entering
