@@ -9,3 +9,4 @@ mod Deep
 mod Differing
 mod Bodies
 mod Calling
+mod Counting

@@ -4,3 +4,4 @@ pub mod Stands
 pub mod Depths
 pub mod Ranks
 pub mod Calls
+pub mod Closure

@@ -53,7 +53,7 @@ impl<'a> Callees<'a> {
 }
 
 /// The function that is called next from an instruction on, with the number of the instruction behind the call.
-fn next_call(of: &Module, at: u32) -> Option<(u32, u32)>
+pub(crate) fn next_call(of: &Module, at: u32) -> Option<(u32, u32)>
     requires { length of.now.instrs < 2 ^ 32 }
     ensures { MatchOption result (spec.called (drop at of.now.instrs) ≡ []) (λ p. spec.called (drop at of.now.instrs) ≡ p.0 ∷ spec.called (drop p.1 of.now.instrs)) }
 {
@@ -103,11 +103,18 @@ pub(crate) fn called_by<'a>(definitions: &Definitions<'a>, id: u32) -> Callees<'
     ensures { result ≡ spec.called_by definitions.now.instrs id }
 {
     let of = definitions.module();
-    if begins(kind_if(definitions.get(id))) {
+    if is_function(definitions, id) {
         Callees::from(of, definitions.number(id))
     } else {
         Callees::from(of, of.instrs.len() as u32)
     }
+}
+
+/// Whether an id stands for a function.
+pub(crate) fn is_function(definitions: &Definitions<'_>, id: u32) -> bool
+    ensures { result ≡ types.function_begins (types.defined_as definitions.now id) }
+{
+    begins(kind_if(definitions.get(id)))
 }
 
 /// Whether an instruction begins a function.

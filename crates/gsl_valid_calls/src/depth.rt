@@ -1,10 +1,11 @@
 //! How deeply calls nest.
 
-ghost use Rattle.std.specs.Prelude.{◌≡◌, ◌+◌, ◌^◌, ◌<◌, max, min, length, slice_index, slice_set, IfOk};
+ghost use Rattle.std.specs.Prelude.{◌≡◌, ◌+◌, ◌^◌, ◌<◌, max, min, length, IfOk};
 ghost use Rattle.gsl_kinds.specs.Seen.{kind_seen};
 ghost use Rattle.gsl_valid_calls.specs.Depths as spec;
 
 use crate::callees::kind_of;
+use crate::table::{byte_at, put_byte};
 use gsl_base::Memory;
 use gsl_kinds::Kind;
 use gsl_words::Module;
@@ -53,31 +54,12 @@ fn deepen(rows: &mut Vec<u8>, old: &[u8], depth: u8, kind: Kind<'_>) -> u8
 {
     match kind {
         Kind::Begins { id, .. } => {
-            put(rows, id, depth);
+            put_byte(rows, id, depth);
             depth
         }
-        Kind::Calls { function, .. } => deeper(depth, one_more(depth_of(old, function))),
+        Kind::Calls { function, .. } => deeper(depth, one_more(byte_at(old, function))),
         Kind::Ended => 0,
         _ => depth,
-    }
-}
-
-/// The depth that a table tells of an id, 0 where it has none.
-pub(crate) fn depth_of(rows: &[u8], id: u32) -> u8
-    ensures { result ≡ slice_index rows.now id }
-{
-    match rows.get(id as usize) {
-        Some(depth) => *depth,
-        None => 0,
-    }
-}
-
-/// Puts the depth of an id, if it has a row.
-fn put(rows: &mut Vec<u8>, id: u32, depth: u8)
-    ensures { rows.new.items ≡ slice_set rows.old.items id depth }
-{
-    if (id as usize) < rows.len() {
-        rows[id as usize] = depth;
     }
 }
 

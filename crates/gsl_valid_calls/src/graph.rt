@@ -7,8 +7,9 @@ ghost use Rattle.gsl_valid.specs.CallRules as spec;
 ghost use Rattle.gsl_valid.specs.IdsDefinedOnce.{ids_defined_once};
 
 use crate::callees::{Callees, called_by, kind_of};
-use crate::depth::{DEEP, depth_of, depths};
+use crate::depth::{DEEP, depths};
 use crate::reach::Calls;
+use crate::table::byte_at;
 use gsl_base::Memory;
 use gsl_ids::Definitions;
 use gsl_kinds::Kind;
@@ -83,7 +84,7 @@ impl<'a> CallGraph<'a> {
     fn is_deep(&self, id: u32) -> bool
         ensures { result ≡ spec.has_chain self.now.instrs 65 id }
     {
-        depth_of(&self.depths, id) >= DEEP
+        byte_at(&self.depths, id) >= DEEP
     }
 }
 

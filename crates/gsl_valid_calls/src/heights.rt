@@ -1,10 +1,11 @@
 //! How high types are.
 
-ghost use Rattle.std.specs.Prelude.{◌≡◌, ◌+◌, max, min, map, slice_index, slice_set};
+ghost use Rattle.std.specs.Prelude.{◌≡◌, ◌+◌, max, min, map, slice_index};
 ghost use Rattle.gsl_kinds.specs.Seen.{shape_seen};
 ghost use Rattle.gsl_valid.specs.Types as types;
 ghost use Rattle.gsl_valid_calls.specs.Heights as spec;
 
+use crate::table::{byte_at, put_byte};
 use gsl_ids::defined_by;
 use gsl_kinds::{Shape, kind_at, shape_in};
 
@@ -17,16 +18,7 @@ pub(crate) fn note(heights: &mut Vec<u8>, op: u16, args: &[u32])
 {
     if let Some(id) = defined_by(op, args) {
         let height = above(highest_part(heights, shape_in(kind_at(op, args))));
-        put(heights, id, height);
-    }
-}
-
-/// Puts the height of an id, if it has a row.
-fn put(heights: &mut Vec<u8>, id: u32, height: u8)
-    ensures { heights.new.items ≡ slice_set heights.old.items id height }
-{
-    if (id as usize) < heights.len() {
-        heights[id as usize] = height;
+        put_byte(heights, id, height);
     }
 }
 
@@ -37,23 +29,13 @@ fn above(height: u8) -> u8
     if height < BEYOND { height + 1 } else { BEYOND }
 }
 
-/// The height of an id, 0 where it has none.
-pub(crate) fn height_of(heights: &[u8], id: u32) -> u8
-    ensures { result ≡ slice_index heights.now id }
-{
-    match heights.get(id as usize) {
-        Some(height) => *height,
-        None => 0,
-    }
-}
-
 /// The height of the highest part of a type.
 fn highest_part(heights: &[u8], shape: Shape<'_>) -> u8
     ensures { result ≡ types.highest (map (slice_index heights.now) (types.parts_in (shape_seen shape.entry))) }
 {
     match shape {
-        Shape::Array { element, .. } => height_of(heights, element),
-        Shape::RuntimeArray { element } => height_of(heights, element),
+        Shape::Array { element, .. } => byte_at(heights, element),
+        Shape::RuntimeArray { element } => byte_at(heights, element),
         Shape::Struct { members, .. } => highest_of(heights, members),
         _ => 0,
     }
@@ -65,7 +47,7 @@ pub(crate) fn highest_of(heights: &[u8], ids: &[u32]) -> u8
 {
     let mut highest = 0;
     for id in ids {
-        highest = higher(highest, height_of(heights, *id));
+        highest = higher(highest, byte_at(heights, *id));
     }
     highest
 }

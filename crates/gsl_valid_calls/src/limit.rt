@@ -9,7 +9,8 @@ ghost use Rattle.gsl_valid.specs.Placed.{count_of_words};
 ghost use Rattle.gsl_valid_calls.specs.Heights as table;
 ghost use Rattle.gsl_valid_calls.specs.Limits as kept;
 
-use crate::heights::{height_of, highest_of, note};
+use crate::heights::{highest_of, note};
+use crate::table::byte_at;
 use gsl_base::Memory;
 use gsl_blocks::nesting;
 use gsl_ids::Each;
@@ -102,8 +103,8 @@ fn is_small(heights: &[u8], instruction: Instruction<'_>) -> bool
     ensures { result ≡ kept.is_small heights.now instruction.entry }
 {
     match instruction {
-        Instruction::TypeArray { element, .. } => height_of(heights, element) < MOST_HEIGHT,
-        Instruction::TypeRuntimeArray { element, .. } => height_of(heights, element) < MOST_HEIGHT,
+        Instruction::TypeArray { element, .. } => byte_at(heights, element) < MOST_HEIGHT,
+        Instruction::TypeRuntimeArray { element, .. } => byte_at(heights, element) < MOST_HEIGHT,
         Instruction::TypeStruct { members, .. } => is_struct_small(heights, members.as_slice()),
         Instruction::TypeFunction { parameters, .. } => parameters.as_slice().len()
             <= MOST_PARAMETERS,

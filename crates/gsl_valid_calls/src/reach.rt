@@ -1,14 +1,16 @@
 //! Which functions reach which, asked of a module.
 
-ghost use Rattle.std.specs.Prelude.{◌≡◌, ◌≤◌, ◌^◌, ◌<◌, None, nat_le, length, slice_index, IfOk};
-ghost use Rattle.std.specs.List.{list_all, list_any};
+ghost use Rattle.std.specs.Prelude.{◌≡◌, ◌^◌, ◌<◌, None, nat_le, length, slice_index, IfOk};
+ghost use Rattle.std.specs.List.{list_all};
 ghost use Rattle.gsl_kinds.specs.Seen.{kind_seen};
 ghost use Rattle.gsl_valid.specs.CallRules as rule;
 ghost use Rattle.gsl_valid.specs.IdsDefinedOnce.{ids_defined_once};
 ghost use Rattle.gsl_valid_calls.specs.Ranks as spec;
 
 use crate::callees::{Callees, called_by, kind_of};
+use crate::ranks::ranks;
 use crate::search::leads_to;
+use crate::table::word_at;
 use gsl_base::Memory;
 use gsl_ids::Definitions;
 use gsl_kinds::Kind;
@@ -59,7 +61,7 @@ impl<'a> Calls<'a> {
     pub(crate) fn leads_to(&self, alloc: Global, from: u32, id: u32) -> Result<bool, Memory>
         ensures { IfOk result (λ leads. leads ≡ rule.leads_to self.now from id) }
     {
-        if rank_of(&self.ranks, from) < rank_of(&self.ranks, id) {
+        if word_at(&self.ranks, from) < word_at(&self.ranks, id) {
             return Ok(false);
         }
         let leads = leads_to(alloc, self.definitions, from, id)?;
@@ -67,23 +69,14 @@ impl<'a> Calls<'a> {
     }
 }
 
-/// The rank of a function, 0 where it has none.
-fn rank_of(ranks: &[u32], id: u32) -> u32
-    ensures { result ≡ slice_index ranks.now id }
-{
-    match ranks.get(id as usize) {
-        Some(rank) => *rank,
-        None => 0,
-    }
-}
-
-/// Ranks of functions, by which none calls one of a higher rank.
+/// Ranks of functions, by which none calls one of a higher rank. What the walk over the calls gives is checked; without ranks each
+/// question is a search.
 fn ranks_of(alloc: Global, definitions: &Definitions<'_>) -> Result<Vec<u32>, Memory>
     requires few { length definitions.now.instrs < 2 ^ 32 }
     requires once { ids_defined_once definitions.now ≡ None }
     ensures { IfOk result (λ ranks. spec.Ranked ranks.items definitions.now) }
 {
-    let ranks: Vec<u32> = Vec::new(alloc);
+    let ranks = ranks(alloc, definitions)?;
     if are_ranked(definitions, &ranks) {
         Ok(ranks)
     } else {
@@ -118,7 +111,7 @@ fn is_ranked(definitions: &Definitions<'_>, ranks: &[u32], kind: Kind<'_>) -> bo
         Kind::Begins { id, .. } => all_within(
             ranks,
             called_by(definitions, id),
-            rank_of(ranks, id),
+            word_at(ranks, id),
         ),
         _ => true,
     }
@@ -130,7 +123,7 @@ fn all_within(ranks: &[u32], callees: Callees<'_>, most: u32) -> bool
 {
     let mut callees = callees;
     while let Some(callee) = callees.next() {
-        if rank_of(ranks, callee) > most {
+        if word_at(ranks, callee) > most {
             return false;
         }
     }

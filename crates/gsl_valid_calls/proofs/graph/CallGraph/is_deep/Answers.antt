@@ -7,5 +7,5 @@ use Rattle.gsl_valid_calls.proofs.graph.CallGraph.is_deep.Goals as goal
 
 pub returns : goal.returns
 returns c =
-    let row = c.depth_of.ensures ∙ ap (λ l. slice_index l c.args.id) (c.deref.ensures.value ∙ c.self.invariant.1) in
+    let row = c.byte_at.ensures ∙ ap (λ l. slice_index l c.args.id) (c.deref.ensures.value ∙ c.self.invariant.1) in
     ap (λ n. nat_le 65 n) row ∙ deep_is c.self.inside.calls c.args.id c.self.invariant.0 ∙ ap (λ (m : Module). has_chain m.instrs 65 c.args.id) c.self.view_is
