@@ -1,0 +1,12 @@
+mod Rows
+mod Limited
+mod Enough
+mod Called
+mod Searched
+mod Begun
+mod Ranked
+mod Deep
+mod Differing
+mod Bodies
+mod Calling
+mod Counting
