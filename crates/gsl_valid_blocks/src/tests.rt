@@ -48,8 +48,17 @@ fn answer(alloc: Global, first: u32, second: u32) -> Result<Option<u32>, Memory>
 #[test]
 fn decorations_of_a_struct(rt: HostRuntime) -> Result<(), Fail> {
     let alloc = rt.alloc();
-    assert_eq!(rt; answer(alloc, decoration::BLOCK, decoration::BUFFER_BLOCK)?, None);
-    assert_eq!(rt; answer(alloc, decoration::BLOCK, decoration::BLOCK)?, Some(10));
-    assert_eq!(rt; answer(alloc, decoration::OFFSET, decoration::BLOCK)?, Some(7));
+    assert_eq!(rt;
+        answer(alloc, decoration::BLOCK, decoration::BUFFER_BLOCK)?,
+        None
+    );
+    assert_eq!(rt;
+        answer(alloc, decoration::BLOCK, decoration::BLOCK)?,
+        Some(10)
+    );
+    assert_eq!(rt;
+        answer(alloc, decoration::OFFSET, decoration::BLOCK)?,
+        Some(7)
+    );
     Ok(())
 }
