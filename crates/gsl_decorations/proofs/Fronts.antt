@@ -10,7 +10,7 @@ use Rattle.gsl_valid.specs.Placed.{Code}
 use Rattle.gsl_valid.specs.Search.{passed}
 use Rattle.gsl_ids.proofs.Numbers.{passed_length, or_false}
 use Rattle.gsl_ids.proofs.Stands.{Stands}
-use Rattle.gsl_decorations.specs.Firsts.{first_from, is_below}
+use Rattle.gsl_decorations.specs.Firsts.{is_key, first_from, is_below}
 
 module _ (test : Instr → Bool) where
   pub noted : (at : ℕ) (i : Instr) (code : Code) (b : Bool) (old new : Option ℕ) → test i ≡ b → new ≡ cond b (Some at) old → old ≡ first_from test (at + 1) code →
@@ -57,6 +57,17 @@ module _ (test : Instr → Bool) where
       by_cases : (b : Bool) → is_some (first_from test (at + 1) code) ≡ list_any test code → is_some (cond b (Some at) (first_from test (at + 1) code)) ≡ (b || list_any test code)
       by_cases true later = refl
       by_cases false later = later
+
+-- What is found by keys: as an instruction more is noted for its key, or for none.
+module _ {K : Type 0} (eq : K → K → Bool) (has : K → Instr → Bool) (at : ℕ) (i : Instr) (code rest : Code) (found : Option K) (old : K → Option ℕ) (cut : code ≡ i ∷ rest)
+    (keyed : (key : K) → has key i ≡ is_key eq key found) (behind : (key : K) → old key ≡ first_from (has key) (at + 1) rest) where
+  pub key_noted : (k : K) (new : K → Option ℕ) → found ≡ Some k → ((key : K) → new key ≡ cond (eq k key) (Some at) (old key)) → (key : K) → new key ≡ first_from (has key) at code
+  key_noted k new is made key =
+      noted (has key) at i rest (eq k key) (old key) (new key) (keyed key ∙ ap (is_key eq key) is) (made key) (behind key) ∙ sym (ap (first_from (has key) at) cut)
+
+  pub none_noted : found ≡ None → (key : K) → old key ≡ first_from (has key) at code
+  none_noted is key =
+      noted (has key) at i rest false (old key) (old key) (keyed key ∙ ap (is_key eq key) is) refl (behind key) ∙ sym (ap (first_from (has key) at) cut)
 
 -- What stands before, read either way ----------------------------------------------------------------------------
 

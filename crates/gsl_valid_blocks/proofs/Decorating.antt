@@ -8,17 +8,17 @@ use Rattle.gsl_words.specs.declared.module.Module.{Module}
 use Rattle.gsl_instr.specs.declared.enumerant.storage_class.TheConstants as storage_class
 use Rattle.gsl_instr.specs.declared.enumerant.decoration.TheConstants as decoration
 use Rattle.gsl_valid.specs.Instruction.{read}
-use Rattle.gsl_valid.specs.Kinds.{Variable, Decoration, kind, variable_is, decoration_of}
+use Rattle.gsl_valid.specs.Kinds.{Variable, Decoration, variable_is, decoration_of}
 use Rattle.gsl_valid.specs.Placed.{Code, placed, header_size}
 use Rattle.gsl_valid.specs.Types.{variable_of}
 use Rattle.gsl_valid.specs.Where.{where_at, in_function_after}
 use Rattle.gsl_valid.specs.Decorations.{stands_on, has, number_on}
-use Rattle.gsl_valid.specs.DecorationRules.{may_stand, has_literals, decoration_kept, decorates, differ, pointee, is_bound_to, is_decorated, variable_decorated, decorated, decorations}
+use Rattle.gsl_valid.specs.DecorationRules.{may_stand, has_literals, differ, pointee, is_bound_to, variable_decorated, decorated, decorations}
 use Rattle.gsl_ids.specs.Pass.{first_failed}
 use Rattle.gsl_ids.proofs.Passes.{same_place}
 use Rattle.gsl_ids.proofs.Stands.{Stands, at_start, one_on}
 use Rattle.gsl_valid_blocks.specs.declared.decoration.DecorationTest.{DecorationTest}
-use Rattle.gsl_valid_blocks.specs.Decorated.{decoration_at, variable_at, kind_decorated, decorated_at}
+use Rattle.gsl_valid_blocks.specs.Decorated.{decoration_at, variable_at, decorated_at}
 use Rattle.gsl_decorations.proofs.Fronts.{any_before}
 
 abbrev pub passes : DecorationTest → ℕ → Instr → Bool

@@ -1,14 +1,11 @@
 -- The instructions outside functions.
-use Rattle.std.proofs.Common.{◌≡◌, ℕ, zero, suc, ◌+◌, ◌<◌, ◌≤◌, ◌⊎◌, inl, inr, ◌&&◌, Some, Bool, true, false, cond, ◌||◌, [], ◌∷◌, ◌++◌, length, take, drop, refl, ap, sym, ◌∙◌, true≢false, arith}
+use Rattle.std.proofs.Common.{◌≡◌, ℕ, zero, suc, ◌+◌, ◌<◌, ◌≤◌, ◌⊎◌, inl, inr, ◌&&◌, Some, Bool, true, false, cond, ◌||◌, [], ◌∷◌, length, take, drop, refl, ap, sym, ◌∙◌, true≢false, arith}
 use Rattle.std.specs.List.{list_any}
 use Rattle.gsl_words.specs.declared.module.Instr.{Instr}
 use Rattle.gsl_words.specs.declared.module.Module.{Module}
 use Rattle.gsl_valid.specs.Instruction.{read}
 use Rattle.gsl_valid.specs.Placed.{Code}
-use Rattle.gsl_valid.specs.Search.{passed}
 use Rattle.gsl_valid.specs.Types.{function_begins, before_functions}
-use Rattle.gsl_ids.proofs.Numbers.{passed_length, or_false}
-use Rattle.gsl_ids.proofs.Stands.{Stands}
 use Rattle.gsl_ids.specs.Table.{number_from, is_defined_in}
 use Rattle.gsl_valid.specs.Ids.{defines, defined}
 use Rattle.std.specs.Prelude.{nat_lt, nat_le}

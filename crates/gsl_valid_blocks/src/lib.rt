@@ -15,3 +15,6 @@ mod variables;
 
 pub use access::memory;
 pub use decoration::decorations;
+
+#[cfg(test)]
+mod tests;

@@ -1,11 +1,11 @@
 -- What is read from instructions at their places is what the rule reads.
-use Rattle.std.proofs.Common.{◌≡◌, ℕ, ◌+◌, Bool, true, false, cond, List, [], ◌∷◌, ◌++◌, map, Option, Some, None, refl, ap, ◌∙◌}
+use Rattle.std.proofs.Common.{◌≡◌, ℕ, ◌+◌, Bool, true, false, cond, [], ◌∷◌, refl, ap}
 use Rattle.std.specs.List.{filter_map, cons_option}
 use Rattle.gsl_words.specs.Instructions.{word_count}
 use Rattle.gsl_valid.specs.Instruction.{read}
 use Rattle.gsl_valid.specs.Placed.{Code, placed_from}
 use Rattle.gsl_valid.specs.Types.{function_begins, before_functions}
-use Rattle.gsl_valid.specs.EntryRules.{Mode, mode_of, interface_variable, model_or, model_of}
+use Rattle.gsl_valid.specs.EntryRules.{mode_of, interface_variable, model_or, model_of}
 use Rattle.gsl_valid_entry.specs.Reading.{modes_from, interface_from, model_from}
 
 pub modes_are : (at : ℕ) (code : Code) → modes_from (placed_from at code) ≡ filter_map (λ i. mode_of (read i)) code

@@ -1,5 +1,5 @@
 -- What the entry point is asked about, read from instructions at their places.
-use Rattle.std.specs.Prelude.{◌≡◌, ℕ, Bool, nat_eq, if◌then◌else◌, List, [], ◌∷◌, Option, Some, None}
+use Rattle.std.specs.Prelude.{◌≡◌, ℕ, nat_eq, if◌then◌else◌, List, [], ◌∷◌, Option, Some, None}
 use Rattle.std.specs.List.{cons_option}
 use Rattle.indexmap.specs.IndexSet.{IndexSet, contains}
 use Rattle.gsl_instr.specs.declared.enumerant.execution_model.TheConstants as execution_model

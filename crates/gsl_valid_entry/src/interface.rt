@@ -1,6 +1,6 @@
 //! The interface of the entry point.
 
-ghost use Rattle.std.specs.Prelude.{◌≡◌, ◌&&◌, nat_eq, Some, None, IfOk, if◌then◌else◌};
+ghost use Rattle.std.specs.Prelude.{◌≡◌, ◌&&◌, nat_eq, IfOk};
 ghost use Rattle.std.specs.List.{list_all};
 ghost use Rattle.gsl_kinds.specs.Seen.{kind_seen};
 ghost use Rattle.gsl_valid.specs.EntryRules as spec;
@@ -97,19 +97,15 @@ fn interface_id(kind: Kind<'_>) -> Option<u32>
     ensures { result ≡ spec.interface_id (kinds.variable_in (kind_seen kind.entry)) }
 {
     match kind {
-        Kind::Holds(variable) => id_if(
-            variable.class == storage_class::INPUT || variable.class == storage_class::OUTPUT,
-            variable.id,
-        ),
+        Kind::Holds(variable) => {
+            if variable.class == storage_class::INPUT || variable.class == storage_class::OUTPUT {
+                Some(variable.id)
+            } else {
+                None
+            }
+        }
         _ => None,
     }
-}
-
-/// An id, or none.
-fn id_if(there: bool, id: u32) -> Option<u32>
-    ensures { result ≡ (if there then Some id else None) }
-{
-    if there { Some(id) } else { None }
 }
 
 /// Some ids, and whether no id stands twice among them.

@@ -13,3 +13,6 @@ mod modes;
 mod stage;
 
 pub use entry_point::entry;
+
+#[cfg(test)]
+mod tests;

@@ -1,4 +1,4 @@
-use Rattle.std.proofs.Common.{ap, sym, ◌∙◌, None, Some, Option, ℕ, take}
+use Rattle.std.proofs.Common.{ap, sym, ◌∙◌, Some, Option, ℕ, take}
 use Rattle.std.specs.List.{list_any}
 use Rattle.gsl_decorations.specs.Firsts.{is_below}
 use Rattle.gsl_decorations.proofs.Fronts.{in_front_of_all}
