@@ -1,3 +1,4 @@
 mod Fronts
 mod Bindings
 mod Decorating
+mod Guarding

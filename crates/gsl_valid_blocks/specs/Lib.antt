@@ -1,3 +1,4 @@
 pub mod Variables
 pub mod Decorated
 pub mod Seen
+pub mod Guards

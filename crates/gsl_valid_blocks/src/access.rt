@@ -1,6 +1,6 @@
 //! Chains, loads, stores and lengths.
 
-ghost use Rattle.std.specs.Prelude.{◌≡◌, ◌^◌, ◌<◌, ◌&&◌, length};
+ghost use Rattle.std.specs.Prelude.{◌≡◌, ◌^◌, ◌<◌, ◌&&◌, length, IfOk};
 ghost use Rattle.gsl_kinds.specs.Seen.{shape_seen};
 ghost use Rattle.gsl_valid.specs.Kinds as kinds;
 ghost use Rattle.gsl_valid.specs.MemoryRules as spec;
@@ -9,27 +9,43 @@ ghost use Rattle.gsl_valid.specs.Types as types;
 ghost use Rattle.gsl_valid.specs.CallRules as calls;
 ghost use Rattle.gsl_valid_blocks.specs.Seen.{target_seen, target_if_seen};
 
-use crate::chain::{is_base, leads_through, leads_to};
+use crate::chain::{is_base, leads_to};
+use crate::guards::Guards;
 use crate::storage::{is_in_buffer, is_variable_of_storage};
 use crate::target::{Target, target_at, target_in};
+use gsl_base::Memory;
 use gsl_decorations::Decorations;
 use gsl_ids::{Definitions, Test, first_failed};
-use gsl_instr::enumerant::{decoration, storage_class};
+use gsl_instr::enumerant::storage_class;
 use gsl_instr::{Instruction, read};
 use gsl_kinds::{Runtimes, Shape, has_type, is_ints, kind_if, shape_of};
+use std::alloc::Global;
 use std::marker::Model;
 
 /// The place of the first instruction that breaks V15: a chain, a load, a store or an ArrayLength that may not be.
-pub fn memory(runtimes: &Runtimes<'_>, decorations: &Decorations<'_>) -> Option<u32>
+pub fn memory(
+    alloc: Global,
+    runtimes: &Runtimes<'_>,
+    decorations: &Decorations<'_>,
+) -> Result<Option<u32>, Memory>
     requires same { decorations.now ≡ runtimes.now }
+    requires length { length runtimes.now.instrs < 2 ^ 32 }
+    requires words { count_of_words runtimes.now < 2 ^ 32 }
+    ensures { IfOk result (λ place. place ≡ spec.memory runtimes.now) }
+{
+    let guards = Guards::new(alloc, decorations)?;
+    let place = first_unkept(runtimes, &guards);
+    Ok(place)
+}
+
+/// The same, where it is known which chains lead through which members.
+fn first_unkept(runtimes: &Runtimes<'_>, guards: &Guards<'_>) -> Option<u32>
+    requires same { guards.now ≡ runtimes.now }
     requires length { length runtimes.now.instrs < 2 ^ 32 }
     requires words { count_of_words runtimes.now < 2 ^ 32 }
     ensures { result ≡ spec.memory runtimes.now }
 {
-    let mut test = MemoryTest {
-        runtimes,
-        decorations,
-    };
+    let mut test = MemoryTest { runtimes, guards };
     first_failed(&mut test, runtimes.definitions().module())
 }
 
@@ -37,7 +53,7 @@ pub fn memory(runtimes: &Runtimes<'_>, decorations: &Decorations<'_>) -> Option<
 #[derive(Drop)]
 pub(crate) struct MemoryTest<'a> {
     runtimes: &'a Runtimes<'a>,
-    decorations: &'a Decorations<'a>,
+    guards: &'a Guards<'a>,
 }
 
 impl<'a> Model for MemoryTest<'a> {
@@ -48,7 +64,7 @@ impl<'a> Model for MemoryTest<'a> {
 
     ghost view = { λ test. test.runtimes.now };
 
-    ghost invariant = { λ test. test.decorations.now ≡ test.runtimes.now };
+    ghost invariant = { λ test. test.guards.now ≡ test.runtimes.now };
 }
 
 impl<'a> MemoryTest<'a> {
@@ -61,11 +77,11 @@ impl<'a> MemoryTest<'a> {
         self.runtimes.definitions()
     }
 
-    /// The decorations of the module.
-    fn decorations(&self) -> &'a Decorations<'a>
+    /// The chains of the module.
+    fn guards(&self) -> &'a Guards<'a>
         ensures { result.now ≡ self.now }
     {
-        self.decorations
+        self.guards
     }
 
     /// Whether an array without length is in a type.
@@ -110,7 +126,7 @@ fn is_kept(test: &MemoryTest<'_>, instruction: Instruction<'_>) -> bool
             pointer,
             member,
             ..
-        } => is_length_of(test.decorations(), type_, pointer, member),
+        } => is_length_of(test.guards().decorations(), type_, pointer, member),
         _ => true,
     }
 }
@@ -123,7 +139,7 @@ fn may_load(test: &MemoryTest<'_>, type_: u32, pointer: u32) -> bool
         Some(target) => {
             target.pointee == type_
                 && is_moved(test, target)
-                && !leads_through(test.decorations(), decoration::NON_READABLE, pointer)
+                && !test.guards().is_unreadable(pointer)
         }
         None => false,
     }
@@ -157,19 +173,18 @@ fn may_store(test: &MemoryTest<'_>, pointer: u32, value: u32) -> bool
         Some(target) => {
             has_type(test.definitions(), target.pointee, value)
                 && is_moved(test, target)
-                && is_writable(test.decorations(), target.class, pointer)
+                && is_writable(test.guards(), target.class, pointer)
         }
         None => false,
     }
 }
 
 /// Whether a pointer of a class may be stored through.
-fn is_writable(decorations: &Decorations<'_>, class: u32, pointer: u32) -> bool
-    ensures { result ≡ spec.is_writable decorations.now class (types.defined_as decorations.now pointer) }
+fn is_writable(guards: &Guards<'_>, class: u32, pointer: u32) -> bool
+    ensures { result ≡ spec.is_writable guards.now class (types.defined_as guards.now pointer) }
 {
     if class == storage_class::UNIFORM || class == storage_class::STORAGE_BUFFER {
-        is_in_buffer(decorations, pointer)
-            && !leads_through(decorations, decoration::NON_WRITABLE, pointer)
+        is_in_buffer(guards.decorations(), pointer) && !guards.is_unwritable(pointer)
     } else {
         matches!(
             class,

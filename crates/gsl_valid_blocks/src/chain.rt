@@ -7,10 +7,11 @@ ghost use Rattle.gsl_valid.specs.MemoryRules as spec;
 ghost use Rattle.gsl_valid.specs.Types as types;
 ghost use Rattle.gsl_valid_blocks.specs.Seen.{target_if_seen};
 
-use crate::storage::{Chain, chain_of};
+use crate::storage::{Chain, chain_if};
 use crate::target::{Target, target_at};
 use gsl_decorations::Decorations;
 use gsl_ids::Definitions;
+use gsl_instr::Instruction;
 use gsl_kinds::{Kind, Shape, is_int_value, shape_of, value_of};
 
 /// Whether a chain may begin at what an instruction defines: a variable or a parameter.
@@ -96,11 +97,15 @@ fn member_at(members: &[u32], number: Option<u32>) -> Option<u32>
     }
 }
 
-/// Whether a pointer, if it is a chain, leads through a member that has a decoration.
-pub(crate) fn leads_through(decorations: &Decorations<'_>, kind: u32, pointer: u32) -> bool
-    ensures { result ≡ spec.leads_through decorations.now kind (types.defined_as decorations.now pointer) }
+/// Whether an instruction, if it is a chain, leads through a member that has a decoration.
+pub(crate) fn leads_through(
+    decorations: &Decorations<'_>,
+    kind: u32,
+    instruction: Option<Instruction<'_>>,
+) -> bool
+    ensures { result ≡ spec.leads_through decorations.now kind instruction.entry }
 {
-    match chain_of(decorations.definitions(), pointer) {
+    match chain_if(instruction) {
         Some(chain) => leads_along(decorations, kind, chain),
         None => false,
     }

@@ -7,6 +7,7 @@
 mod access;
 mod chain;
 mod decoration;
+mod guards;
 mod placing;
 mod storage;
 mod target;

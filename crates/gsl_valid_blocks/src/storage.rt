@@ -9,7 +9,6 @@ ghost use Rattle.gsl_valid.specs.Types as types;
 ghost use Rattle.gsl_valid_blocks.specs.Seen.{chain_seen};
 
 use gsl_decorations::{Decorations, pointee};
-use gsl_ids::Definitions;
 use gsl_instr::Instruction;
 use gsl_instr::enumerant::{decoration, storage_class};
 use gsl_kinds::{Kind, Variable, kind_if};
@@ -21,11 +20,11 @@ pub(crate) struct Chain<'a> {
     pub(crate) indexes: &'a [u32],
 }
 
-/// The chain that stands for an id, if there is one.
-pub(crate) fn chain_of<'a>(definitions: &Definitions<'a>, id: u32) -> Option<Chain<'a>>
-    ensures { chain_seen result ≡ spec.chain_of (types.defined_as definitions.now id) }
+/// The chain that an instruction is, if there is one.
+pub(crate) fn chain_if(instruction: Option<Instruction<'_>>) -> Option<Chain<'_>>
+    ensures { chain_seen result ≡ spec.chain_of instruction.entry }
 {
-    match definitions.get(id) {
+    match instruction {
         Some(instruction) => chain_in(instruction),
         None => None,
     }
@@ -48,7 +47,7 @@ fn chain_in(instruction: Instruction<'_>) -> Option<Chain<'_>>
 pub(crate) fn is_in_buffer(decorations: &Decorations<'_>, pointer: u32) -> bool
     ensures { result ≡ spec.is_in_buffer decorations.now (types.defined_as decorations.now pointer) }
 {
-    match chain_of(decorations.definitions(), pointer) {
+    match chain_if(decorations.definitions().get(pointer)) {
         Some(chain) => is_variable_of_storage(decorations, chain.base),
         None => false,
     }

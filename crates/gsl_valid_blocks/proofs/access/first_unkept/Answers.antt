@@ -6,7 +6,7 @@ use Rattle.gsl_valid.specs.Placed.{placed}
 use Rattle.gsl_valid.specs.MemoryRules.{memory_kept}
 use Rattle.gsl_ids.specs.Pass.{first_failed}
 use Rattle.gsl_ids.proofs.Passes.{blind}
-use Rattle.gsl_valid_blocks.proofs.access.memory.Goals as goal
+use Rattle.gsl_valid_blocks.proofs.access.first_unkept.Goals as goal
 
 pub returns : goal.returns
 returns c =
