@@ -15,19 +15,19 @@ use Rattle.gsl_valid.specs.Search.{Passes}
 use Rattle.gsl_valid.specs.Types.{begins}
 use Rattle.gsl_valid.specs.CallRules.{called, called_by, callee_in, is_last, has_chain, id_in}
 use Rattle.gsl_valid.proofs.Searching.{each_passes}
-use Rattle.gsl_valid_calls.specs.Depths.{Swept, one_more, swept, deepened, depths}
+use Rattle.gsl_valid_calls.specs.Depths.{Swept, one_more, swept, deepened, TellDepths}
 use Rattle.gsl_valid_calls.proofs.Begun.{begun_is}
 use Rattle.gsl_valid_calls.proofs.Rows.{zeros}
 
--- A number is the greatest of those up to a bound that pass, and each one below it passes.
+-- The numbers up to a bound that pass are those up to another.
 record Measures (n : ℕ) (passes : ℕ → Bool) (v : ℕ) : Type 0 where
-  sound : (k : ℕ) → k ≤ v → passes k ≡ true
+  sound : (k : ℕ) → k ≤ n → k ≤ v → passes k ≡ true
   full : (k : ℕ) → k ≤ n → passes k ≡ true → k ≤ v
 
 moved : (n : ℕ) (p q : ℕ → Bool) (v w : ℕ) → Measures n p v → ((k : ℕ) → q k ≡ p k) → w ≡ v → Measures n q w
 moved n p q v w m same e =
     record {
-      sound = λ k low. same k ∙ m.sound k (omega (arith, low, e));
+      sound = λ k low under. same k ∙ m.sound k low (omega (arith, under, e));
       full = λ k low passes. let h = m.full k low (sym (same k) ∙ passes) in omega (arith, h, e);
     }
 
@@ -44,7 +44,7 @@ module _ (whole : Code) where
   none_over : (n v : ℕ) → v ≡ 0 → Measures n (over []) v
   none_over n v e =
       record {
-        sound = λ k low. none k (let h : k ≤ 0 = omega (arith, low, e) in h);
+        sound = λ k low under. none k (let h : k ≤ 0 = omega (arith, under, e) in h);
         full = λ k low passes. at_most k passes v;
       }
     where
@@ -69,11 +69,11 @@ module _ (whole : Code) where
       Measures (n + 1) (over (f ∷ calls)) (max depth (min 65 (1 + old)))
   more n calls f depth old small callee rest = record { sound = sound; full = full }
     where
-      sound : (k : ℕ) → k ≤ max depth (min 65 (1 + old)) → over (f ∷ calls) k ≡ true
-      sound zero low = refl
-      sound (suc k) low =
-          ⊎_elim (λ less. or_left (has_chain whole k f) (list_any (has_chain whole k) calls) (callee.sound k (omega (arith, low, less))))
-          (λ l. or_right (has_chain whole k f) (list_any (has_chain whole k) calls) (rest.sound (suc k) l)) (cases_lt depth (suc k))
+      sound : (k : ℕ) → k ≤ n + 1 → k ≤ max depth (min 65 (1 + old)) → over (f ∷ calls) k ≡ true
+      sound zero low under = refl
+      sound (suc k) low under =
+          ⊎_elim (λ less. or_left (has_chain whole k f) (list_any (has_chain whole k) calls) (callee.sound k (omega (arith, low)) (omega (arith, under, less))))
+          (λ l. or_right (has_chain whole k f) (list_any (has_chain whole k) calls) (rest.sound (suc k) low l)) (cases_lt depth (suc k))
 
       full : (k : ℕ) → k ≤ n + 1 → over (f ∷ calls) k ≡ true → k ≤ max depth (min 65 (1 + old))
       full zero low passes = omega arith
@@ -185,20 +185,20 @@ module _ (whole : Code) where
   no_chain id zero low = refl
   no_chain id (suc k) low = absurd (omega (arith, low))
 
-  at_start : (bound : ℕ) → Table 0 (replicate bound 0)
-  at_start bound id =
-      let none = zeros bound id in
-      record { sound = λ k low. no_chain id k (omega (arith, low, none)); full = λ k low passes. omega (arith, low) }
+  -- whatever a table has in it
+  at_start : (rows : List ℕ) → Table 0 rows
+  at_start rows id = record { sound = λ k low under. no_chain id k low; full = λ k low passes. omega (arith, low) }
 
 same_truth : (a b : Bool) → (a ≡ true → b ≡ true) → (b ≡ true → a ≡ true) → a ≡ b
 same_truth true b to from = sym (to refl)
 same_truth false true to from = from refl
 same_truth false false to from = refl
 
--- Calls nest more deeply than they may exactly where the table has its greatest number.
-pub deep_is : (m : Module) (id : ℕ) → ids_defined_once m ≡ None → nat_le 65 (get_or (depths m) id 0) ≡ has_chain m.instrs 65 id
-deep_is m id once =
-    let table : (id : ℕ) → Measures 65 (λ k. has_chain m.instrs k id) (get_or (depths m) id 0) =
-    again m.instrs m.bound 65 0 (replicate m.bound 0) (each_passes (defines_once m.bound) m once) (omega arith) (at_start m.instrs m.bound) (as_many m.bound) in
+-- Calls nest more deeply than they may exactly where the table has its greatest number, whatever it was begun with.
+pub deep_is : (m : Module) (rows : List ℕ) → ids_defined_once m ≡ None → length rows ≡ m.bound → TellDepths (deepened 65 m.instrs rows) m
+deep_is m rows once room id =
+    let last = deepened 65 m.instrs rows in
+    let table : (id : ℕ) → Measures 65 (λ k. has_chain m.instrs k id) (get_or last id 0) =
+    again m.instrs m.bound 65 0 rows (each_passes (defines_once m.bound) m once) (omega arith) (at_start m.instrs rows) room in
     let t = table id in
-    same_truth _ _ (λ e. t.sound 65 (leb-true 65 (get_or (depths m) id 0) e)) (λ e. le-leb 65 (get_or (depths m) id 0) (t.full 65 (omega arith) e))
+    same_truth _ _ (λ e. t.sound 65 (omega arith) (leb-true 65 (get_or last id 0) e)) (λ e. le-leb 65 (get_or last id 0) (t.full 65 (omega arith) e))

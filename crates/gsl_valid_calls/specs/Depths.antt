@@ -1,9 +1,10 @@
--- How deeply calls nest from each function on, told no further than the limit: a table by ids, made again from itself as often as calls may nest.
-use Rattle.std.specs.Prelude.{ℕ, zero, suc, ◌+◌, List, [], ◌∷◌, length, max, min, replicate, slice_index, slice_set}
+-- How deeply calls nest from each function on, told no further than the limit: a table by ids, made again from itself as often as calls may nest, or until it stays the same.
+use Rattle.std.specs.Prelude.{◌≡◌, ℕ, nat_le, zero, suc, ◌+◌, List, [], ◌∷◌, length, max, min, replicate, slice_index, slice_set}
 use Rattle.gsl_words.specs.declared.module.Module.{Module}
 use Rattle.gsl_valid.specs.Instruction.{read}
 use Rattle.gsl_valid.specs.Kinds.{Kind, Asks, Imports, Sets, Enters, Modes, Debugs, Decorates, Declares, Fixes, Holds, Begins, Takes, Calls, Gives, Does, Opens, Merges, Leaves, Ended, Absent, kind}
 use Rattle.gsl_valid.specs.Placed.{Code}
+use Rattle.gsl_valid.specs.CallRules.{has_chain}
 
 -- What is known of code, gone over from its end: how deeply calls nest from each function on, and from the calls up to the end of the function in which it begins.
 pub record Swept : Type 0 where
@@ -43,6 +44,6 @@ unfoldable pub deepened : ℕ → Code → List ℕ → List ℕ
 deepened zero code rows = rows
 deepened (suc n) code rows = deepened n code (swept rows code).rows
 
--- the table of a module
-abbrev pub depths : Module → List ℕ
-depths m = deepened 65 m.instrs (replicate m.bound 0)
+-- The rows tell of each function whether more calls stand one within the other from it on than may.
+abbrev pub TellDepths : List ℕ → Module → Type 0
+TellDepths rows m = (id : ℕ) → nat_le 65 (slice_index rows id) ≡ has_chain m.instrs 65 id

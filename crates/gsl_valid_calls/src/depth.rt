@@ -1,7 +1,8 @@
 //! How deeply calls nest.
 
-ghost use Rattle.std.specs.Prelude.{◌≡◌, ◌+◌, ◌^◌, ◌<◌, max, min, length, IfOk};
+ghost use Rattle.std.specs.Prelude.{◌≡◌, ◌+◌, ◌^◌, ◌<◌, None, max, min, length, vec_len, IfOk};
 ghost use Rattle.gsl_kinds.specs.Seen.{kind_seen};
+ghost use Rattle.gsl_valid.specs.IdsDefinedOnce.{ids_defined_once};
 ghost use Rattle.gsl_valid_calls.specs.Depths as spec;
 
 use crate::callees::kind_of;
@@ -14,12 +15,14 @@ use std::alloc::Global;
 /// The depth that is told of all that nest more deeply too.
 pub(crate) const DEEP: u8 = 65;
 
-/// How deeply calls nest from each function on, by its id. It takes two bytes for each id below the bound.
-pub(crate) fn depths(alloc: Global, of: &Module) -> Result<Vec<u8>, Memory>
-    requires { length of.now.instrs < 2 ^ 32 }
-    ensures { IfOk result (λ rows. rows.items ≡ spec.depths of.now) }
+/// How deeply calls nest from each function on, by its id, begun with a guess: what the walk over the calls gives stays the same if it
+/// is right, and is made again if not. It takes two bytes for each id below the bound.
+pub(crate) fn depths(alloc: Global, of: &Module, guess: Vec<u8>) -> Result<Vec<u8>, Memory>
+    requires few { length of.now.instrs < 2 ^ 32 }
+    requires once { ids_defined_once of.now ≡ None }
+    ensures { IfOk result (λ rows. spec.TellDepths rows.items of.now) }
 {
-    let mut rows = vec![in alloc; 0; of.bound as usize]?;
+    let mut rows = first_table(alloc, of, guess)?;
     let mut left = DEEP;
     while left > 0 {
         let next = deepened(alloc, of, &rows)?;
@@ -29,6 +32,17 @@ pub(crate) fn depths(alloc: Global, of: &Module) -> Result<Vec<u8>, Memory>
         rows = next;
         left -= 1;
     }
+    Ok(rows)
+}
+
+/// A guess, if it has a row for each id.
+fn first_table(alloc: Global, of: &Module, guess: Vec<u8>) -> Result<Vec<u8>, Memory>
+    ensures { IfOk result (λ rows. vec_len rows ≡ of.now.bound) }
+{
+    if guess.len() == of.bound as usize {
+        return Ok(guess);
+    }
+    let rows = vec![in alloc; 0; of.bound as usize]?;
     Ok(rows)
 }
 
@@ -64,14 +78,14 @@ fn deepen(rows: &mut Vec<u8>, old: &[u8], depth: u8, kind: Kind<'_>) -> u8
 }
 
 /// One more than a depth.
-fn one_more(depth: u8) -> u8
+pub(crate) fn one_more(depth: u8) -> u8
     ensures { result ≡ min 65 (1 + depth) }
 {
     if depth < DEEP { depth + 1 } else { DEEP }
 }
 
 /// The greater of two depths.
-fn deeper(a: u8, b: u8) -> u8
+pub(crate) fn deeper(a: u8, b: u8) -> u8
     ensures { result ≡ max a b }
 {
     if a < b { b } else { a }

@@ -8,6 +8,7 @@ ghost use Rattle.gsl_valid.specs.IdsDefinedOnce.{ids_defined_once};
 
 use crate::callees::{Callees, called_by, kind_of};
 use crate::depth::{DEEP, depths};
+use crate::ranks::walked;
 use crate::reach::Calls;
 use crate::table::byte_at;
 use gsl_base::Memory;
@@ -29,13 +30,13 @@ impl<'a> Model for CallGraph<'a> {
     ghost use Rattle.gsl_words.specs.declared.module.Module.{Module as OneModule};
     ghost use Rattle.gsl_valid.specs.CallRules.{has_cycle as goes_round};
     ghost use Rattle.gsl_valid.specs.IdsDefinedOnce.{ids_defined_once};
-    ghost use Rattle.gsl_valid_calls.specs.Depths.{depths as depths_in};
+    ghost use Rattle.gsl_valid_calls.specs.Depths.{TellDepths};
 
     ghost Value = { OneModule };
 
     ghost view = { λ graph. graph.calls };
 
-    ghost invariant = { λ graph. (ids_defined_once graph.calls ≡ None) × (graph.depths.items ≡ depths_in graph.calls) × (graph.has_cycle ≡ goes_round graph.calls) };
+    ghost invariant = { λ graph. (ids_defined_once graph.calls ≡ None) × TellDepths graph.depths.items graph.calls × (graph.has_cycle ≡ goes_round graph.calls) };
 }
 
 impl<'a> CallGraph<'a> {
@@ -48,9 +49,10 @@ impl<'a> CallGraph<'a> {
         requires once { ids_defined_once definitions.now ≡ None }
         ensures { IfOk result (λ graph. graph ≡ definitions.now) }
     {
-        let calls = Calls::new(alloc, definitions)?;
+        let (ranks, guess) = walked(alloc, definitions)?;
+        let calls = Calls::new(alloc, definitions, ranks);
         let has_cycle = goes_round(alloc, &calls)?;
-        let depths = depths(alloc, definitions.module())?;
+        let depths = depths(alloc, definitions.module(), guess)?;
         Ok(CallGraph {
             calls,
             depths,

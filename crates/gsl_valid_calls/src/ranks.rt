@@ -1,10 +1,11 @@
-//! Ranks of functions by their calls: those that reach each other have one rank, and what they call besides has a lower one.
-//! Nothing is promised of them here: `reach.rt` checks them.
+//! Ranks of functions by their calls, and how deeply calls nest from each: those that reach each other have one rank, and what they call
+//! besides has a lower one. Nothing is promised of either here: `reach.rt` and `depth.rt` check them.
 
 ghost use Rattle.std.specs.Prelude.{◌^◌, ◌<◌, length};
 
 use crate::callees::{is_function, kind_of, next_call};
-use crate::table::{put_word, word_at};
+use crate::depth::{DEEP, deeper, one_more};
+use crate::table::{byte_at, put_byte, put_word, word_at};
 use gsl_base::Memory;
 use gsl_ids::Definitions;
 use gsl_kinds::Kind;
@@ -17,6 +18,8 @@ struct Walk {
     lows: Vec<u32>,
     /// By its id, the rank of a function; 0 while it is open.
     ranks: Vec<u32>,
+    /// By its id, how deeply calls nest from a function on, by what was found of those that it calls.
+    depths: Vec<u8>,
     open: Vec<u32>,
     frames: Vec<Frame>,
     entered: u32,
@@ -31,14 +34,18 @@ struct Frame {
     at: u32,
 }
 
-/// A rank for each id. They take eight bytes for each id below the bound.
-pub(crate) fn ranks(alloc: Global, definitions: &Definitions<'_>) -> Result<Vec<u32>, Memory>
+/// A rank and a depth for each id. The walk takes nine bytes for each id below the bound.
+pub(crate) fn walked(
+    alloc: Global,
+    definitions: &Definitions<'_>,
+) -> Result<(Vec<u32>, Vec<u8>), Memory>
     requires { length definitions.now.instrs < 2 ^ 32 }
 {
     let of = definitions.module();
     let mut walk = Walk {
         lows: vec![in alloc; 0; of.bound as usize]?,
         ranks: vec![in alloc; 0; of.bound as usize]?,
+        depths: vec![in alloc; 0; of.bound as usize]?,
         open: Vec::new(alloc),
         frames: Vec::new(alloc),
         entered: 0,
@@ -53,7 +60,7 @@ pub(crate) fn ranks(alloc: Global, definitions: &Definitions<'_>) -> Result<Vec<
         }
         at += 1;
     }
-    Ok(walk.ranks)
+    Ok((walk.ranks, walk.depths))
 }
 
 /// Walks from a function, if it was not entered, in so many steps at most, and tells how many are left.
@@ -109,6 +116,7 @@ impl Walk {
         if word_at(&self.ranks, callee) == 0 {
             self.lower(id, low);
         }
+        self.deepen(id, callee);
         Ok(())
     }
 
@@ -132,9 +140,24 @@ impl Walk {
         let low = word_at(&self.lows, frame.id);
         if low == frame.number {
             self.close(frame.id);
-        } else if let Some(caller) = self.caller() {
-            self.lower(caller, low);
         }
+        if let Some(caller) = self.caller() {
+            self.deepen(caller, frame.id);
+            if low != frame.number {
+                self.lower(caller, low);
+            }
+        }
+    }
+
+    /// Notes how deeply calls nest from a function on that calls another: without end, if that is still open.
+    fn deepen(&mut self, id: u32, callee: u32) {
+        let found = if word_at(&self.ranks, callee) == 0 {
+            DEEP
+        } else {
+            one_more(byte_at(&self.depths, callee))
+        };
+        let depth = deeper(byte_at(&self.depths, id), found);
+        put_byte(&mut self.depths, id, depth);
     }
 
     /// The function whose calls are being followed.

@@ -8,7 +8,6 @@ ghost use Rattle.gsl_valid.specs.IdsDefinedOnce.{ids_defined_once};
 ghost use Rattle.gsl_valid_calls.specs.Ranks as spec;
 
 use crate::callees::{Callees, called_by, kind_of};
-use crate::ranks::ranks;
 use crate::search::leads_to;
 use crate::table::word_at;
 use gsl_base::Memory;
@@ -40,14 +39,14 @@ impl<'a> Model for Calls<'a> {
 impl<'a> Calls<'a> {
     ghost use Rattle.gsl_valid.specs.CallRules as rule;
 
-    /// The calls of a module.
-    pub(crate) fn new(alloc: Global, definitions: &'a Definitions<'a>) -> Result<Calls<'a>, Memory>
+    /// The calls of a module, with ranks that are checked: without ranks each question is a search.
+    pub(crate) fn new(alloc: Global, definitions: &'a Definitions<'a>, ranks: Vec<u32>) -> Calls<'a>
         requires few { length definitions.now.instrs < 2 ^ 32 }
         requires once { ids_defined_once definitions.now ≡ None }
-        ensures { IfOk result (λ calls. calls ≡ definitions.now) }
+        ensures { result ≡ definitions.now }
     {
-        let ranks = ranks_of(alloc, definitions)?;
-        Ok(Calls { definitions, ranks })
+        let ranks = checked(alloc, definitions, ranks);
+        Calls { definitions, ranks }
     }
 
     /// The definitions of the module.
@@ -69,18 +68,16 @@ impl<'a> Calls<'a> {
     }
 }
 
-/// Ranks of functions, by which none calls one of a higher rank. What the walk over the calls gives is checked; without ranks each
-/// question is a search.
-fn ranks_of(alloc: Global, definitions: &Definitions<'_>) -> Result<Vec<u32>, Memory>
+/// Ranks, if no function calls one of a higher rank by them, and else none.
+fn checked(alloc: Global, definitions: &Definitions<'_>, ranks: Vec<u32>) -> Vec<u32>
     requires few { length definitions.now.instrs < 2 ^ 32 }
     requires once { ids_defined_once definitions.now ≡ None }
-    ensures { IfOk result (λ ranks. spec.Ranked ranks.items definitions.now) }
+    ensures { spec.Ranked result.items definitions.now }
 {
-    let ranks = ranks(alloc, definitions)?;
     if are_ranked(definitions, &ranks) {
-        Ok(ranks)
+        ranks
     } else {
-        Ok(Vec::new(alloc))
+        Vec::new(alloc)
     }
 }
 

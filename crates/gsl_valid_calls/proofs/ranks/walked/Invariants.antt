@@ -1,5 +1,5 @@
 use Rattle.std.proofs.Common.{◌-◌, length}
-use Rattle.gsl_valid_calls.proofs.ranks.ranks.Given as goal
+use Rattle.gsl_valid_calls.proofs.ranks.walked.Given as goal
 
 abbrev pub invariant-loop-at : goal.invariant-loop-at
 invariant-loop-at l = Unit {0}
