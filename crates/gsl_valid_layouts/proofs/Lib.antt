@@ -1,0 +1,3 @@
+mod Laying
+mod Marking
+mod Sizing

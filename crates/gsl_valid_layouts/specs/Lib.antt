@@ -1,0 +1,4 @@
+pub mod Marks
+pub mod Sizes
+pub mod Layouts
+pub mod Stands
