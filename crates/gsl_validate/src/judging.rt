@@ -157,7 +157,8 @@ fn broken_on_values(
 {
     let definitions = marks.definitions();
     unless_broken!(14, operand_types(definitions));
-    unless_broken!(15, memory(runtimes, marks));
+    let access = memory(alloc, runtimes, marks)?;
+    unless_broken!(15, access);
     unless_broken!(16, returns(definitions));
     unless_broken!(17, extended(definitions));
     let limit = limits(alloc, definitions.module())?;
