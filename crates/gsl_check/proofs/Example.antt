@@ -13,9 +13,9 @@ use Rattle.gsl_names.specs.declared.entry.Entry.TheVariants as entry
 use Rattle.gsl_names.specs.Scopes.{find}
 use Rattle.gsl_typing.specs.Rows.{fault}
 use Rattle.gsl_check_expr.specs.declared.env.Env.{Env}
-use Rattle.gsl_check.specs.declared.qualified.Role.TheVariants.{Variable, Input, Buffer, Push, Member, Size, Nothing}
+use Rattle.gsl_qualifiers.specs.declared.qualified.Role.TheVariants.{Variable, Input, Buffer, Push, Member, Size, Nothing}
 use Rattle.gsl_check.specs.Builtins.{names_function}
-use Rattle.gsl_check.specs.Qualifiers.{role_of_variables, role_of_block, role_alone, qualified, flag, unsaid}
+use Rattle.gsl_qualifiers.specs.Qualifiers.{role_of_variables, role_of_block, role_alone, qualified, flag, unsaid}
 use Rattle.gsl_check.specs.Units.{begun}
 
 -- at a line

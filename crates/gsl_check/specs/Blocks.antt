@@ -32,10 +32,10 @@ use Rattle.gsl_check_expr.specs.declared.writing.Written.TheVariants.{Whole, Ope
 use Rattle.gsl_check_expr.specs.Expressions.{bracket}
 use Rattle.gsl_check_expr.specs.Written.{written_type, declared}
 use Rattle.gsl_check_stmt.specs.Declaring.{is_declared, is_reserved, may_be_had, is_high}
-use Rattle.gsl_check.specs.declared.qualified.Role.{Role}
-use Rattle.gsl_check.specs.declared.qualified.Role.TheVariants.{Variable, Input, Output, Uniform, Buffer, Push, Member, Size, Nothing}
-use Rattle.gsl_check.specs.declared.qualified.Qualified.{Qualified}
-use Rattle.gsl_check.specs.Qualifiers.{qualified}
+use Rattle.gsl_qualifiers.specs.declared.qualified.Role.{Role}
+use Rattle.gsl_qualifiers.specs.declared.qualified.Role.TheVariants.{Variable, Input, Output, Uniform, Buffer, Push, Member, Size, Nothing}
+use Rattle.gsl_qualifiers.specs.declared.qualified.Qualified.{Qualified}
+use Rattle.gsl_qualifiers.specs.Qualifiers.{qualified}
 use Rattle.gsl_check.specs.Variables.{Declares}
 
 -- ---- what stands around a member

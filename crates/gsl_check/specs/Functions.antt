@@ -35,9 +35,9 @@ use Rattle.gsl_check_stmt.specs.Declaring.{is_empty, is_reserved, may_be_had, is
 use Rattle.gsl_check_stmt.specs.Locals.{refused_layout}
 use Rattle.gsl_check_stmt.specs.Rules.{is_void}
 use Rattle.gsl_check_stmt.specs.Statements.{statements}
-use Rattle.gsl_check.specs.declared.qualified.Role.TheVariants.{Nothing}
+use Rattle.gsl_qualifiers.specs.declared.qualified.Role.TheVariants.{Nothing}
 use Rattle.gsl_check.specs.Builtins.{names_function}
-use Rattle.gsl_check.specs.Qualifiers.{qualified}
+use Rattle.gsl_qualifiers.specs.Qualifiers.{qualified}
 
 -- ---- parameters
 

@@ -30,9 +30,9 @@ use Rattle.gsl_check_expr.specs.Written.{declared, whole_type}
 use Rattle.gsl_check_expr.specs.Initialisers.{initial, begun_type}
 use Rattle.gsl_check_stmt.specs.Declaring.{is_declared, is_reserved, may_be_had, is_high}
 use Rattle.gsl_check_stmt.specs.Locals.{may_be_plain, begun_as}
-use Rattle.gsl_check.specs.declared.qualified.Role.{Role}
-use Rattle.gsl_check.specs.declared.qualified.Role.TheVariants.{Variable, Input, Output, Uniform, Buffer, Push, Member, Size, Nothing}
-use Rattle.gsl_check.specs.declared.qualified.Qualified.{Qualified}
+use Rattle.gsl_qualifiers.specs.declared.qualified.Role.{Role}
+use Rattle.gsl_qualifiers.specs.declared.qualified.Role.TheVariants.{Variable, Input, Output, Uniform, Buffer, Push, Member, Size, Nothing}
+use Rattle.gsl_qualifiers.specs.declared.qualified.Qualified.{Qualified}
 
 -- A declaration at the top of a unit: what is declared behind it, or its first fault.
 abbrev pub Declares : Type 0

@@ -23,9 +23,11 @@ use Rattle.gsl_makers.specs.Paths.{is_index}
 use Rattle.gsl_check_expr.specs.declared.env.Env.{Env}
 use Rattle.gsl_check_expr.specs.Sizes.{is_not_constant, is_left_open, word_of}
 use Rattle.gsl_check_expr.specs.Expressions.{taken_expression}
-use Rattle.gsl_check.specs.declared.qualified.Role.{Role}
-use Rattle.gsl_check.specs.declared.qualified.Role.TheVariants.{Variable, Input, Output, Uniform, Buffer, Push, Member, Size, Nothing}
-use Rattle.gsl_check.specs.declared.qualified.Qualified.{Qualified}
+use Rattle.gsl_qualifiers.specs.declared.qualified.Role.{Role}
+use Rattle.gsl_qualifiers.specs.declared.qualified.Role.TheVariants.{Variable, Input, Output, Uniform, Buffer, Push, Member, Size, Nothing}
+use Rattle.gsl_qualifiers.specs.declared.qualified.Qualified.{Qualified}
+use Rattle.gsl_qualifiers.specs.declared.valued.Valued.{Valued}
+use Rattle.gsl_qualifiers.specs.declared.valued.Valued.TheVariants.{Location, Set, Binding, Offset, Align, SizeX, SizeY, SizeZ}
 
 -- ---- what is declared
 
@@ -199,17 +201,6 @@ has_memory Size = false
 has_memory Nothing = false
 
 -- ---- layout names
-
--- A layout name that has a value.
-pub data Valued : Type 0 where
-  Location : Valued
-  Set : Valued
-  Binding : Valued
-  Offset : Valued
-  Align : Valued
-  SizeX : Valued
-  SizeY : Valued
-  SizeZ : Valued
 
 -- a name, where it may stand and this is it
 abbrev pub named : Bool → Valued → Option Valued
