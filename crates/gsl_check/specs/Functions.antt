@@ -31,8 +31,8 @@ use Rattle.gsl_check_expr.specs.declared.env.Env.{Env}
 use Rattle.gsl_check_expr.specs.Expressions.{bracket, callee}
 use Rattle.gsl_check_expr.specs.Written.{written_type, declared, whole_type}
 use Rattle.gsl_check_stmt.specs.declared.within.Within.{Within}
-use Rattle.gsl_check_stmt.specs.Declaring.{is_empty, is_reserved, may_be_had, is_high}
-use Rattle.gsl_check_stmt.specs.Locals.{refused_layout}
+use Rattle.gsl_check_decl.specs.Declaring.{is_empty, is_reserved, may_be_had, is_high}
+use Rattle.gsl_check_decl.specs.Locals.{refused_layout}
 use Rattle.gsl_check_stmt.specs.Rules.{is_void}
 use Rattle.gsl_check_stmt.specs.Statements.{statements}
 use Rattle.gsl_qualifiers.specs.declared.qualified.Role.TheVariants.{Nothing}

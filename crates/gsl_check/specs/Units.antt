@@ -19,7 +19,7 @@ use Rattle.gsl_typing.specs.Rows.{unless}
 use Rattle.gsl_check_expr.specs.declared.env.Env.{Env}
 use Rattle.gsl_check_expr.specs.declared.writing.Written.TheVariants.{Whole}
 use Rattle.gsl_check_expr.specs.Written.{written_type}
-use Rattle.gsl_check_stmt.specs.Structs.{structured}
+use Rattle.gsl_check_decl.specs.Structs.{structured}
 use Rattle.gsl_qualifiers.specs.declared.qualified.Role.{Role}
 use Rattle.gsl_qualifiers.specs.declared.qualified.Qualified.{Qualified}
 use Rattle.gsl_check.specs.Builtins.{built_in}

@@ -28,8 +28,8 @@ use Rattle.gsl_check_expr.specs.Sizes.{is_not_constant, is_left_open}
 use Rattle.gsl_check_expr.specs.Expressions.{bracket}
 use Rattle.gsl_check_expr.specs.Written.{declared, whole_type}
 use Rattle.gsl_check_expr.specs.Initialisers.{initial, begun_type}
-use Rattle.gsl_check_stmt.specs.Declaring.{is_declared, is_reserved, may_be_had, is_high}
-use Rattle.gsl_check_stmt.specs.Locals.{may_be_plain, begun_as}
+use Rattle.gsl_check_decl.specs.Declaring.{is_declared, is_reserved, may_be_had, is_high}
+use Rattle.gsl_check_decl.specs.Locals.{may_be_plain, begun_as}
 use Rattle.gsl_qualifiers.specs.declared.qualified.Role.{Role}
 use Rattle.gsl_qualifiers.specs.declared.qualified.Role.TheVariants.{Variable, Input, Output, Uniform, Buffer, Push, Member, Size, Nothing}
 use Rattle.gsl_qualifiers.specs.declared.qualified.Qualified.{Qualified}

@@ -13,10 +13,11 @@ use Rattle.gsl_syntax.specs.declared.statement.Stmt.TheFolds.{fold-roll-Stmt}
 use Rattle.gsl_types.specs.declared.ty.Ty.{Ty}
 use Rattle.gsl_tree.specs.declared.stmt.Stmt.TheVariants as stmt
 use Rattle.gsl_check_expr.specs.declared.env.Env.{Env}
+use Rattle.gsl_check_decl.specs.Declarations.{declaration}
 use Rattle.gsl_check_stmt.specs.declared.within.Within.{Within}
 use Rattle.gsl_check_stmt.specs.Rules.{broken, continued, discarded, returned}
 use Rattle.gsl_check_stmt.specs.Switches.{misplaced_default}
-use Rattle.gsl_check_stmt.specs.Statements.{Answer, answer, statement, by_parts, Case, Default, declaration, in_row, still, evaluated, stray_case, return_with, block, branch, branches, switch, while_head, for_head, looped, do_loop}
+use Rattle.gsl_check_stmt.specs.Statements.{Answer, answer, statement, by_parts, Case, Default, in_row, still, evaluated, stray_case, return_with, block, branch, branches, switch, while_head, for_head, looped, do_loop}
 
 -- two maps as one
 map_map : {A B C : Type 0} (f : A → B) (g : B → C) (l : List A) → map g (map f l) ≡ map (λ x. g (f x)) l

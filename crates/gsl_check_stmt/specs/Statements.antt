@@ -1,60 +1,29 @@
 -- The typed statement that a statement stands for, and what is declared behind it; or its first fault (GLSL 4.50, chapter 6).
-use Rattle.std.specs.Prelude.{is_some, true, false, List, [], ◌∷◌, map, Option, Some, None, Ok, if◌then◌else◌}
+use Rattle.std.specs.Prelude.{ℕ, is_some, true, false, List, [], ◌∷◌, map, Option, Some, None, Ok, if◌then◌else◌}
 use Rattle.gsl_base.specs.Checked.{Checked, ◌>>=◌}
 use Rattle.gsl_base.specs.declared.fault.Place.{Place}
 use Rattle.gsl_base.specs.declared.fault.Code.{Code}
-use Rattle.gsl_base.specs.declared.fault.Code.TheVariants.{E0701}
 use Rattle.gsl_syntax.specs.declared.expr.Expr.{Expr as Phrase}
-use Rattle.gsl_syntax.specs.declared.expr.TypeSpec.{TypeSpec}
-use Rattle.gsl_syntax.specs.declared.declaration.Qual.{Qual}
-use Rattle.gsl_syntax.specs.declared.declaration.Declarator.{Declarator}
-use Rattle.gsl_syntax.specs.declared.declaration.Struct.{Struct}
 use Rattle.gsl_syntax.specs.declared.declaration.Decl.{Decl}
-use Rattle.gsl_syntax.specs.declared.declaration.Decl.TheVariants as decl
 use Rattle.gsl_syntax.specs.declared.statement.Stmt.{Stmt as Syntax}
 use Rattle.gsl_syntax.specs.declared.statement.Stmt.TheOpen.{Stmt-F}
 use Rattle.gsl_syntax.specs.declared.statement.Stmt.TheFolds.{fold-Stmt}
 use Rattle.gsl_syntax.specs.declared.statement.ForInit.{ForInit}
 use Rattle.gsl_syntax.specs.declared.statement.ForInit.TheVariants as for_init
 use Rattle.gsl_types.specs.declared.ty.Ty.{Ty}
-use Rattle.gsl_types.specs.declared.ty.Ty.TheVariants as ty
 use Rattle.gsl_tree.specs.declared.expr.Expr.{Expr}
 use Rattle.gsl_tree.specs.declared.stmt.Stmt.{Stmt}
 use Rattle.gsl_tree.specs.declared.stmt.Stmt.TheVariants as stmt
 use Rattle.gsl_typing.specs.declared.scene.Part.{Part}
-use Rattle.gsl_typing.specs.Rows.{fault}
 use Rattle.gsl_typing.specs.Scene.{type_in}
 use Rattle.gsl_check_expr.specs.declared.env.Env.{Env}
-use Rattle.gsl_check_expr.specs.declared.writing.Written.TheVariants.{Whole}
 use Rattle.gsl_check_expr.specs.Expressions.{expression, taken_expression}
-use Rattle.gsl_check_expr.specs.Written.{written_type}
+use Rattle.gsl_check_decl.specs.Steps.{Step, in_turn, opened, closed, scoped}
+use Rattle.gsl_check_decl.specs.Declarations.{declaration}
 use Rattle.gsl_check_stmt.specs.declared.within.Within.{Within}
 use Rattle.gsl_check_stmt.specs.declared.gathered.Gathered.{Gathered}
-use Rattle.gsl_check_stmt.specs.Steps.{Step, in_turn, as_one, opened, closed, scoped}
-use Rattle.gsl_check_stmt.specs.Locals.{qualified, declarator}
-use Rattle.gsl_check_stmt.specs.Structs.{structured}
 use Rattle.gsl_check_stmt.specs.Rules.{alone, condition_fault, unless_wrong, broken, continued, discarded, returned, returned_value}
 use Rattle.gsl_check_stmt.specs.Switches.{nothing, with_case, with_stmt, case_word, default_label, misplaced_case, misplaced_default, switched}
-
--- ---- declarations among statements
-
-unfoldable pub variables : List Qual → TypeSpec → List Declarator → Env → Checked (List Stmt × Env)
-variables quals t all env = qualified env quals >>= (λ fixed. written_type env t >>= (λ base. in_turn (map (declarator fixed base) all) env))
-
-unfoldable pub struct_and_variables : List Qual → Struct → List Declarator → Env → Checked (List Stmt × Env)
-struct_and_variables quals s all env = qualified env quals
-    >>= (λ fixed. structured s env >>= (λ done. in_turn (map (declarator fixed (Whole (ty.Struct done.0))) all) done.1))
-
--- No block stands among statements.
-unfoldable pub declared_by : Decl → Env → Checked (List Stmt × Env)
-declared_by (decl.Variables quals t all) env = variables quals t all env
-declared_by (decl.Struct quals s all) env = struct_and_variables quals s all env
-declared_by (decl.Block quals name members instance) env = qualified env quals >>= (λ fixed. fault name.place E0701)
-declared_by (decl.Quals quals) env = qualified env quals >>= (λ fixed. Ok ([], env))
-
--- A declaration: its qualifiers, its type or struct, and then its variables from left to right.
-unfoldable pub declaration : Decl → Step
-declaration d env = declared_by d env >>= (λ done. Ok (as_one done.0, done.1))
 
 -- ---- what may stand where
 
@@ -149,6 +118,10 @@ behind_header (Some first) loop = stmt.Group (first ∷ loop ∷ [])
 abbrev pub Head : Type 0
 Head = Option Stmt × Option Test × Option Expr × Env
 
+-- what stands first, the test, and the step
+abbrev pub Parts : Type 0
+Parts = Option Stmt × Option Test × Option Expr
+
 unfoldable pub while_head : Phrase → Env → Checked Head
 while_head test env = tested test (opened env) >>= (λ t. Ok (None, Some t, None, opened env))
 
@@ -191,6 +164,10 @@ branches place test body other within env = if_head test env >>= (λ head. body 
     >>= (λ done. other (in_part within) (opened (closed done.1)) >>= (λ last. if_done place head.0 done.0 (Some last.0) last.1)))
 
 -- ---- the body of a `switch`
+
+-- the word of a `case`
+abbrev pub word_of_case : Ty → Place → Phrase → Gathered → Env → Checked ℕ
+word_of_case selector place e g env = taken_expression env e >>= case_word env.scene selector g place
 
 unfoldable pub case_label : Ty → Place → Phrase → Gathered → Env → Checked Gathered
 case_label selector place e g env = taken_expression env e >>= (λ x. case_word env.scene selector g place x >>= (λ word. Ok (with_case g word)))

@@ -20,8 +20,8 @@ use Rattle.gsl_typing.specs.Conversions.{serves_as}
 use Rattle.gsl_typing.specs.Uses.{is_unread}
 use Rattle.gsl_makers.specs.Paths.{is_index}
 use Rattle.gsl_check_expr.specs.Sizes.{is_not_constant, is_left_open, word_of}
+use Rattle.gsl_check_decl.specs.Declaring.{is_empty}
 use Rattle.gsl_check_stmt.specs.declared.gathered.Gathered.{Gathered}
-use Rattle.gsl_check_stmt.specs.Declaring.{is_empty}
 
 -- ---- arms, as they are read from left to right
 

@@ -1,7 +1,7 @@
 //! The body of a `switch`, as it is read from left to right.
 
-ghost use Rattle.std.specs.Prelude.{◌≡◌, IfOk};
-ghost use Rattle.gsl_base.specs.Checked.{Gives};
+ghost use Rattle.std.specs.Prelude.{◌≡◌, OnOk};
+ghost use Rattle.gsl_base.specs.Checked.{Gives, GivesBy};
 ghost use Rattle.gsl_check_stmt.specs.Switches as spec;
 
 use gsl_base::{Code, List, Memory, Place, Refusal};
@@ -11,6 +11,7 @@ use gsl_tree::{Arm, Arms, Folded, Labels, Stmt, Stmts};
 use gsl_types::Ty;
 use gsl_typing::{Part, Scene, is_unread, refuse, serves_as};
 use std::alloc::Global;
+use std::mem::replace;
 
 /// Arms of a `switch`: those that have ended, and the one that is read.
 #[derive(Drop)]
@@ -43,84 +44,78 @@ impl Gathered {
         }
     }
 
-    /// Behind the end of the arm that is read.
-    fn behind_arm(self, alloc: Global) -> Result<Gathered, Memory>
-        ensures { IfOk result (λ g. g ≡ spec.behind_arm self) }
+    /// Ends the arm that is read.
+    fn end_arm(&mut self, alloc: Global) -> Result<(), Memory>
+        ensures { OnOk result (self.new ≡ spec.behind_arm self.old) }
     {
-        let Gathered {
-            mut arms,
+        let labels = replace(&mut self.labels, List::new(alloc));
+        let body = replace(&mut self.body, List::new(alloc));
+        self.arms.push(Arm {
             labels,
-            is_default,
-            body,
-            words,
-            has_default,
-        } = self;
-        arms.push(Arm {
-            labels,
-            is_default,
+            is_default: self.is_default,
             body,
         })?;
-        Ok(Gathered {
-            arms,
-            labels: List::new(alloc),
-            is_default: false,
-            body: List::new(alloc),
-            words,
-            has_default,
-        })
+        self.is_default = false;
+        Ok(())
     }
 
-    /// Where a label may be put.
-    fn at_label(self, alloc: Global) -> Result<Gathered, Memory>
-        ensures { IfOk result (λ g. g ≡ spec.at_label self) }
+    /// Ends the arm that is read, if a label ends it.
+    fn reach_label(&mut self, alloc: Global) -> Result<(), Memory>
+        ensures { OnOk result (self.new ≡ spec.at_label self.old) }
     {
         if self.body.is_empty() {
-            return Ok(self);
+            return Ok(());
         }
-        self.behind_arm(alloc)
+        self.end_arm(alloc)
     }
 
-    /// With a label of a word.
+    /// Adds a label of a word.
     #[tactic(auto, unfolding(crate::specs::Switches::with_case))]
-    pub fn with_case(self, alloc: Global, word: u32) -> Result<Gathered, Memory>
-        ensures { IfOk result (λ g. g ≡ spec.with_case self word) }
+    pub fn add_case(&mut self, alloc: Global, word: u32) -> Result<(), Memory>
+        ensures { OnOk result (self.new ≡ spec.with_case self.old word) }
     {
-        let mut g = self.at_label(alloc)?;
-        g.labels.push(word)?;
-        g.words.push(word)?;
-        Ok(g)
+        self.reach_label(alloc)?;
+        self.labels.push(word)?;
+        self.words.push(word)?;
+        Ok(())
     }
 
-    /// With `default`.
+    /// Adds `default`.
     #[tactic(auto, unfolding(crate::specs::Switches::with_default))]
-    pub fn with_default(self, alloc: Global) -> Result<Gathered, Memory>
-        ensures { IfOk result (λ g. g ≡ spec.with_default self) }
+    pub fn add_default(&mut self, alloc: Global) -> Result<(), Memory>
+        ensures { OnOk result (self.new ≡ spec.with_default self.old) }
     {
-        let mut g = self.at_label(alloc)?;
-        g.is_default = true;
-        g.has_default = true;
-        Ok(g)
+        self.reach_label(alloc)?;
+        self.is_default = true;
+        self.has_default = true;
+        Ok(())
     }
 
-    /// With a statement.
+    /// Adds a statement.
     #[tactic(auto, unfolding(crate::specs::Switches::with_stmt))]
-    pub fn with_stmt(self, s: Stmt) -> Result<Gathered, Memory>
-        ensures { IfOk result (λ g. g ≡ spec.with_stmt self s) }
+    pub fn add_stmt(&mut self, s: Stmt) -> Result<(), Memory>
+        ensures { OnOk result (self.new ≡ spec.with_stmt self.old s) }
     {
-        let mut g = self;
-        g.body.push(s)?;
-        Ok(g)
+        self.body.push(s)?;
+        Ok(())
     }
 
-    /// All arms.
-    #[tactic(auto, unfolding(crate::specs::Switches::all_arms))]
-    pub fn all_arms(self, alloc: Global) -> Result<Arms, Memory>
-        ensures { IfOk result (λ arms. arms ≡ spec.all_arms self) }
+    /// Whether neither a label nor a statement stands in the arm that is read.
+    fn is_blank(&self) -> bool
+        ensures { result ≡ spec.is_blank self.now }
     {
-        if self.labels.is_empty() && !self.is_default && self.body.is_empty() {
-            return Ok(self.arms);
+        self.labels.is_empty() && !self.is_default && self.body.is_empty()
+    }
+
+    /// Ends the last arm, if there is one.
+    #[tactic(auto, unfolding(crate::specs::Switches::all_arms))]
+    pub fn finish(&mut self, alloc: Global) -> Result<(), Memory>
+        ensures { OnOk result ((self.new.arms ≡ spec.all_arms self.old) × (self.new.words ≡ self.old.words) × (self.new.has_default ≡ self.old.has_default)) }
+    {
+        if self.is_blank() {
+            return Ok(());
         }
-        Ok(self.behind_arm(alloc)?.arms)
+        self.end_arm(alloc)
     }
 }
 
@@ -173,15 +168,15 @@ pub fn constant_word(
     Ok(word)
 }
 
-/// With `default`, which may stand once.
+/// Adds `default`, which may stand once.
 #[tactic(auto, unfolding(crate::specs::Switches::default_label))]
-pub fn default_label(alloc: Global, g: Gathered, place: Place) -> Result<Gathered, Refusal>
-    ensures { Gives result (spec.default_label g place) }
+pub fn default_label(alloc: Global, g: &mut Gathered, place: Place) -> Result<(), Refusal>
+    ensures { GivesBy (λ _. g.new) result (spec.default_label g.old place) }
 {
     if g.has_default {
         return Err(refuse(place, Code::E0511));
     }
-    Ok(g.with_default(alloc)?)
+    Ok(g.add_default(alloc)?)
 }
 
 /// A `case` that may not stand there.

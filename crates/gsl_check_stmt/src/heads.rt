@@ -1,26 +1,66 @@
 //! What stands before and behind the parts of statements.
 
-ghost use Rattle.std.specs.Prelude.{◌≡◌, IfOk, is_some};
-ghost use Rattle.gsl_base.specs.Checked.{Gives};
-ghost use Rattle.gsl_check_stmt.specs.Steps as steps;
+ghost use Rattle.std.specs.Prelude.{◌≡◌, ◌∷◌, [], OnOk, Option, None, Some, Ok, true, false};
+ghost use Rattle.gsl_base.specs.Checked.{Gives, GivesBy};
+ghost use Rattle.gsl_tree.specs.declared.stmt.Stmt.TheVariants.{Loop as loop_as};
+ghost use Rattle.gsl_check_decl.specs.Steps as steps;
+ghost use Rattle.gsl_check_stmt.specs.Rules as rules;
 ghost use Rattle.gsl_check_stmt.specs.Statements as spec;
 
-use crate::gathered::misplaced_case;
 use crate::rules::{alone, condition_fault};
-use crate::sound::SoundEnv;
 use gsl_base::{Boxed, Code, Memory, Place, Refusal};
+use gsl_check_decl::SoundEnv;
 use gsl_check_expr::{expression, taken_expression};
-use gsl_syntax::{Expr as Phrase, Stmt as Syntax};
+use gsl_syntax::Expr as Phrase;
 use gsl_tree::{Expr, Stmt};
-use gsl_types::Ty;
 use gsl_typing::refuse;
 use std::alloc::Global;
+use std::marker::Model;
 
-/// A condition: its expression, and its fault if it has one.
-pub type Test = (Expr, Option<Code>);
+/// A condition: its expression, and its fault if it has one. Contracts see the pair.
+#[derive(Drop)]
+pub struct Test {
+    expr: Expr,
+    wrong: Option<Code>,
+}
 
-/// The header of a loop: what stands first, the test, the step, and what is declared behind them.
-pub type Head = (Option<Stmt>, Option<Test>, Option<Expr>, SoundEnv);
+impl Model for Test {
+    ghost use Rattle.std.specs.Prelude.{Option};
+    ghost use Rattle.gsl_base.specs.declared.fault.Code.{Code as OneCode};
+    ghost use Rattle.gsl_tree.specs.declared.expr.Expr.{Expr as OneExpr};
+    ghost use Rattle.std.specs.Coded.{codes};
+    ghost use Rattle.gsl_tree.specs.contracts.expr.Expr as expr_row;
+
+    ghost Value = { OneExpr × Option OneCode };
+
+    ghost coded = { Prim.hlevel (codes, expr_row.the_row.coded) };
+
+    ghost view = { λ test. (test.expr, test.wrong) };
+}
+
+/// The header of a loop: what stands first, the test, and the step. Contracts see the triple.
+#[derive(Drop)]
+pub struct Head {
+    first: Option<Stmt>,
+    test: Option<Test>,
+    step: Option<Expr>,
+}
+
+impl Model for Head {
+    ghost use Rattle.std.specs.Prelude.{Option};
+    ghost use Rattle.gsl_base.specs.declared.fault.Code.{Code as OneCode};
+    ghost use Rattle.gsl_tree.specs.declared.expr.Expr.{Expr as OneExpr};
+    ghost use Rattle.gsl_tree.specs.declared.stmt.Stmt.{Stmt as OneStmt};
+    ghost use Rattle.std.specs.Coded.{codes};
+    ghost use Rattle.gsl_tree.specs.contracts.expr.Expr as expr_row;
+    ghost use Rattle.gsl_tree.specs.contracts.stmt.Stmt as stmt_row;
+
+    ghost Value = { Option OneStmt × Option (OneExpr × Option OneCode) × Option OneExpr };
+
+    ghost coded = { Prim.hlevel (codes, expr_row.the_row.coded, stmt_row.the_row.coded) };
+
+    ghost view = { λ head. (head.first, head.test, head.step) };
+}
 
 /// An expression that stands alone.
 #[tactic(auto, unfolding(crate::specs::Statements::eval))]
@@ -32,25 +72,6 @@ pub fn eval(alloc: Global, env: &SoundEnv, e: &Phrase) -> Result<Expr, Refusal>
     Ok(alone(&env.scene, x)?.expr)
 }
 
-#[tactic(auto, unfolding(crate::specs::Statements::eval_if))]
-pub fn eval_if(alloc: Global, env: &SoundEnv, e: &Option<Phrase>) -> Result<Option<Expr>, Refusal>
-    ensures { Gives result (spec.eval_if e.now env.now) }
-{
-    match e {
-        None => Ok(None),
-        Some(e) => Ok(Some(eval(alloc, env, e)?)),
-    }
-}
-
-/// An expression statement.
-#[tactic(auto, unfolding(crate::specs::Statements::evaluated))]
-pub fn evaluated(alloc: Global, env: SoundEnv, e: &Phrase) -> Result<(Stmt, SoundEnv), Refusal>
-    ensures { Gives result (spec.evaluated e.now env) }
-{
-    let x = eval(alloc, &env, e)?;
-    Ok((Stmt::Eval(x), env))
-}
-
 /// A condition.
 #[tactic(auto, unfolding(crate::specs::Statements::tested))]
 pub fn tested(alloc: Global, env: &SoundEnv, e: &Phrase) -> Result<Test, Refusal>
@@ -59,7 +80,10 @@ pub fn tested(alloc: Global, env: &SoundEnv, e: &Phrase) -> Result<Test, Refusal
     let env = env.get();
     let x = taken_expression(alloc, env, e)?;
     let wrong = condition_fault(&env.scene, &x);
-    Ok((x.expr, wrong))
+    Ok(Test {
+        expr: x.expr,
+        wrong,
+    })
 }
 
 /// A condition that may be missing.
@@ -73,99 +97,134 @@ pub fn tested_if(alloc: Global, env: &SoundEnv, e: &Option<Phrase>) -> Result<Op
     }
 }
 
+// ---- headers of loops
+
 /// The header of a `while`, in a scope of its own.
 #[tactic(auto, unfolding(crate::specs::Statements::while_head))]
-pub fn while_head(alloc: Global, env: SoundEnv, test: &Phrase) -> Result<Head, Refusal>
-    ensures { Gives result (spec.while_head test.now env) }
+pub fn while_head(alloc: Global, env: &mut SoundEnv, test: &Phrase) -> Result<Head, Refusal>
+    ensures { GivesBy (λ (head : spec.Parts). (head.0, head.1, head.2, env.new)) result (spec.while_head test.now env.old) }
 {
-    let env = env.opened()?;
-    let test = tested(alloc, &env, test)?;
-    Ok((None, Some(test), None, env))
+    env.open(alloc)?;
+    let test = tested(alloc, env, test)?;
+    Ok(Head {
+        first: None,
+        test: Some(test),
+        step: None,
+    })
 }
+
+// ---- loops behind their parts
+
+/// A loop whose test comes first, if it has one.
+#[tactic(auto, unfolding(crate::specs::Statements::loop_of))]
+pub fn loop_of(
+    place: Place,
+    test: Option<Test>,
+    step: Option<Expr>,
+    body: Boxed<Stmt>,
+) -> Result<Stmt, Refusal>
+    ensures { Gives result (spec.loop_of place test step body) }
+{
+    match test {
+        None => Ok(first_tested(None, step, body)),
+        Some(test) => tested_loop(place, test, step, body),
+    }
+}
+
+/// A loop whose test comes first.
+fn tested_loop(
+    place: Place,
+    test: Test,
+    step: Option<Expr>,
+    body: Boxed<Stmt>,
+) -> Result<Stmt, Refusal>
+    ensures { Gives result (rules.unless_wrong place test.1 (Ok (loop_as (Some test.0) step body false))) }
+{
+    let Test { expr, wrong } = test;
+    match wrong {
+        Some(code) => Err(refuse(place, code)),
+        None => Ok(first_tested(Some(expr), step, body)),
+    }
+}
+
+fn first_tested(test: Option<Expr>, step: Option<Expr>, body: Boxed<Stmt>) -> Stmt
+    ensures { result ≡ loop_as test step body false }
+{
+    Stmt::Loop {
+        test,
+        step,
+        body,
+        test_last: false,
+    }
+}
+
+/// A loop whose test comes last.
+fn last_tested(place: Place, test: Test, body: Boxed<Stmt>) -> Result<Stmt, Refusal>
+    ensures { Gives result (rules.unless_wrong place test.1 (Ok (loop_as (Some test.0) None body true))) }
+{
+    let Test { expr, wrong } = test;
+    match wrong {
+        Some(code) => Err(refuse(place, code)),
+        None => Ok(Stmt::Loop {
+            test: Some(expr),
+            step: None,
+            body,
+            test_last: true,
+        }),
+    }
+}
+
+/// A loop whose test comes last, behind its body.
+#[tactic(auto, unfolding(crate::specs::Statements::behind_body))]
+pub fn behind_body(
+    alloc: Global,
+    env: &SoundEnv,
+    place: Place,
+    test: &Phrase,
+    body: Boxed<Stmt>,
+) -> Result<Stmt, Refusal>
+    ensures { GivesBy (λ s. (s, env.now)) result (spec.behind_body place test.now body env.now) }
+{
+    let test = tested(alloc, env, test)?;
+    Ok(last_tested(place, test, body)?)
+}
+
+// ---- branches
 
 /// The condition of an `if`, and the scope of what stands behind it.
 #[tactic(auto, unfolding(crate::specs::Statements::if_head))]
-pub fn if_head(alloc: Global, env: SoundEnv, test: &Phrase) -> Result<(Test, SoundEnv), Refusal>
-    ensures { Gives result (spec.if_head test.now env) }
+pub fn if_head(alloc: Global, env: &mut SoundEnv, test: &Phrase) -> Result<Test, Refusal>
+    ensures { GivesBy (λ (t : spec.Test). (t, env.new)) result (spec.if_head test.now env.old) }
 {
-    let test = tested(alloc, &env, test)?;
-    Ok((test, env.opened()?))
+    let test = tested(alloc, env, test)?;
+    env.open(alloc)?;
+    Ok(test)
 }
 
-/// A part that may be missing, in a box of its own.
-pub fn boxed(alloc: Global, s: Option<Stmt>) -> Result<Option<Boxed<Stmt>>, Memory>
-    ensures { IfOk result (λ b. b ≡ s) }
+/// From the scope of one part to that of the next.
+pub fn between(alloc: Global, env: &mut SoundEnv) -> Result<(), Memory>
+    ensures { OnOk result (env.new ≡ steps.opened (steps.closed env.old)) }
 {
-    match s {
-        None => Ok(None),
-        Some(s) => Ok(Some(Boxed::new(alloc, s)?)),
-    }
+    env.close(alloc);
+    env.open(alloc)
 }
 
 /// An `if` behind its parts, of which the last had a scope of its own.
 #[tactic(auto, unfolding(crate::specs::Statements::if_done))]
 pub fn if_done(
     alloc: Global,
+    env: &mut SoundEnv,
     place: Place,
     test: Test,
-    body: Stmt,
-    other: Option<Stmt>,
-    env: SoundEnv,
-) -> Result<(Stmt, SoundEnv), Refusal>
-    ensures { Gives result (spec.if_done place test body other env) }
+    body: Boxed<Stmt>,
+    other: Option<Boxed<Stmt>>,
+) -> Result<Stmt, Refusal>
+    ensures { GivesBy (λ s. (s, env.new)) result (spec.if_done place test body other env.old) }
 {
-    let (test, wrong) = test;
-    if let Some(code) = wrong {
-        return Err(refuse(place, code));
-    }
-    let body = Boxed::new(alloc, body)?;
-    let other = boxed(alloc, other)?;
-    Ok((Stmt::If(test, body, other), env.closed()))
-}
-
-/// From the scope of one part to that of the next.
-pub fn between(env: SoundEnv) -> Result<SoundEnv, Memory>
-    ensures { IfOk result (λ next. next ≡ steps.opened (steps.closed env)) }
-{
-    env.closed().opened()
-}
-
-/// A `case` outside the body of a `switch`, or in a statement of it.
-#[tactic(auto, unfolding(crate::specs::Statements::stray_case))]
-pub fn stray_case(
-    alloc: Global,
-    env: SoundEnv,
-    place: Place,
-    e: &Phrase,
-) -> Result<(Stmt, SoundEnv), Refusal>
-    ensures { Gives result (spec.stray_case place e.now env) }
-{
-    let x = taken_expression(alloc, env.get(), e)?;
-    let s = misplaced_case(&env.get().scene, place, &x)?;
-    Ok((s, env))
-}
-
-/// Whether a statement is a label of a `switch`.
-#[tactic(auto, using(crate::proofs::Parts::labels))]
-pub fn is_label(_returns: &Ty, s: &Syntax) -> bool
-    ensures { result ≡ is_some (spec.answer _returns.now s.now).label }
-{
-    match s {
-        Syntax::Case(_, _) | Syntax::Default(_) => true,
-        Syntax::Empty(_)
-        | Syntax::Block(_, _)
-        | Syntax::Decl(_)
-        | Syntax::Expr(_)
-        | Syntax::If(_, _, _)
-        | Syntax::IfElse(_, _, _, _)
-        | Syntax::Switch(_, _, _)
-        | Syntax::While(_, _, _)
-        | Syntax::Do(_, _, _)
-        | Syntax::For(_, _, _, _, _)
-        | Syntax::Break(_)
-        | Syntax::Continue(_)
-        | Syntax::Discard(_)
-        | Syntax::Return(_)
-        | Syntax::ReturnValue(_, _) => false,
+    env.close(alloc);
+    let Test { expr, wrong } = test;
+    match wrong {
+        Some(code) => Err(refuse(place, code)),
+        None => Ok(Stmt::If(expr, body, other)),
     }
 }

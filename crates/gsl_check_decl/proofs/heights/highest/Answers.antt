@@ -2,8 +2,8 @@ use Rattle.std.proofs.Common.{◌≡◌, ◌∙◌, ◌+◌, ◌<◌, ◌∷◌,
 use Rattle.std.proofs.lemmas.List.{drop_more}
 use Rattle.gsl_types.specs.declared.ty.Member.{Member}
 use Rattle.gsl_tree.specs.Weights.{height_of}
-use Rattle.gsl_check_stmt.proofs.Pushed.{above_all}
-use Rattle.gsl_check_stmt.proofs.heights.highest.Goals as goal
+use Rattle.gsl_check_decl.proofs.Pushed.{above_all}
+use Rattle.gsl_check_decl.proofs.heights.highest.Goals as goal
 
 pub returns-in-None : goal.returns-in-None
 returns-in-None c =

@@ -4,7 +4,7 @@ ghost use Rattle.std.specs.Prelude.{◌≡◌, IsTrue, length};
 ghost use Rattle.gsl_types.specs.Known.{IsSound, sound};
 ghost use Rattle.gsl_tree.specs.WellTyped.{is_plain as is_plain_type};
 ghost use Rattle.gsl_makers.specs.Heights.{AreHeights};
-ghost use Rattle.gsl_check_stmt.specs.Declaring as spec;
+ghost use Rattle.gsl_check_decl.specs.Declaring as spec;
 
 use gsl_base::Text;
 use gsl_check_expr::Env;

@@ -1,5 +1,5 @@
-use Rattle.gsl_check_stmt.proofs.Longer.{next_is}
-use Rattle.gsl_check_stmt.proofs.sound.struct_behind.Goals as goal
+use Rattle.gsl_check_decl.proofs.Longer.{next_is}
+use Rattle.gsl_check_decl.proofs.sound.struct_behind.Goals as goal
 
 pub returns-clause-is : goal.returns-clause-is
 returns-clause-is c =

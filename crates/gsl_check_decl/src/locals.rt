@@ -1,17 +1,19 @@
 //! Local variables.
 
 ghost use Rattle.std.specs.Prelude.{◌≡◌, IfOk};
-ghost use Rattle.gsl_base.specs.Checked.{Gives};
+ghost use Rattle.gsl_base.specs.Checked.{Gives, GivesBy};
+ghost use Rattle.gsl_syntax.specs.declared.declaration.Declarator.TheVariants as declarator_of;
 ghost use Rattle.gsl_types.specs.Known.{AreStructs};
 ghost use Rattle.gsl_makers.specs.Heights.{AreHeights};
-ghost use Rattle.gsl_check_stmt.specs.Locals as spec;
+ghost use Rattle.gsl_check_decl.specs.Locals as spec;
 
 use crate::asked::{is_declared, is_high, is_reserved, may_be_had};
 use crate::sound::SoundEnv;
+use crate::structs::declared_whole;
 use gsl_base::{Code, Memory, Place, Refusal};
-use gsl_check_expr::{Env, Written, begun_type, taken_expression};
+use gsl_check_expr::{Env, Written, begun_type, declared, initial, taken_expression};
 use gsl_fold::constant;
-use gsl_syntax::{Lay, Name, Qual};
+use gsl_syntax::{Declarator, Dim, Init, Lay, Name, Qual};
 use gsl_tree::{Expr, Folded, Stmt};
 use gsl_types::Ty;
 use gsl_typing::{Part, Scene, as_type, is_unread, refuse};
@@ -120,6 +122,22 @@ pub fn may_be_plain(env: &Env, fixed: bool, name: &Name, ty: &Ty) -> Result<(), 
     Ok(())
 }
 
+/// A variable that begins as zeros.
+#[tactic(auto, unfolding(crate::specs::Locals::plain_variable))]
+pub fn plain_variable(
+    alloc: Global,
+    fixed: bool,
+    name: &Name,
+    ty: Ty,
+    env: &mut SoundEnv,
+) -> Result<Stmt, Refusal>
+    ensures { GivesBy (λ s. (s, env.new)) result (spec.plain_variable fixed name.now ty env.old) }
+{
+    may_be_plain(env.get(), fixed, name, &ty)?;
+    let number = env.declare_local(alloc, false, &name.text, ty, Folded::NotConstant)?;
+    Ok(Stmt::Declare(number, None))
+}
+
 /// What is known of a variable that begins as an expression.
 pub fn known_as(alloc: Global, scene: &Scene, fixed: bool, e: &Expr) -> Result<Folded, Memory>
     ensures { IfOk result (λ f. f ≡ spec.known_as scene.now fixed e.now) }
@@ -138,13 +156,13 @@ pub fn set_variable(
     name: &Name,
     ty: Ty,
     e: Expr,
-    env: SoundEnv,
-) -> Result<(Stmt, SoundEnv), Refusal>
-    ensures { Gives result (spec.set_variable fixed name.now ty e env) }
+    env: &mut SoundEnv,
+) -> Result<Stmt, Refusal>
+    ensures { GivesBy (λ s. (s, env.new)) result (spec.set_variable fixed name.now ty e env.old) }
 {
     let folded = known_as(alloc, &env.get().scene, fixed, &e)?;
-    let (number, env) = env.with_local(alloc, fixed, &name.text, ty, folded)?;
-    Ok((Stmt::Declare(number, Some(e)), env))
+    let number = env.declare_local(alloc, fixed, &name.text, ty, folded)?;
+    Ok(Stmt::Declare(number, Some(e)))
 }
 
 /// The type of a variable that begins as a value, if it may.
@@ -189,11 +207,50 @@ pub fn begun_variable(
     name: &Name,
     written: &Written,
     x: Part,
-    env: SoundEnv,
-) -> Result<(Stmt, SoundEnv), Refusal>
-    ensures { Gives result (spec.begun_variable fixed name.now written.now x env) }
+    env: &mut SoundEnv,
+) -> Result<Stmt, Refusal>
+    ensures { GivesBy (λ s. (s, env.new)) result (spec.begun_variable fixed name.now written.now x env.old) }
 {
     let ty = may_begin(alloc, env.get(), name, written, &x)?;
     let e = as_type(alloc, &ty, x.expr)?;
     set_variable(alloc, fixed, name, ty, e, env)
+}
+
+/// A variable with its brackets and its initialiser.
+fn initialised(
+    alloc: Global,
+    fixed: bool,
+    base: &Written,
+    name: &Name,
+    dims: &[Dim],
+    init: &Init,
+    env: &mut SoundEnv,
+) -> Result<Stmt, Refusal>
+    ensures { GivesBy (λ s. (s, env.new)) result (spec.declarator_by fixed base.now (declarator_of.Initialised name.now dims.now init.now) env.old) }
+{
+    let ty = declared(alloc, env.get(), base, dims)?;
+    let x = initial(alloc, env.get(), &ty, init)?;
+    begun_variable(alloc, fixed, name, &ty, x, env)
+}
+
+/// One variable: its brackets, its initialiser, and then the variable.
+#[tactic(auto, unfolding(crate::specs::Locals::declarator))]
+pub fn declarator(
+    alloc: Global,
+    fixed: bool,
+    base: &Written,
+    d: &Declarator,
+    env: &mut SoundEnv,
+) -> Result<Stmt, Refusal>
+    ensures { GivesBy (λ s. (s, env.new)) result (spec.declarator fixed base.now d.now env.old) }
+{
+    match d {
+        Declarator::Plain(name, dims) => {
+            let ty = declared_whole(alloc, env.get(), base, dims.as_slice())?;
+            plain_variable(alloc, fixed, name, ty, env)
+        }
+        Declarator::Initialised(name, dims, init) => {
+            initialised(alloc, fixed, base, name, dims.as_slice(), init, env)
+        }
+    }
 }

@@ -23,7 +23,7 @@ use Rattle.gsl_check_expr.specs.declared.env.Env.{Env}
 use Rattle.gsl_check_expr.specs.declared.writing.Written.{Written}
 use Rattle.gsl_check_expr.specs.Expressions.{bracket}
 use Rattle.gsl_check_expr.specs.Written.{written_type, declared, whole_type}
-use Rattle.gsl_check_stmt.specs.Declaring.{is_empty, is_declared, is_reserved, may_be_had, is_high}
+use Rattle.gsl_check_decl.specs.Declaring.{is_empty, is_declared, is_reserved, may_be_had, is_high}
 
 -- ---- members
 

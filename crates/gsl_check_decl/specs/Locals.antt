@@ -30,8 +30,8 @@ use Rattle.gsl_check_expr.specs.Sizes.{is_not_constant, is_left_open}
 use Rattle.gsl_check_expr.specs.Expressions.{bracket, taken_expression}
 use Rattle.gsl_check_expr.specs.Written.{declared, whole_type}
 use Rattle.gsl_check_expr.specs.Initialisers.{initial, begun_type}
-use Rattle.gsl_check_stmt.specs.Steps.{Step}
-use Rattle.gsl_check_stmt.specs.Declaring.{is_declared, is_reserved, may_be_had, is_high}
+use Rattle.gsl_check_decl.specs.Steps.{Step}
+use Rattle.gsl_check_decl.specs.Declaring.{is_declared, is_reserved, may_be_had, is_high}
 
 -- ---- qualifiers: `const` alone, and once
 

@@ -1,6 +1,8 @@
 -- What is asked of whatever is declared: of its name, and of its type.
-use Rattle.std.specs.Prelude.{ℕ, Bool, true, false, not, ◌&&◌, is_some, nat_le, List, [], ◌∷◌, take, length}
+use Rattle.std.specs.Prelude.{ℕ, Bool, true, false, not, ◌&&◌, is_some, nat_le, List, [], ◌∷◌, take, length, map}
 use Rattle.std.specs.Str.{bytes_eq}
+use Rattle.gsl_base.specs.Checked.{Checked, ◌>>=◌}
+use Rattle.gsl_syntax.specs.declared.expr.Dim.{Dim}
 use Rattle.gsl_types.specs.Known.{sound}
 use Rattle.gsl_types.specs.declared.ty.Ty.{Ty}
 use Rattle.gsl_tree.specs.Weights.{height_of, most_high}
@@ -8,6 +10,9 @@ use Rattle.gsl_tree.specs.WellTyped.{is_plain}
 use Rattle.gsl_names.specs.Scopes.{find_here}
 use Rattle.gsl_typing.specs.declared.scene.Scene.{Scene}
 use Rattle.gsl_check_expr.specs.declared.env.Env.{Env}
+use Rattle.gsl_check_expr.specs.declared.writing.Written.{Written}
+use Rattle.gsl_check_expr.specs.Expressions.{bracket}
+use Rattle.gsl_check_expr.specs.Written.{declared, whole_type}
 
 abbrev pub is_empty : {A : Type 0} → List A → Bool
 is_empty [] = true
@@ -32,3 +37,7 @@ may_be_had scene t = is_plain t && sound (length scene.structs) t
 -- a type that is higher than types may be
 unfoldable pub is_high : Scene → Ty → Bool
 is_high scene t = not (nat_le (height_of scene.structs t) most_high)
+
+-- the type of a name that is declared with brackets, which has all of its sizes
+abbrev pub declared_whole : Env → List Dim → Written → Checked Ty
+declared_whole env dims base = declared (map (bracket env) dims) base >>= whole_type

@@ -1,7 +1,7 @@
 use Rattle.std.proofs.Common.{◌≡◌, ◌≤◌, drop, max}
 use Rattle.gsl_types.specs.Structs.{members_meaning}
 use Rattle.gsl_tree.specs.Weights.{height_meaning, highest}
-use Rattle.gsl_check_stmt.proofs.heights.highest.Given as goal
+use Rattle.gsl_check_decl.proofs.heights.highest.Given as goal
 
 abbrev pub invariant-loop-k : goal.invariant-loop-k
 invariant-loop-k l =

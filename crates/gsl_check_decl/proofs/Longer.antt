@@ -1,5 +1,5 @@
 -- Lists of structs with one more, and their heights.
-use Rattle.std.proofs.Common.{◌≡◌, refl, sym, ap, subst, ◌∙◌, ℕ, ◌+◌, ◌<◌, inl, inr, List, [], ◌∷◌, ◌++◌, length, slice_get, slice_index_or, Some, get_or, min, arith, length-append}
+use Rattle.std.proofs.Common.{◌≡◌, refl, sym, ap, subst, ◌∙◌, ℕ, ◌+◌, ◌<◌, inl, inr, List, [], ◌∷◌, ◌++◌, length, slice_get, slice_index_or, Some, get_or, min, take, arith, length-append}
 use Rattle.std.proofs.lemmas.Bool.{cases_lt}
 use Rattle.std.proofs.lemmas.List.{get_or_append_left, get_or_push, get_or_past}
 use Rattle.gsl_types.specs.declared.ty.Ty.TheVariants as ty
@@ -13,7 +13,7 @@ use Rattle.gsl_types.proofs.Structs.{numbered_is, members_agree}
 use Rattle.gsl_types.proofs.Longer.{numbered_push}
 use Rattle.gsl_tree.specs.Weights.{height_of, height_meaning, highest}
 use Rattle.gsl_makers.specs.Heights.{AreHeights}
-use Rattle.gsl_check_stmt.specs.Structs.{struct_of, leaves_together_told, height_over}
+use Rattle.gsl_check_decl.specs.Structs.{struct_of, leaves_together_told, height_over}
 
 -- a table of meanings has one for each struct
 table_length : {A : Type 0} (m : Meaning A) (structs : List StructType) (before : List A) → length (table_from m before structs) ≡ length before + length structs
@@ -88,3 +88,27 @@ pub heights_behind : (structs : List StructType) (s : StructType) (heights : Lis
 heights_behind structs s heights h known count are is k =
     subst (λ n. slice_index_or (heights ++ n ∷ []) k 0 ≡ height_of (structs ++ s ∷ []) (ty.Struct k)) (sym is)
     (longer_heights structs s known (found_last structs s) heights count are k)
+
+-- ---- what is kept of structs and their heights
+
+abbrev pub AreKept : List StructType → List ℕ → Type 0
+AreKept structs heights = AreStructs structs × AreHeights structs heights × (length heights ≡ length structs)
+
+-- behind one more of each
+pub kept_behind : (structs : List StructType) (s : StructType) (heights : List ℕ) (h : ℕ) (more : List StructType) (higher : List ℕ) → AreKept structs heights
+    → AreStructs (structs ++ s ∷ []) → h ≡ height_over structs s.members → more ≡ structs ++ s ∷ [] → higher ≡ heights ++ h ∷ [] → AreKept more higher
+kept_behind structs s heights h more higher kept known is longer_is higher_is =
+    let count : length (heights ++ h ∷ []) ≡ length (structs ++ s ∷ []) = omega (arith, length-append heights (h ∷ []), length-append structs (s ∷ []), kept.2) in
+    subst (λ (m : List StructType). AreKept m higher) (sym longer_is)
+    (subst (λ (l : List ℕ). AreKept (structs ++ s ∷ []) l) (sym higher_is) (known, heights_behind structs s heights h known kept.2 kept.1 is, count))
+
+front_of : {X : Type 0} (xs : List X) (y : X) → take (length xs) (xs ++ y ∷ []) ≡ xs
+front_of [] y = refl
+front_of (x ∷ xs) y = ap (λ l. x ∷ l) (front_of xs y)
+
+-- where one more height is taken back
+pub kept_back : (structs : List StructType) (heights : List ℕ) (h : ℕ) (same : List StructType) (higher back : List ℕ) (count : ℕ) → AreKept structs heights
+    → same ≡ structs → higher ≡ heights ++ h ∷ [] → count ≡ length heights → back ≡ take count higher → AreKept same back
+kept_back structs heights h same higher back count kept same_is higher_is count_is back_is =
+    let back_to : back ≡ heights = back_is ∙ ap (λ l. take count l) higher_is ∙ ap (λ n. take n (heights ++ h ∷ [])) count_is ∙ front_of heights h in
+    subst (λ (m : List StructType). AreKept m back) (sym same_is) (subst (λ (l : List ℕ). AreKept structs l) (sym back_to) kept)

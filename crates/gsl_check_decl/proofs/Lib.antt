@@ -1,0 +1,5 @@
+pub mod Longer
+pub mod Pushed
+pub mod Turns
+pub mod Gathering
+pub mod Example

@@ -1,0 +1,5 @@
+pub mod Steps
+pub mod Declaring
+pub mod Locals
+pub mod Structs
+pub mod Declarations

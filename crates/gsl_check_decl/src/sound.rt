@@ -1,0 +1,193 @@
+//! What is declared so far, with what is known of it.
+
+ghost use Rattle.std.specs.Prelude.{◌≡◌, ◌<◌, ◌++◌, ◌∷◌, [], length, IfOk, OnOk};
+ghost use Rattle.std.specs.List.{AllByRecursion};
+ghost use Rattle.gsl_types.specs.Known.{AreStructs, IsSound};
+ghost use Rattle.gsl_types.specs.declared.ty.Member.{Member as OneMember};
+ghost use Rattle.gsl_makers.specs.Heights.{AreHeights};
+ghost use Rattle.gsl_names.specs.Scopes.{declare as declare_in};
+ghost use Rattle.gsl_check_decl.specs.Steps as steps;
+ghost use Rattle.gsl_check_decl.specs.Locals as locals;
+ghost use Rattle.gsl_check_decl.specs.Structs as structs;
+
+use gsl_base::{Memory, Text};
+use gsl_check_expr::Env;
+use gsl_names::{Entry, Names};
+use gsl_tree::Folded;
+use gsl_types::{Members, StructType, Structs, Ty, next_struct};
+use std::alloc::Global;
+use std::marker::Model;
+use std::mem::replace;
+
+/// What an expression or a statement is checked in, whose structs are well formed and have their heights beside them. Contracts see
+/// the `Env`.
+#[derive(Drop)]
+pub struct SoundEnv {
+    env: Env,
+}
+
+impl Model for SoundEnv {
+    ghost use Rattle.std.specs.Prelude.{◌≡◌, length};
+    ghost use Rattle.gsl_types.specs.Known.{AreStructs};
+    ghost use Rattle.gsl_makers.specs.Heights.{AreHeights};
+    ghost use Rattle.gsl_check_expr.specs.declared.env.Env.{Env as Seen};
+    ghost use Rattle.gsl_check_expr.specs.contracts.env.Env.{the_row};
+
+    ghost Value = { Seen };
+
+    ghost coded = { the_row.coded };
+
+    ghost view = { λ s. s.env };
+
+    ghost invariant = { λ s. AreStructs s.env.scene.structs × AreHeights s.env.scene.structs s.env.heights × (length s.env.heights ≡ length s.env.scene.structs) };
+}
+
+/// The number of what stands behind so many others. What no word counts has no room.
+fn number_behind(count: usize) -> Result<u32, Memory>
+    ensures { IfOk result (λ number. number ≡ count) }
+{
+    if count > u32::MAX as usize {
+        return Err(Memory);
+    }
+    Ok(count as u32)
+}
+
+impl SoundEnv {
+    /// What is declared, where its structs are well formed and have their heights beside them.
+    pub fn new(env: Env) -> SoundEnv
+        requires known { AreStructs env.scene.structs }
+        requires heights { AreHeights env.scene.structs env.heights }
+        requires count { length env.heights ≡ length env.scene.structs }
+        ensures { result ≡ env }
+    {
+        SoundEnv { env }
+    }
+
+    /// What is declared, to be looked at.
+    pub fn get(&self) -> &Env
+        ensures is { result.now ≡ self.now }
+        ensures known { AreStructs result.now.scene.structs }
+        ensures heights { AreHeights result.now.scene.structs result.now.heights }
+    {
+        &self.env
+    }
+
+    /// What is declared.
+    pub fn into_env(self) -> Env
+        ensures is { result ≡ self }
+        ensures known { AreStructs result.scene.structs }
+        ensures heights { AreHeights result.scene.structs result.heights }
+    {
+        let SoundEnv { env } = self;
+        env
+    }
+
+    /// Opens a scope.
+    pub fn open(&mut self, alloc: Global) -> Result<(), Memory>
+        ensures { OnOk result (self.new ≡ steps.opened self.old) }
+    {
+        let names = replace(&mut self.env.names, Names::new(alloc));
+        self.env.names = names.opened()?;
+        Ok(())
+    }
+
+    /// Ends the innermost scope.
+    pub fn close(&mut self, alloc: Global)
+        ensures { self.new ≡ steps.closed self.old }
+    {
+        let names = replace(&mut self.env.names, Names::new(alloc));
+        self.env.names = ended(names);
+    }
+
+    /// Declares a name in the innermost scope.
+    fn declare(&mut self, alloc: Global, name: &Text, entry: Entry) -> Result<(), Memory>
+        ensures { OnOk result (self.new ≡ record self.old { names = declare_in name.now entry self.old.names }) }
+    {
+        let name = Text::from_str(alloc, name.as_str())?;
+        let names = replace(&mut self.env.names, Names::new(alloc));
+        self.env.names = names.with(alloc, name, entry)?;
+        Ok(())
+    }
+
+    /// Declares a local variable: its name, its type, and what is known of its value. The answer is its number.
+    #[tactic(auto, unfolding(crate::specs::Locals::with_local))]
+    pub fn declare_local(
+        &mut self,
+        alloc: Global,
+        fixed: bool,
+        name: &Text,
+        ty: Ty,
+        folded: Folded,
+    ) -> Result<u32, Memory>
+        ensures { IfOk result (λ number. (number ≡ length self.old.scene.locals) × (self.new ≡ locals.with_local fixed name.now ty folded self.old)) }
+    {
+        let number = number_behind(self.env.scene.locals.len())?;
+        self.env.scene.locals.push(ty)?;
+        self.env.scene.consts.locals.push(folded)?;
+        self.declare(alloc, name, Entry::Local(number, fixed))?;
+        Ok(number)
+    }
+
+    /// Puts a struct behind the others, and its height beside it.
+    fn push_struct(&mut self, next: StructType, height: u32) -> Result<(), Memory>
+        requires known { AreStructs (self.old.scene.structs ++ next ∷ []) }
+        requires height { height ≡ structs.height_over self.old.scene.structs next.members }
+        ensures { OnOk result (self.new ≡ record self.old { scene = record self.old.scene { structs = self.old.scene.structs ++ next ∷ [] }; heights = self.old.heights ++ height ∷ [] }) }
+    {
+        let count = self.env.heights.len();
+        self.env.heights.push(height)?;
+        match self.env.scene.structs.push(next) {
+            Ok(()) => Ok(()),
+            Err(Memory) => {
+                self.env.heights.truncate(count);
+                Err(Memory)
+            }
+        }
+    }
+
+    /// Declares a struct: its name, its members, and how high it is. The answer is its number.
+    #[tactic(auto, unfolding(crate::specs::Structs::with_struct))]
+    pub fn declare_struct(
+        &mut self,
+        alloc: Global,
+        name: &Text,
+        members: Members,
+        height: u32,
+    ) -> Result<u32, Memory>
+        requires some { 0 < length members }
+        requires sound { AllByRecursion (λ (member : OneMember). IsSound (length self.old.scene.structs) member.ty) members }
+        requires height { height ≡ structs.height_over self.old.scene.structs members }
+        ensures { IfOk result (λ number. (number ≡ length self.old.scene.structs) × (self.new ≡ structs.with_struct name.now members self.old)) }
+    {
+        let number = number_behind(self.env.scene.structs.len())?;
+        let text = Text::from_str(alloc, name.as_str())?;
+        let next = struct_behind(&self.env.scene.structs, text, members);
+        self.push_struct(next, height)?;
+        self.declare(alloc, name, Entry::Struct(number))?;
+        Ok(number)
+    }
+}
+
+/// The struct of a name and members that stands next behind some structs.
+#[tactic(auto, using(crate::proofs::Longer::next_is))]
+pub fn struct_behind(all: &Structs, name: Text, members: Members) -> StructType
+    requires known { AreStructs all.now }
+    requires some { 0 < length members }
+    requires sound { AllByRecursion (λ (member : OneMember). IsSound (length all.now) member.ty) members }
+    ensures is { result ≡ structs.struct_of all.now name members }
+    ensures members { result.members ≡ members }
+    ensures known { AreStructs (all.now ++ result ∷ []) }
+{
+    next_struct(all, name, members)
+}
+
+/// Names behind the end of their innermost scope.
+fn ended(names: Names) -> Names
+    ensures { result ≡ steps.ended names }
+{
+    if names.is_nested() {
+        names.closed()
+    } else {
+        names
+    }
+}
