@@ -1,9 +1,9 @@
 -- What the rows of chains say of what ids stand for.
-use Rattle.std.proofs.Common.{◌≡◌, ℕ, zero, suc, ◌+◌, Bool, true, false, cond, List, [], ◌∷◌, ◌++◌, map, get_or, Option, Some, None, refl, ap, ◌∙◌, arith}
+use Rattle.std.proofs.Common.{◌≡◌, ℕ, zero, suc, ◌+◌, Bool, true, false, cond, [], ◌∷◌, get_or, None, refl, ap, ◌∙◌}
 use Rattle.std.specs.Prelude.{◌-◌, ◌==◌, slice_get}
 use Rattle.gsl_words.specs.declared.module.Module.{Module}
 use Rattle.gsl_words.specs.Instructions.{word_count}
-use Rattle.gsl_ids.specs.Table.{numbered, number_from, number_of, read_if}
+use Rattle.gsl_ids.specs.Table.{numbered, number_of, read_if}
 use Rattle.gsl_ids.proofs.Rows.{found}
 use Rattle.gsl_valid.specs.Instruction.{read}
 use Rattle.gsl_valid.specs.Placed.{Code, placed_from}
