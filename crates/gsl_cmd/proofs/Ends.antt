@@ -15,11 +15,7 @@ use Rattle.gsl_plan.specs.Plan.{Plan}
 use Rattle.gsl_cmd.specs.Performs.{Performs, Prints, effect_on}
 use Rattle.gsl_cmd.specs.Command.{Ended, Reported}
 use Rattle.gsl_cmd.specs.Texts.{told_fault, host_text}
-use Rattle.gsl_cmd.proofs.Jobs.{later_rise}
-
-appends_none : (before after : Option (List ℕ)) → after ≡ before → Appends before after []
-appends_none None after same = same
-appends_none (Some shown) after same = same ∙ ap Some (sym (append-nil shown))
+use Rattle.gsl_cmd.proofs.Streams.{appends_none, later_rise}
 
 appends_no_text : (before after : Option (List ℕ)) (text : List ℕ) → text ≡ [] → after ≡ before → Appends before after text
 appends_no_text before after text none same = subst (Appends before after) (sym none) (appends_none before after same)
@@ -70,7 +66,7 @@ module _ (plan : Plan) (file : Name) (before : Files) (after : Option Files) (fi
       kept = e.kept;
       err = λ n4. inl (appends_no_text _ _ e.job.err e.did.1 silent);
       err_memory = λ is. absurd (let no : 0 ≡ 4 = is in cc);
-      out = λ n3 n4. appends_no_text _ _ e.job.out e.out quiet;
+      out = λ n3 n4. appends_no_text _ _ e.job.out (e.out tt) quiet;
       out_part = appends_some _ _ e.job.out quiet;
     },
   )
@@ -102,7 +98,7 @@ module _ (plan : Plan) (file : Name) (before : Files) (after : Option Files) (fi
       kept = e.kept;
       err = λ n4. prints_over first then last _ _ e.job.err up (subst (Prints then last stream.Err (printed stream.Err) (printed' stream.Err)) (sym e.did.1) said);
       err_memory = λ is. absurd (let no : 1 ≡ 4 = is in cc);
-      out = λ n3 n4. appends_no_text _ _ e.job.out e.out quiet;
+      out = λ n3 n4. appends_no_text _ _ e.job.out (e.out tt) quiet;
       out_part = appends_some _ _ e.job.out quiet;
     },
   )
@@ -118,7 +114,7 @@ module _ (plan : Plan) (file : Name) (before : Files) (after : Option Files) (fi
       kept = e.kept;
       err = λ n4. prints_over first then last _ _ e.job.err up (subst (Prints then last stream.Err (printed stream.Err) (printed' stream.Err)) (sym e.did.1) said);
       err_memory = λ is. absurd (let no : 8 ≡ 4 = is in cc);
-      out = λ n3 n4. appends_no_text _ _ e.job.out e.out quiet;
+      out = λ n3 n4. appends_no_text _ _ e.job.out (e.out tt) quiet;
       out_part = appends_some _ _ e.job.out quiet;
     },
   )
