@@ -1,7 +1,7 @@
 -- The job of `check`: that there is one, what its steps have done of it, and what status 0 says.
 use Rattle.std.proofs.Common.{◌≡◌, ℕ, ◌+◌, ◌*◌, ◌^◌, ◌<◌, ◌≤◌, List, [], ◌∷◌, length, Option, Some, None, Result, Ok, Err, refl, ap, sym, subst, ◌∙◌, arith, inl, inr, length-append}
 use Rattle.std.proofs.lemmas.Bool.{lt-ltb, le-ltb, cond-true, cond-false}
-use Rattle.std.specs.Prelude.{IsSomeAnd, Contains, option_map}
+use Rattle.std.specs.Prelude.{IsSomeAnd, Contains, option_map, IfOk, MatchResult}
 use Rattle.std.specs.FinMap.{get}
 use Rattle.std.specs.List.{flat_map}
 use Rattle.gsl_base.specs.Ranges.{AreBytes}
@@ -30,7 +30,7 @@ use Rattle.gsl_cmd.specs.Texts.{host_text, module_long_text, broken_text, valid_
 use Rattle.gsl_cmd.specs.Written.{Written}
 use Rattle.gsl_cmd.specs.Command.{ChecksFile, Ended, JudgesBytes, JudgesModule, ReadsFileTold, Rejects, Shown}
 use Rattle.gsl_cmd.proofs.Converted.{bytes_or, judged_file, one_file, found_whole, four_each}
-use Rattle.gsl_cmd.proofs.Streams.{appends_none, appends_part, later_rise}
+use Rattle.gsl_cmd.proofs.Streams.{appends_none, appends_part, later_rise, prints_over}
 
 -- ---- there is a job, and one
 
@@ -54,6 +54,13 @@ refused_is m rule at e = ap (option_map broken_text) e
 pub refused_none : (m : Module) → broken m ≡ None → refused_module m ≡ None
 unfolding refused_module
 refused_none m e = ap (option_map broken_text) e
+
+-- what is told of a module that breaks a rule
+pub told_judges : {E : Type 0} (m : Module) (rule at : ℕ) (line : Result (List ℕ) E) (end : Stop) → broken m ≡ Some (rule, at)
+    → IfOk line (λ text. text ≡ broken_text (rule, at)) → MatchResult line (λ text. end ≡ stop.Rejected text) (λ _. end ≡ stop.Memory) → JudgesModule m (Err end)
+told_judges m rule at (Ok text) end is same e =
+    subst (λ (s : Stop). JudgesModule m (Err s)) (sym e) (refused_is m rule at is ∙ ap Some (sym same))
+told_judges m rule at (Err x) end is same e = subst (λ (s : Stop). JudgesModule m (Err s)) (sym e) tt
 
 broken_none : (b : Option (ℕ × ℕ)) → option_map broken_text b ≡ None → b ≡ None
 broken_none None e = refl
@@ -163,13 +170,6 @@ module _ (file : Name) (files : Files) (after : Option Files) (first then last :
   abbrev Done : ℕ → Type 0
   Done status = (j : Job) × IsJob (Plan.Check file) files j × Performs j files after first last printed printed' status
 
-  over : (target : Target) → Rose then last target → Rose first last target
-  over target rose = later_rise first then last target up rose
-
-  prints_over : Prints then last stream.Err (printed stream.Err) (printed' stream.Err) host_text → Prints first last stream.Err (printed stream.Err) (printed' stream.Err) host_text
-  prints_over (inl all) = inl all
-  prints_over (inr (rose, part)) = inr (over (Printing stream.Err) rose, part)
-
   all_shown : Appends (printed stream.Out) (printed' stream.Out) valid_text → printed' stream.Err ≡ printed stream.Err → Done 0
   all_shown shown quiet = (
     job,
@@ -193,10 +193,10 @@ module _ (file : Name) (files : Files) (after : Option Files) (first then last :
     told,
     record {
       status_is = λ n3 n4. absurd (n3 refl);
-      cause = λ is. (Printing stream.Out, (1, omega arith, refl), over (Printing stream.Out) rose);
+      cause = λ is. (Printing stream.Out, (1, omega arith, refl), later_rise first then last (Printing stream.Out) up rose);
       files = λ n3 n4. absurd (n3 refl);
       kept = same;
-      err = λ n4. prints_over said;
+      err = λ n4. prints_over first then last _ _ host_text up said;
       err_memory = λ is. absurd (let no : 3 ≡ 4 = is in cc);
       out = λ n3 n4. absurd (n3 refl);
       out_part = part;

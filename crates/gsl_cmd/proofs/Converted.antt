@@ -132,7 +132,7 @@ module _ (file out : Name) (before : Files) (after : Option Files) (job : Job) (
 
 -- ---- a module has fewer instructions than its file has bytes
 
-four_each : (words : List ℕ) → length (flat_map (to_le_bytes w32) words) ≡ 4 * length words
+pub four_each : (words : List ℕ) → length (flat_map (to_le_bytes w32) words) ≡ 4 * length words
 four_each [] = refl
 four_each (w ∷ words) = omega (arith, four_each words)
 
