@@ -1,5 +1,5 @@
 #!/usr/bin/env bash
-# Times the program beside Khronos' compiler, assembler and disassembler, in one run: seconds, peak memory in KiB, and their ratio; then the program's
+# Times the program beside Khronos' compiler, assembler, disassembler and validator, in one run: seconds, peak memory in KiB, and their ratio; then the program's
 # instructions as inputs double. What is not installed is left out. It is no part of the gate.
 set -eu
 top=$(cd "$(dirname "${BASH_SOURCE[0]}")/.." && pwd)
@@ -56,6 +56,25 @@ as_text() {
   cmp "$made/a.txt" "$made/c.txt"
 }
 
+# The file of a module, made from its text: `check`.
+judged() {
+  local theirs="- -"
+  source_of "$2" "$3" >"$made/a.txt"
+  "$program" asm "$made/a.txt" "$made/a.spv"
+  if command -v spirv-val >/dev/null; then theirs=$(measure spirv-val --target-env vulkan1.0 "$made/a.spv"); fi
+  told "check, $1" "$made/a.spv" "$(measure "$program" check "$made/a.spv")" spirv-val "$theirs"
+}
+
+# A module that asks for much: what is answered, and the time and memory of the whole program.
+hostile_module() {
+  local ours answer
+  source_of "$2" "$3" >"$made/a.txt"
+  "$program" asm "$made/a.txt" "$made/a.spv"
+  ours=$(measure "$program" check "$made/a.spv")
+  answer=$("$program" check "$made/a.spv" 2>&1 || true)
+  printf '%-24s %9d bytes   ours %6.2f s %8d KiB   %s\n' "$1" "$(stat -c %s "$made/a.spv")" "${ours% *}" "${ours#* }" "$answer"
+}
+
 # A text that asks for much: what is answered, and the time and memory of the whole program.
 hostile() {
   local ours answer
@@ -93,6 +112,16 @@ hostile "300 nested macro uses" nested 300
 hostile "a condition of 300 (" tests 300
 as_text "1 MiB" 1048576
 as_text "64 MiB" 67108864
+judged "1 function" module 1
+judged "100 functions" module 100
+judged "1,000 functions" module 1000
+hostile_module "1,000,000 heights" heights 1000000
+hostile_module "600,000 selections" nests 600000
+hostile_module "1,000,000 blocks" blocks 1000000
+hostile_module "800,000 calls" chain 800000
+hostile_module "30,000 pairs" pairs 30000
+hostile_module "65,000 members" members 65000
+hostile_module "60,000 offsets" marks 60000
 if command -v valgrind >/dev/null; then
   doubling "tokens" tokens 100000
   doubling "macros defined" directives 2000

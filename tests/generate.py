@@ -14,6 +14,14 @@ generate.py elses N         N ifs, each in the else of the one before it
 generate.py nested N        N uses of a function macro, each in the one before it
 generate.py tests N         a condition that begins with N parentheses
 generate.py assembly BYTES  the text of a module, of sums one behind the other, about so many bytes
+generate.py module N        the text of a module of N functions that main calls: straight ones, ones with an if, and ones with a loop
+generate.py heights N       the text of a module with N types, each an array of the one before it
+generate.py nests N         the text of a module with N selections, each in an arm of the one before it
+generate.py blocks N        the text of a module with one function of N blocks
+generate.py chain N         the text of a module with N functions, each of which calls the next one
+generate.py pairs N         the text of a module with a Switch of N pairs
+generate.py members N       the text of a module with a struct of N members
+generate.py marks N         the text of a module with N decorated members in a buffer
 """
 import sys
 
@@ -68,6 +76,132 @@ def assembly(size):
     yield "OpReturn\nOpFunctionEnd\n"
 
 
+def head(bound):
+    yield f"spirv 1.0 {bound}\nOpCapability Shader\nOpMemoryModel Logical GLSL450\n"
+    yield "OpEntryPoint GLCompute %1 \"main\"\nOpExecutionMode %1 LocalSize 1 1 1\n"
+
+
+PLAIN = "%2 = OpTypeVoid\n%3 = OpTypeFunction %2\n%5 = OpTypeInt 32 0\n%6 = OpConstant %5 7\n%7 = OpTypeBool\n%8 = OpConstantTrue %7\n"
+MAIN = "%1 = OpFunction %2 0 %3\n%4 = OpLabel\nOpReturn\nOpFunctionEnd\n"
+
+
+# straight code, an if, and a loop, each over the parameter p, with ids from i on
+STRAIGHT = """%{i} = OpLabel
+%{a} = OpIMul %5 %{p} %6
+%{b} = OpIAdd %5 %{a} %6
+OpReturnValue %{b}
+"""
+BRANCHING = """%{i} = OpLabel
+%{a} = OpIEqual %7 %{p} %6
+OpSelectionMerge %{b} 0
+OpBranchConditional %{a} %{c} %{b}
+%{c} = OpLabel
+OpReturnValue %6
+%{b} = OpLabel
+%{d} = OpIMul %5 %{p} %6
+OpReturnValue %{d}
+"""
+LOOPING = """%{i} = OpLabel
+%{a} = OpVariable %9 Function %6
+OpBranch %{b}
+%{b} = OpLabel
+OpLoopMerge %{c} %{d} 0
+OpBranch %{e}
+%{e} = OpLabel
+%{f} = OpLoad %5 %{a}
+%{g} = OpIEqual %7 %{f} %{p}
+OpSelectionMerge %{h} 0
+OpBranchConditional %{g} %{c} %{h}
+%{h} = OpLabel
+OpBranch %{d}
+%{d} = OpLabel
+%{j} = OpLoad %5 %{a}
+%{k} = OpIAdd %5 %{j} %6
+OpStore %{a} %{k}
+OpBranch %{b}
+%{c} = OpLabel
+OpReturnValue %6
+"""
+
+
+def module(count):
+    yield from head(40 * count + 40)
+    yield "OpDecorate %20 BufferBlock\nOpMemberDecorate %20 0 Offset 0\nOpDecorate %23 DescriptorSet 0\nOpDecorate %23 Binding 0\n"
+    yield PLAIN + "%9 = OpTypePointer Function %5\n%10 = OpTypeFunction %5 %5\n%20 = OpTypeStruct %5\n%21 = OpTypePointer Uniform %20\n"
+    yield "%22 = OpTypePointer Uniform %5\n%23 = OpVariable %21 Uniform\n%24 = OpConstant %5 0\n"
+    for n in range(count):
+        first = 40 * (n + 1)
+        names = dict(zip("ipabcdefghjk", range(first + 1, first + 13)))
+        yield f"%{first} = OpFunction %5 0 %10\n%{names['p']} = OpFunctionParameter %5\n"
+        yield (STRAIGHT, BRANCHING, LOOPING)[n % 3].format(**names) + "OpFunctionEnd\n"
+    yield "%1 = OpFunction %2 0 %3\n%4 = OpLabel\n"
+    for n in range(count):
+        first = 40 * (n + 1)
+        yield f"%{first + 20} = OpAccessChain %22 %23 %24\n%{first + 21} = OpLoad %5 %{first + 20}\n"
+        yield f"%{first + 22} = OpFunctionCall %5 %{first} %{first + 21}\nOpStore %{first + 20} %{first + 22}\n"
+    yield "OpReturn\nOpFunctionEnd\n"
+
+
+def heights(count):
+    yield from head(count + 20)
+    yield PLAIN
+    for n in range(count):
+        yield f"%{n + 20} = OpTypeArray %{n + 19 if n else 5} %6\n"
+    yield MAIN
+
+
+def nests(count):
+    yield from head(2 * count + 20)
+    yield PLAIN + "%1 = OpFunction %2 0 %3\n%4 = OpLabel\n"
+    for n in range(count):
+        yield f"OpSelectionMerge %{2 * n + 21} 0\nOpBranchConditional %8 %{2 * n + 20} %{2 * n + 21}\n%{2 * n + 20} = OpLabel\n"
+    if count:
+        yield f"OpBranch %{2 * count + 19}\n"
+    for n in reversed(range(count)):
+        yield f"%{2 * n + 21} = OpLabel\n" + (f"OpBranch %{2 * n + 19}\n" if n else "")
+    yield "OpReturn\nOpFunctionEnd\n"
+
+
+def blocks(count):
+    yield from head(count + 20)
+    yield PLAIN + "%1 = OpFunction %2 0 %3\n%4 = OpLabel\n"
+    for n in range(count):
+        yield f"OpBranch %{n + 20}\n%{n + 20} = OpLabel\n"
+    yield "OpReturn\nOpFunctionEnd\n"
+
+
+def chain(count):
+    yield from head(3 * count + 20)
+    yield PLAIN + MAIN
+    for n in range(count):
+        first = 3 * n + 20
+        yield f"%{first} = OpFunction %2 0 %3\n%{first + 1} = OpLabel\n"
+        if n + 1 < count:
+            yield f"%{first + 2} = OpFunctionCall %2 %{first + 3}\n"
+        yield "OpReturn\nOpFunctionEnd\n"
+
+
+def pairs(count):
+    yield from head(20)
+    yield PLAIN + "%1 = OpFunction %2 0 %3\n%4 = OpLabel\nOpSelectionMerge %11 0\nOpSwitch %6 %10"
+    for n in range(count):
+        yield f" {n} %10"
+    yield "\n%10 = OpLabel\nOpBranch %11\n%11 = OpLabel\nOpReturn\nOpFunctionEnd\n"
+
+
+def members(count):
+    yield from head(20)
+    yield PLAIN + "%9 = OpTypeStruct" + " %5" * count + "\n" + MAIN
+
+
+def marks(count):
+    yield from head(20)
+    yield "OpDecorate %9 BufferBlock\nOpDecorate %11 DescriptorSet 0\nOpDecorate %11 Binding 0\n"
+    for n in range(count):
+        yield f"OpMemberDecorate %9 {n} Offset {4 * n}\n"
+    yield PLAIN + "%9 = OpTypeStruct" + " %5" * count + "\n%10 = OpTypePointer Uniform %9\n%11 = OpVariable %10 Uniform\n" + MAIN
+
+
 def shader(statements):
     yield "#version 450\nlayout(local_size_x = 1) in;\n\nlayout(set = 0, binding = 0, std430) buffer B { int a; };\n"
     yield f"void main() {{ {statements} }}\n"
@@ -102,7 +236,8 @@ def conditions(count):
         yield "#endif\n"
 
 
-KINDS = {f.__name__: f for f in (functions, tokens, macros, uses, directives, conditions, parens, choices, elses, nested, tests, assembly)}
+KINDS = {f.__name__: f for f in (functions, tokens, macros, uses, directives, conditions, parens, choices, elses, nested, tests, assembly, module, heights, nests,
+          blocks, chain, pairs, members, marks)}
 
 if len(sys.argv) != 3 or sys.argv[1] not in KINDS or not sys.argv[2].isdigit():
     sys.exit(__doc__)

@@ -38,18 +38,12 @@ module _ (conversion : Conversion) (file out : Name) (files : Files) (after : Op
   its : (job : Job) (found : Found) → found_in (get files file) ≡ found → IsIts job found → IsJob (plan_for conversion file out) files job
   its job found e is = as_job conversion file out files job (subst (IsIts job) (sym e) is)
 
-  -- the job reaches for its file, and prints nothing
+  -- the job reaches for its file
   reads_in : (job : Job) (found : Found) → IsIts job found → Contains job.targets (Reading file)
   reads_in job Missing is = subst (λ (j : Job). Contains j.targets (Reading file)) (sym is) (0, omega arith, refl)
   reads_in job Longer is = subst (λ (j : Job). Contains j.targets (Reading file)) (sym is) (0, omega arith, refl)
   reads_in job (Whole bytes) (Ok text, made, is) = subst (λ (j : Job). Contains j.targets (Reading file)) (sym is) (0, omega arith, refl)
   reads_in job (Whole bytes) (Err text, made, is) = subst (λ (j : Job). Contains j.targets (Reading file)) (sym is) (0, omega arith, refl)
-
-  no_out : (job : Job) (found : Found) → IsIts job found → job.out ≡ []
-  no_out job Missing is = ap (λ (j : Job). j.out) is
-  no_out job Longer is = ap (λ (j : Job). j.out) is
-  no_out job (Whole bytes) (Ok text, made, is) = ap (λ (j : Job). j.out) is
-  no_out job (Whole bytes) (Err text, made, is) = ap (λ (j : Job). j.out) is
 
   some_its : (job : Job) × IsIts job (found_in (get files file))
   some_its = conversion_job conversion file out (found_in (get files file))
@@ -58,10 +52,10 @@ module _ (conversion : Conversion) (file out : Name) (files : Files) (after : Op
   pub ended_memory : after ≡ Some files → Came (Err stop.Memory)
   ended_memory same =
       let j = some_its in
-      record { job = j.0; is_job = as_job conversion file out files j.0 j.1; out = no_out j.0 _ j.1; did = tt; kept = keeps_same j.0.effect files after same }
+      record { job = j.0; is_job = as_job conversion file out files j.0 j.1; out = λ none. absurd none; did = tt; kept = keeps_same j.0.effect files after same }
 
   ended_reject : (text : List ℕ) (found : Found) → found_in (get files file) ≡ found → IsIts (rejected text file) found → after ≡ Some files → Came (Err (stop.Rejected text))
-  ended_reject text found e is same = record { job = rejected text file; is_job = its (rejected text file) found e is; out = refl; did = (refl, refl, refl, same); kept = same }
+  ended_reject text found e is same = record { job = rejected text file; is_job = its (rejected text file) found e is; out = λ told. refl; did = (refl, refl, refl, same); kept = same }
 
   long : (bytes : List ℕ) → get files file ≡ Some bytes → MAX_MODULE_BYTES < length bytes → found_in (get files file) ≡ Longer
   long bytes read more = ap found_in read ∙ cond-true _ _ _ (lt-ltb _ _ more)
@@ -80,7 +74,7 @@ module _ (conversion : Conversion) (file out : Name) (files : Files) (after : Op
       record {
         job = j.0;
         is_job = as_job conversion file out files j.0 j.1;
-        out = no_out j.0 _ j.1;
+        out = λ none. absurd none;
         did = (Reading file, reads_in j.0 _ j.1, rose refl);
         kept = keeps_same j.0.effect files after same;
       }
@@ -97,7 +91,7 @@ module _ (conversion : Conversion) (file out : Name) (files : Files) (after : Op
   wrote : (bytes text : List ℕ) (end : Result (Unit {0}) Stop) → get files file ≡ Some bytes → length bytes ≤ MAX_MODULE_BYTES → Makes conversion file bytes (Ok text) →
       KeepsOthers (Some files) after out → Did file (made_of file out (Ok text)) files after faults faults' end → Came end
   wrote bytes text end read short answer others did =
-      record { job = made_of file out (Ok text); is_job = its (made_of file out (Ok text)) (Whole bytes) (whole bytes read short) (Ok text, answer, refl); out = refl; did = did; kept = others }
+      record { job = made_of file out (Ok text); is_job = its (made_of file out (Ok text)) (Whole bytes) (whole bytes read short) (Ok text, answer, refl); out = λ told. refl; did = did; kept = others }
 
   pub ended_write : (bytes text : List ℕ) (end : Result (Unit {0}) Stop) → get files file ≡ Some bytes → length bytes ≤ MAX_MODULE_BYTES → Gives (Makes conversion file bytes) (Ok text) →
       OnOk end (Sets (Some files) after out text) → KeepsOthers (Some files) after out → (end ≡ Err stop.Host → Rose faults faults' (Writing out)) →
@@ -132,24 +126,7 @@ file_in Assemble file out = (0, omega arith, refl)
 
 -- ---- where nothing was done at all
 
-compile_quiet : (stage : Stage) (out : Name) (names : List Name) (targets : List Target) (gathered : Gathered) (job : Job) → IsCompileJob stage out names targets job gathered → job.out ≡ []
-compile_quiet stage out names targets Absent job is = ap (λ (j : Job). j.out) is
-compile_quiet stage out names targets (TooLong unit) job is = ap (λ (j : Job). j.out) is
-compile_quiet stage out names targets (Sources sources) job (Ok p, right, is) = ap (λ (j : Job). j.out) is
-compile_quiet stage out names targets (Sources sources) job (Err fault, right, is) = ap (λ (j : Job). j.out) is
-
-converts_quiet : (conversion : Conversion) (file out : Name) (job : Job) (found : Found) → IsConversionJob conversion file out job found → job.out ≡ []
-converts_quiet conversion file out job Missing is = ap (λ (j : Job). j.out) is
-converts_quiet conversion file out job Longer is = ap (λ (j : Job). j.out) is
-converts_quiet conversion file out job (Whole bytes) (Ok text, made, is) = ap (λ (j : Job). j.out) is
-converts_quiet conversion file out job (Whole bytes) (Err text, made, is) = ap (λ (j : Job). j.out) is
-
-quiet_job : (plan : Plan) (files : Files) (job : Job) → IsJob plan files job → job.out ≡ []
-quiet_job (Plan.Compile stage out names) files job is = compile_quiet stage out names (reads files names) (gather files 0 names) job is
-quiet_job (Plan.Disassemble file out) files job is = converts_quiet Disassemble file out job (found_in (get files file)) is
-quiet_job (Plan.Assemble file out) files job is = converts_quiet Assemble file out job (found_in (get files file)) is
-
 pub nothing_done : (plan : Plan) (files : Files) (after : Option Files) (faults : Target → ℕ) → after ≡ Some files → Ended plan [] files after faults faults (Err stop.Memory)
 nothing_done plan files after faults same =
     let j = some_job plan files in
-    record { job = j.0; is_job = j.1; out = quiet_job plan files j.0 j.1; did = tt; kept = keeps_same j.0.effect files after same }
+    record { job = j.0; is_job = j.1; out = λ none. absurd none; did = tt; kept = keeps_same j.0.effect files after same }

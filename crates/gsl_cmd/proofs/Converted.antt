@@ -29,7 +29,7 @@ use Rattle.gsl_host.specs.declared.target.Target.TheVariants.{Reading}
 
 -- ---- there is a verdict, and one
 
-bytes_or : (l : List ℕ) → AreBytes l ⊎ (AreBytes l → ⊥)
+pub bytes_or : (l : List ℕ) → AreBytes l ⊎ (AreBytes l → ⊥)
 bytes_or [] = inl tt
 bytes_or (b ∷ l) =
     elim (cases_lt b 256) [
@@ -40,14 +40,14 @@ bytes_or (b ∷ l) =
       ]
     ]
 
-judged_file : (l : List ℕ) → (verdict : Result Module WordFault) × JudgesFile l verdict
+pub judged_file : (l : List ℕ) → (verdict : Result Module WordFault) × JudgesFile l verdict
 judged_file l =
     elim (bytes_or l) [
       | inl fit ↦ let v = bytes.some l fit in (v.0, ((λ again. v.1), (λ never. absurd (never fit))))
       | inr never ↦ (Err NotWhole, ((λ fit. absurd (never fit)), (λ again. refl)))
     ]
 
-one_file : (l : List ℕ) (v w : Result Module WordFault) → JudgesFile l v → JudgesFile l w → v ≡ w
+pub one_file : (l : List ℕ) (v w : Result Module WordFault) → JudgesFile l v → JudgesFile l w → v ≡ w
 one_file l v w jv jw =
     elim (bytes_or l) [
       | inl fit ↦ bytes.one l v w (jv.0 fit) (jw.0 fit)
@@ -87,7 +87,7 @@ one_conversion conversion file out (Whole l) j k (a, ma, js) (b, mb, ks) = js �
 
 -- ---- what is written where the status is 0
 
-found_whole : (read : Option (List ℕ)) (l : List ℕ) → found_in read ≡ Whole l → read ≡ Some l
+pub found_whole : (read : Option (List ℕ)) (l : List ℕ) → found_in read ≡ Whole l → read ≡ Some l
 found_whole None l e = absurd (cc)
 found_whole (Some bytes) l e =
     elim (cases_lt MAX_MODULE_BYTES (length bytes)) [
@@ -132,7 +132,7 @@ module _ (file out : Name) (before : Files) (after : Option Files) (job : Job) (
 
 -- ---- a module has fewer instructions than its file has bytes
 
-four_each : (words : List ℕ) → length (flat_map (to_le_bytes w32) words) ≡ 4 * length words
+pub four_each : (words : List ℕ) → length (flat_map (to_le_bytes w32) words) ≡ 4 * length words
 four_each [] = refl
 four_each (w ∷ words) = omega (arith, four_each words)
 

@@ -15,25 +15,13 @@ use Rattle.gsl_plan.specs.Plan.{Plan}
 use Rattle.gsl_cmd.specs.Performs.{Performs, Prints, effect_on}
 use Rattle.gsl_cmd.specs.Command.{Ended, Reported}
 use Rattle.gsl_cmd.specs.Texts.{told_fault, host_text}
-use Rattle.gsl_cmd.proofs.Jobs.{later_rise}
-
-appends_none : (before after : Option (List ℕ)) → after ≡ before → Appends before after []
-appends_none None after same = same
-appends_none (Some shown) after same = same ∙ ap Some (sym (append-nil shown))
+use Rattle.gsl_cmd.proofs.Streams.{appends_none, earlier_rise, prints_over}
 
 appends_no_text : (before after : Option (List ℕ)) (text : List ℕ) → text ≡ [] → after ≡ before → Appends before after text
 appends_no_text before after text none same = subst (Appends before after) (sym none) (appends_none before after same)
 
 appends_some : (before after : Option (List ℕ)) (text : List ℕ) → after ≡ before → AppendsSome before after text
 appends_some before after text same = (0, appends_none before after same)
-
-earlier_rise : (first then last : Target → ℕ) (target : Target) → Rose first then target → NeverFall then last → Rose first last target
-earlier_rise first then last target rose never = omega (arith, never target)
-
-prints_over : (first then last : Target → ℕ) (before after : Option (List ℕ)) (text : List ℕ) → NeverFall first then →
-    Prints then last stream.Err before after text → Prints first last stream.Err before after text
-prints_over first then last before after text never (inl whole) = inl whole
-prints_over first then last before after text never (inr (rose, part)) = inr (later_rise first then last (Printing stream.Err) never rose, part)
 
 module _ (plan : Plan) (file : Name) (before : Files) (after : Option Files) (first then last : Target → ℕ) (printed printed' : Stream → Option (List ℕ))
     (up : NeverFall first then) (over : NeverFall then last) (quiet : printed' stream.Out ≡ printed stream.Out) where
@@ -70,7 +58,7 @@ module _ (plan : Plan) (file : Name) (before : Files) (after : Option Files) (fi
       kept = e.kept;
       err = λ n4. inl (appends_no_text _ _ e.job.err e.did.1 silent);
       err_memory = λ is. absurd (let no : 0 ≡ 4 = is in cc);
-      out = λ n3 n4. appends_no_text _ _ e.job.out e.out quiet;
+      out = λ n3 n4. appends_no_text _ _ e.job.out (e.out tt) quiet;
       out_part = appends_some _ _ e.job.out quiet;
     },
   )
@@ -102,7 +90,7 @@ module _ (plan : Plan) (file : Name) (before : Files) (after : Option Files) (fi
       kept = e.kept;
       err = λ n4. prints_over first then last _ _ e.job.err up (subst (Prints then last stream.Err (printed stream.Err) (printed' stream.Err)) (sym e.did.1) said);
       err_memory = λ is. absurd (let no : 1 ≡ 4 = is in cc);
-      out = λ n3 n4. appends_no_text _ _ e.job.out e.out quiet;
+      out = λ n3 n4. appends_no_text _ _ e.job.out (e.out tt) quiet;
       out_part = appends_some _ _ e.job.out quiet;
     },
   )
@@ -118,7 +106,7 @@ module _ (plan : Plan) (file : Name) (before : Files) (after : Option Files) (fi
       kept = e.kept;
       err = λ n4. prints_over first then last _ _ e.job.err up (subst (Prints then last stream.Err (printed stream.Err) (printed' stream.Err)) (sym e.did.1) said);
       err_memory = λ is. absurd (let no : 8 ≡ 4 = is in cc);
-      out = λ n3 n4. appends_no_text _ _ e.job.out e.out quiet;
+      out = λ n3 n4. appends_no_text _ _ e.job.out (e.out tt) quiet;
       out_part = appends_some _ _ e.job.out quiet;
     },
   )

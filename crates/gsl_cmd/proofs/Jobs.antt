@@ -27,6 +27,7 @@ use Rattle.gsl_cmd.specs.Performs.{KeepsAllBut}
 use Rattle.gsl_cmd.specs.Command.{Did, Ended, ReadsSourceTold, CompilesSource}
 use Rattle.gsl_cmd.specs.declared.converting.Conversion.TheVariants.{Disassemble, Assemble}
 use Rattle.gsl_cmd.proofs.Converted.{conversion_job}
+use Rattle.gsl_cmd.proofs.CheckJobs.{check_job}
 use Rattle.gsl_cmd.proofs.Verdicts.{first_same}
 
 -- The rules give some verdict.
@@ -73,6 +74,7 @@ pub some_job : (plan : Plan) (files : Files) → (job : Job) × IsJob plan files
 some_job (Plan.Compile stage out names) files = compile_job stage out names (reads files names) (gather files 0 names)
 some_job (Plan.Disassemble file out) files = conversion_job Disassemble file out (found_in (get files file))
 some_job (Plan.Assemble file out) files = conversion_job Assemble file out (found_in (get files file))
+some_job (Plan.Check file) files = check_job file (found_in (get files file))
 
 -- Files that are as before keep all but what any effect writes.
 pub keeps_same : (effect : Effect) (before : Files) (after : Option Files) → after ≡ Some before → KeepsAllBut effect before after
@@ -114,12 +116,6 @@ module _ (stage : Stage) (out file : Name) (files : Files) where
       subst (λ (j : Job). Contains j.targets (Reading file)) (sym is) (contains_front (Reading file) its_reads (Writing out ∷ []) reads_first)
   reads_in_targets (Sources sources) job (Err fault, right, is) = subst (λ (j : Job). Contains j.targets (Reading file)) (sym is) reads_first
 
-  no_out : (gathered : Gathered) (job : Job) → IsIts job gathered → job.out ≡ []
-  no_out Absent job is = ap (λ (j : Job). j.out) is
-  no_out (TooLong unit) job is = ap (λ (j : Job). j.out) is
-  no_out (Sources sources) job (Ok p, right, is) = ap (λ (j : Job). j.out) is
-  no_out (Sources sources) job (Err fault, right, is) = ap (λ (j : Job). j.out) is
-
   gathers_one : (source : List ℕ) → get files file ≡ Some source → length source ≤ MAX_SOURCE_BYTES → gather files 0 (file ∷ []) ≡ Sources (source ∷ [])
   gathers_one source read short = ap (λ found. gather_one 0 found (Sources [])) read ∙ cond-false _ _ _ (le-ltb _ _ short)
 
@@ -134,7 +130,7 @@ module _ (stage : Stage) (out file : Name) (files : Files) where
     pub ended_memory : after ≡ Some files → Came (Err stop.Memory)
     ended_memory same =
         let job = some_job plan files in
-        record { job = job.0; is_job = job.1; out = no_out _ job.0 job.1; did = tt; kept = keeps_same job.0.effect files after same }
+        record { job = job.0; is_job = job.1; out = λ none. absurd none; did = tt; kept = keeps_same job.0.effect files after same }
 
     long_ended : (fault : Fault) (source : List ℕ) → get files file ≡ Some source → MAX_SOURCE_BYTES < length source → fault ≡ fault_in 0 E0900 → after ≡ Some files → Came (Err (stop.Fault fault))
     long_ended fault source read long is same =
@@ -142,7 +138,7 @@ module _ (stage : Stage) (out file : Name) (files : Files) where
         record {
           job = job;
           is_job = subst (IsIts job) (sym (gathers_none source read long)) refl;
-          out = refl;
+          out = λ told. refl;
           did = (refl, ap (told_fault file) (sym is), refl, same);
           kept = same;
         }
@@ -155,7 +151,7 @@ module _ (stage : Stage) (out file : Name) (files : Files) where
         record {
           job = job.0;
           is_job = job.1;
-          out = no_out _ job.0 job.1;
+          out = λ none. absurd none;
           did = (Reading file, reads_in_targets _ job.0 job.1, rose refl);
           kept = keeps_same job.0.effect files after same;
         }
@@ -174,7 +170,7 @@ module _ (stage : Stage) (out file : Name) (files : Files) where
         record {
           job = job;
           is_job = subst (IsIts job) (sym (gathers_one source read short)) (Err fault, answer, refl);
-          out = refl;
+          out = λ told. refl;
           did = (refl, refl, refl, same);
           kept = same;
         }
@@ -184,7 +180,7 @@ module _ (stage : Stage) (out file : Name) (files : Files) where
         Did file (compiled out (file ∷ []) its_reads (Ok p)) files after faults faults' end → Came end
     wrote source bytes p end read short accepts others did =
         let job = compiled out (file ∷ []) its_reads (Ok p) in
-        record { job = job; is_job = subst (IsIts job) (sym (gathers_one source read short)) (Ok p, accepts, refl); out = refl; did = did; kept = others }
+        record { job = job; is_job = subst (IsIts job) (sym (gathers_one source read short)) (Ok p, accepts, refl); out = λ told. refl; did = did; kept = others }
 
     pub ended_write : (source bytes : List ℕ) (end : Result (Unit {0}) Stop) → get files file ≡ Some source → length source ≤ MAX_SOURCE_BYTES → CompilesSource stage source (Ok bytes) →
         OnOk end (Sets (Some files) after out bytes) → KeepsOthers (Some files) after out → (end ≡ Err stop.Host → Rose faults faults' (Writing out)) →
@@ -197,7 +193,3 @@ module _ (stage : Stage) (out file : Name) (files : Files) where
         wrote source bytes p (Err stop.Memory) read short accepts others tt
     ended_write source bytes (Err (stop.Fault fault)) read short (p, accepts, is, carries, small, portable) sets others rose sound quiet = absurd (sound fault refl)
     ended_write source bytes (Err (stop.Rejected text)) read short (p, accepts, is, carries, small, portable) sets others rose sound quiet = absurd (quiet text refl)
-
--- what rises later has risen over all
-pub later_rise : (first then last : Target → ℕ) (target : Target) → NeverFall first then → Rose then last target → Rose first last target
-later_rise first then last target never rose = omega (arith, never target)

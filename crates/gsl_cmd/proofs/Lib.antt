@@ -2,6 +2,8 @@ pub mod Constants
 pub mod Encodable
 pub mod Verdicts
 pub mod Converted
+pub mod Streams
+pub mod CheckJobs
 pub mod Jobs
 pub mod Conversions
 pub mod Ends

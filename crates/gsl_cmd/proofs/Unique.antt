@@ -15,6 +15,7 @@ use Rattle.gsl_plan.specs.Plan.{Plan}
 use Rattle.gsl_cmd.specs.Verdict.{Tree, AreOfForm, Accepts, FirstFault, FaultWhere, Judges, trees_of}
 use Rattle.gsl_cmd.specs.declared.converting.Conversion.TheVariants.{Disassemble, Assemble}
 use Rattle.gsl_cmd.proofs.Converted.{one_conversion}
+use Rattle.gsl_cmd.proofs.CheckJobs.{one_check}
 use Rattle.gsl_cmd.proofs.Verdicts.{first_same}
 
 one_formed : (stage : Stage) (trees : List Tree) (p q : Program) → AreOfForm stage trees p → AreOfForm stage trees q → p ≡ q
@@ -54,3 +55,4 @@ one_job_of (Plan.Compile stage out names) files j k js ks =
     one_compile_job stage out names (reads files names) (gather files 0 names) j k js ks
 one_job_of (Plan.Disassemble file out) files j k js ks = one_conversion Disassemble file out (found_in (get files file)) j k js ks
 one_job_of (Plan.Assemble file out) files j k js ks = one_conversion Assemble file out (found_in (get files file)) j k js ks
+one_job_of (Plan.Check file) files j k js ks = one_check file (found_in (get files file)) j k js ks

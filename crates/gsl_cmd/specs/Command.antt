@@ -2,11 +2,13 @@
 use Rattle.std.specs.Prelude.{◌≡◌, ◌≢◌, ◌<◌, ◌≤◌, length, IsSomeAnd, ℕ, List, [], ◌∷◌, Option, Some, None, Result, Ok, Err, Contains, ◌⊎◌}
 use Rattle.gsl_host.specs.declared.target.Stream.TheVariants as stream
 use Rattle.gsl_host.specs.declared.target.Target.{Target}
-use Rattle.gsl_host.specs.Outside.{Files, AppendsSome, Rose}
+use Rattle.gsl_host.specs.declared.target.Target.TheVariants.{Printing}
+use Rattle.gsl_host.specs.Outside.{Files, Appends, AppendsSome, Rose}
 use Rattle.gsl_cmd.specs.declared.stop.Stop.{Stop}
 use Rattle.gsl_cmd.specs.declared.stop.Stop.TheVariants as stop
 use Rattle.gsl_form.specs.Form.{Name}
-use Rattle.gsl_cmd.specs.Job.{Job, IsJob, Effect}
+use Rattle.gsl_cmd.specs.Checking.{Checks, refused_module}
+use Rattle.gsl_cmd.specs.Job.{Job, IsJob, Effect, IsCheckJob, checked_of, rejected, found_in}
 use Rattle.gsl_cmd.specs.Performs.{effect_on, KeepsAllBut, Prints}
 use Rattle.gsl_plan.specs.Plan.{Plan}
 use Rattle.gsl_cmd.specs.Texts.{told_fault, host_text, word_text}
@@ -14,6 +16,7 @@ use Rattle.gsl_cmd.specs.declared.converting.Conversion.{Conversion}
 use Rattle.gsl_cmd.specs.declared.converting.TheConstants.{MAX_MODULE_BYTES}
 use Rattle.gsl_cmd.specs.Converting.{Made, too_long}
 use Rattle.gsl_words.specs.declared.fault.WordFault.{WordFault}
+use Rattle.gsl_words.specs.declared.module.Module.{Module}
 use Rattle.gsl_words.specs.declared.fault.WordFault.TheVariants.{Memory}
 use Rattle.gsl_cmd.specs.declared.compiling.TheConstants.{MAX_SOURCE_BYTES}
 use Rattle.gsl_cmd.specs.Verdict.{fault_in, Compiles, FirstFault}
@@ -30,11 +33,19 @@ Did file job before after faults faults' (Err (stop.Rejected text)) = (job.statu
 Did file job before after faults faults' (Err stop.Host) = (target : Target) × Contains job.targets target × Rose faults faults' target
 Did file job before after faults faults' (Err stop.Memory) = Unit {0}
 
+-- What is printed on standard output is known behind this end.
+abbrev pub IsTold : Result (Unit {0}) Stop → Type 0
+IsTold (Ok done) = Unit {0}
+IsTold (Err (stop.Fault fault)) = Unit {0}
+IsTold (Err (stop.Rejected text)) = Unit {0}
+IsTold (Err stop.Host) = ⊥
+IsTold (Err stop.Memory) = ⊥
+
 -- A command of the plan has come to this end, and there is a job of which it has done so much.
 pub record Ended (plan : Plan) (file : Name) (before : Files) (after : Option Files) (faults faults' : Target → ℕ) (end : Result (Unit {0}) Stop) : Type 0 where
   pub job : Job
   pub is_job : IsJob plan before job
-  pub out : job.out ≡ []
+  pub out : IsTold end → job.out ≡ []
   pub did : Did file job before after faults faults' end
   pub kept : KeepsAllBut job.effect before after
 
@@ -42,6 +53,13 @@ pub record Ended (plan : Plan) (file : Name) (before : Files) (after : Option Fi
 abbrev pub Said : (Target → ℕ) → (Target → ℕ) → Option (List ℕ) → Option (List ℕ) → List ℕ → ℕ → ℕ → Type 0
 Said faults faults' before after text status result =
     ((result ≡ status) × Prints faults faults' stream.Err before after text) ⊎ ((result ≡ 4) × AppendsSome before after text)
+
+-- A text was printed on standard output, and the status is 0; or printing it failed, or memory was wanting.
+abbrev pub Shown : (Target → ℕ) → (Target → ℕ) → Option (List ℕ) → Option (List ℕ) → Option (List ℕ) → Option (List ℕ) → List ℕ → ℕ → Type 0
+Shown faults faults' out out' err err' text status =
+    ((status ≡ 0) × Appends out out' text × (err' ≡ err))
+    ⊎ (((status ≡ 3) × Rose faults faults' (Printing stream.Out) × AppendsSome out out' text × Prints faults faults' stream.Err err err' host_text)
+    ⊎ ((status ≡ 4) × AppendsSome out out' text × AppendsSome err err' host_text))
 
 -- Why a command stopped was printed, with the status that belongs to it.
 abbrev pub Reported : Name → Stop → (Target → ℕ) → (Target → ℕ) → Option (List ℕ) → Option (List ℕ) → ℕ → Type 0
@@ -104,3 +122,26 @@ Tells line (stop.Rejected text) = text ≡ line
 Tells line stop.Memory = Unit {0}
 Tells line (stop.Fault fault) = ⊥
 Tells line stop.Host = ⊥
+
+-- What judging a module comes to.
+abbrev pub JudgesModule : Module → Result (Unit {0}) Stop → Type 0
+JudgesModule m (Ok done) = refused_module m ≡ None
+JudgesModule m (Err (stop.Rejected text)) = refused_module m ≡ Some text
+JudgesModule m (Err stop.Memory) = Unit {0}
+JudgesModule m (Err (stop.Fault fault)) = ⊥
+JudgesModule m (Err stop.Host) = ⊥
+
+-- What judging the bytes of a module's file comes to.
+abbrev pub JudgesBytes : List ℕ → Result (Unit {0}) Stop → Type 0
+JudgesBytes bytes (Ok done) = Checks bytes None
+JudgesBytes bytes (Err (stop.Rejected text)) = Checks bytes (Some text)
+JudgesBytes bytes (Err stop.Memory) = Unit {0}
+JudgesBytes bytes (Err (stop.Fault fault)) = ⊥
+JudgesBytes bytes (Err stop.Host) = ⊥
+
+-- What `check` comes to before anything is printed, where the files are told.
+abbrev pub ChecksFile : Files → Name → Result (Unit {0}) Stop → Type 0
+ChecksFile files file (Ok done) = IsCheckJob file (checked_of file None) (found_in (get files file))
+ChecksFile files file (Err (stop.Rejected text)) = IsCheckJob file (rejected text file) (found_in (get files file))
+ChecksFile files file (Err (stop.Fault fault)) = ⊥
+ChecksFile files file (Err _) = Unit {0}

@@ -7,7 +7,8 @@ use Rattle.gsl_base.specs.declared.fault.Code.TheVariants.{E0900}
 use Rattle.gsl_base.specs.declared.fault.Fault.{Fault}
 use Rattle.gsl_base.specs.Checked.{Checked}
 use Rattle.gsl_host.specs.declared.target.Target.{Target}
-use Rattle.gsl_host.specs.declared.target.Target.TheVariants.{Reading, Writing}
+use Rattle.gsl_host.specs.declared.target.Stream.TheVariants as stream
+use Rattle.gsl_host.specs.declared.target.Target.TheVariants.{Reading, Writing, Printing}
 use Rattle.gsl_host.specs.Outside.{Files}
 use Rattle.gsl_words.specs.Bytes.{bytes_of}
 use Rattle.gsl_cmd.specs.declared.compiling.TheConstants.{MAX_SOURCE_BYTES}
@@ -19,7 +20,8 @@ use Rattle.gsl_cmd.specs.declared.converting.Conversion.{Conversion}
 use Rattle.gsl_cmd.specs.declared.converting.Conversion.TheVariants.{Disassemble, Assemble}
 use Rattle.gsl_cmd.specs.declared.converting.TheConstants.{MAX_MODULE_BYTES}
 use Rattle.gsl_cmd.specs.Converting.{Made, Makes, too_long}
-use Rattle.gsl_cmd.specs.Texts.{fault_text, host_text}
+use Rattle.gsl_cmd.specs.Checking.{Checks}
+use Rattle.gsl_cmd.specs.Texts.{fault_text, host_text, module_long_text, valid_text}
 use Rattle.gsl_cmd.specs.Verdict.{Judges, fault_in}
 
 -- What becomes of the files.
@@ -109,8 +111,19 @@ IsConversionJob conversion file out job Missing = job ≡ failed (Reading file �
 IsConversionJob conversion file out job Longer = job ≡ rejected (too_long conversion file) file
 IsConversionJob conversion file out job (Whole bytes) = (made : Made) × Makes conversion file bytes made × (job ≡ made_of file out made)
 
+-- the job where this is told of a module
+abbrev pub checked_of : Name → Option (List ℕ) → Job
+checked_of file None = record { status = 0; out = valid_text; err = []; effect = Keeps; targets = Reading file ∷ Printing stream.Out ∷ [] }
+checked_of file (Some text) = rejected text file
+
+abbrev pub IsCheckJob : Name → Job → Found → Type 0
+IsCheckJob file job Missing = job ≡ failed (Reading file ∷ [])
+IsCheckJob file job Longer = job ≡ rejected module_long_text file
+IsCheckJob file job (Whole bytes) = (refusal : Option (List ℕ)) × Checks bytes refusal × (job ≡ checked_of file refusal)
+
 -- The job of a command over the files that are told.
 abbrev pub IsJob : Plan → Files → Job → Type 0
 IsJob (Plan.Compile stage out names) files job = IsCompileJob stage out names (reads files names) job (gather files 0 names)
 IsJob (Plan.Disassemble file out) files job = IsConversionJob Disassemble file out job (found_in (get files file))
 IsJob (Plan.Assemble file out) files job = IsConversionJob Assemble file out job (found_in (get files file))
+IsJob (Plan.Check file) files job = IsCheckJob file job (found_in (get files file))

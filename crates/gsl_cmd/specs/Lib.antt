@@ -5,6 +5,7 @@ pub mod Targets
 pub mod Converting
 pub mod Job
 pub mod Performs
+pub mod Checking
 pub mod Command
 pub mod Layout
 pub mod Places

@@ -42,6 +42,14 @@ word_text (BadCount at) = codes "MODULE: BadCount " ++ decimal at ++ codes "\n"
 word_text (BadString at) = codes "MODULE: BadString " ++ decimal at ++ codes "\n"
 word_text Memory = []
 
+-- what is printed of a valid module
+abbrev pub valid_text : List ℕ
+valid_text = codes "valid\n"
+
+-- the line that tells which rule a module breaks, and at which word
+abbrev pub broken_text : ℕ × ℕ → List ℕ
+broken_text (rule, at) = codes "MODULE: V" ++ decimal rule ++ codes " " ++ decimal at ++ codes "\n"
+
 -- the line that tells which line of a text is wrong
 abbrev pub line_text : Name → ℕ → List ℕ
 line_text file line = file ++ codes ": line " ++ decimal line ++ codes "\n"

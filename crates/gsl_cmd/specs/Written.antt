@@ -14,10 +14,11 @@ use Rattle.gsl_plan.specs.Plan.{Plan}
 use Rattle.gsl_cmd.specs.Verdict.{Accepts}
 use Rattle.gsl_cmd.specs.Weight.{IsSmall}
 use Rattle.gsl_valid.specs.Portable.{Portable}
+use Rattle.gsl_valid.specs.Valid.{Valid}
 
 -- For `compile`: the sources that the plan names give a program, and OUT is now the file of a module that carries it, is
 -- small for it and is one that other consumers take. For `dis`: OUT is now the text that shows the module of FILE; for `asm`: the file of the module that FILE is a text of.
--- All other files are as before.
+-- For `check`: FILE is that of a valid module. All other files are as before.
 abbrev pub Written : Plan → Files → Option Files → Type 0
 Written (Plan.Compile stage out names) before after =
     (sources : List (List ℕ)) × (p : Program) × (m : Module) × (gather before 0 names ≡ Sources sources) × Accepts stage sources p
@@ -26,3 +27,5 @@ Written (Plan.Disassemble file out) before after =
     (bytes : List ℕ) × (m : Module) × (get before file ≡ Some bytes) × HasFile m × (bytes ≡ bytes_of m) × (after ≡ Some (insert before out (shown m)))
 Written (Plan.Assemble file out) before after =
     (text : List ℕ) × (m : Module) × (get before file ≡ Some text) × IsTextOf text m × (after ≡ Some (insert before out (bytes_of m)))
+Written (Plan.Check file) before after =
+    (bytes : List ℕ) × (m : Module) × (get before file ≡ Some bytes) × Valid m × (bytes ≡ bytes_of m) × (after ≡ Some before)

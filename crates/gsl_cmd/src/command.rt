@@ -9,12 +9,13 @@ ghost use Rattle.gsl_host.specs.declared.target.Target.{Target};
 ghost use Rattle.gsl_host.specs.Outside.{Files, NeverFall, Rose, Sets, KeepsOthers};
 ghost use Rattle.gsl_cmd.specs.Job.{Job, IsJob};
 ghost use Rattle.gsl_plan.specs.Plan.{Plan, plan_of};
-ghost use Rattle.gsl_cmd.specs.Command.{Ended, Said, Reported, ReadsSource, ReadsFile, CompilesSource};
+ghost use Rattle.gsl_cmd.specs.Command.{ChecksFile, Ended, Said, Shown, Reported, ReadsSource, ReadsFile, CompilesSource};
 ghost use Rattle.gsl_cmd.specs.Converting.{plan_for};
 ghost use Rattle.gsl_cmd.specs.Targets.{targets_of};
 ghost use Rattle.gsl_cmd.specs.Performs.{Performs};
 ghost use Rattle.gsl_cmd.specs.Written.{Written};
 
+use crate::checking::{VALID_TEXT, judged};
 use crate::compiling::{MAX_SOURCE_BYTES, compile, fault_in};
 use crate::converting::{Conversion, MAX_MODULE_BYTES, made, too_long};
 use crate::stop::Stop;
@@ -209,6 +210,47 @@ fn convert_command<H: Host>(
     }
 }
 
+/// Judges the module of a file.
+fn check_file<H: Host>(alloc: Global, file: &Text, host: &mut H) -> Result<(), Stop>
+    ensures told { (files : Files) → H.files host.old ≡ Some files → ChecksFile files file.now result }
+    ensures failed { result ≡ Err Stop.Host → Rose (H.faults host.old) (H.faults host.new) (Target.Reading file.now) }
+    ensures faults { NeverFall (H.faults host.old) (H.faults host.new) }
+    ensures files { H.files host.new ≡ H.files host.old }
+    ensures streams { (stream : Stream) → H.printed host.new stream ≡ H.printed host.old stream }
+{
+    let bytes = read_module(alloc, Conversion::Disassemble, file, host)?;
+    judged(alloc, bytes.as_slice())
+}
+
+/// Prints a text on standard output, and gives the status.
+fn show_text<H: Host>(alloc: Global, text: &[u8], host: &mut H) -> u8
+    ensures shown { Shown (H.faults host.old) (H.faults host.new) (H.printed host.old Stream.Out) (H.printed host.new Stream.Out)
+        (H.printed host.old Stream.Err) (H.printed host.new Stream.Err) text.now result }
+    ensures files { H.files host.new ≡ H.files host.old }
+    ensures faults { NeverFall (H.faults host.old) (H.faults host.new) }
+    ensures cause { result ≡ 3 → Rose (H.faults host.old) (H.faults host.new) (Target.Printing Stream.Out) }
+    ensures planned { result ≢ 2 }
+{
+    match host.print(alloc, Stream::Out, text) {
+        Ok(()) => 0,
+        Err(HostRefusal::Failed) => say(alloc, HOST_TEXT, 3, host),
+        Err(HostRefusal::Memory) => 4,
+    }
+}
+
+/// Judges a module, prints that it is valid or why it is not, and gives the status.
+fn check_command<H: Host>(alloc: Global, file: &Text, host: &mut H) -> u8
+    ensures told { (files : Files) → H.files host.old ≡ Some files → (job : Job) × IsJob (Plan.Check file.now) files job
+        × Performs job files (H.files host.new) (H.faults host.old) (H.faults host.new) (H.printed host.old) (H.printed host.new) result }
+    ensures cause { result ≡ 3 → (target : Target) × Contains (targets_of (Plan.Check file.now)) target × Rose (H.faults host.old) (H.faults host.new) target }
+    ensures planned { result ≢ 2 }
+{
+    match check_file(alloc, file, host) {
+        Ok(()) => show_text(alloc, VALID_TEXT, host),
+        Err(stop) => report(alloc, file, stop, host),
+    }
+}
+
 /// Runs the command that the words are, and gives the program's status. The first word is the program's
 /// own name.
 pub fn glsl_main<H: Host>(alloc: Global, words: &Words, host: &mut H) -> u8
@@ -243,5 +285,6 @@ pub fn glsl_main<H: Host>(alloc: Global, words: &Words, host: &mut H) -> u8
         Command::Assemble { file, out } => {
             convert_command(alloc, Conversion::Assemble, &file, &out, host)
         }
+        Command::Check { file } => check_command(alloc, &file, host),
     }
 }

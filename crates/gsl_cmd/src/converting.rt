@@ -68,7 +68,7 @@ fn assembled(alloc: Global, name: &Text, bytes: &[u8]) -> Result<Bytes, Stop>
 }
 
 /// Tells what is wrong with a module's file, unless memory was wanting.
-fn rejection(alloc: Global, fault: WordFault) -> Stop
+pub(crate) fn rejection(alloc: Global, fault: WordFault) -> Stop
     ensures { Rejects fault result }
 {
     match fault {
@@ -94,7 +94,7 @@ pub fn too_long(alloc: Global, conversion: Conversion, name: &Text) -> Stop
 }
 
 /// A line that is told, unless memory was wanting for it.
-fn told(line: Result<Bytes, Memory>) -> Stop
+pub(crate) fn told(line: Result<Bytes, Memory>) -> Stop
     ensures { MatchResult line (λ text. result ≡ Stop.Rejected text) (λ _. result ≡ Stop.Memory) }
 {
     match line {

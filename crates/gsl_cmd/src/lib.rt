@@ -8,6 +8,7 @@
 //! says what that comes to.
 #![tactic(auto)]
 
+mod checking;
 mod code;
 mod command;
 mod compiling;

@@ -18,6 +18,8 @@ pub data Plan : Type 0 where
   Disassemble : (file out : Name) → Plan
   -- `asm`: a text is assembled to a module
   Assemble : (file out : Name) → Plan
+  -- `check`: a module is judged
+  Check : (file : Name) → Plan
 
 -- whether a word begins with `-` and is not `-` alone
 abbrev pub is_option : Name → Bool
@@ -50,16 +52,20 @@ abbrev pub assemble_of : List Name → Option Plan
 assemble_of (file ∷ out ∷ []) = Some (Assemble file out)
 assemble_of _ = None
 
+abbrev pub check_of : List Name → Option Plan
+check_of (file ∷ []) = Some (Check file)
+check_of _ = None
+
 -- goes on with the operands, if there are some
 abbrev pub given : Option (List Name) → (List Name → Option Plan) → Option Plan
 given None f = None
 given (Some words) f = f words
 
--- `compile comp OUT FILE`, `dis MODULE OUT`, `asm TEXT OUT`
+-- `compile comp OUT FILE`, `dis MODULE OUT`, `asm TEXT OUT`, `check MODULE`
 abbrev pub named : Name → List Name → Option Plan
 named command words =
     if bytes_eq command (codes "compile") then compile_of words else if bytes_eq command (codes "dis") then disassemble_of words
-    else if bytes_eq command (codes "asm") then assemble_of words else None
+    else if bytes_eq command (codes "asm") then assemble_of words else if bytes_eq command (codes "check") then check_of words else None
 
 abbrev pub command_of : Name → List Name → Option Plan
 command_of command words = given (operands words) (named command)
@@ -75,3 +81,4 @@ plan_in (command.Usage text) = None
 plan_in (command.Compile stage out file) = Some (Compile stage out (file ∷ []))
 plan_in (command.Disassemble file out) = Some (Disassemble file out)
 plan_in (command.Assemble file out) = Some (Assemble file out)
+plan_in (command.Check file) = Some (Check file)

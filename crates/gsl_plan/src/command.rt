@@ -12,4 +12,6 @@ pub enum Command {
     Disassemble { file: Text, out: Text },
     /// Writes the module of a text.
     Assemble { file: Text, out: Text },
+    /// Judges a module.
+    Check { file: Text },
 }

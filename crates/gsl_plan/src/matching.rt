@@ -26,6 +26,19 @@ pub(crate) fn matches_of<'a>(alloc: Global, words: &'a [&'a str]) -> Result<ArgM
 fn grammar<'a>(alloc: Global) -> Result<Command<'a>, AllocError>
     ensures { IfOk result (λ c. app_of c ≡ spec.grammar) }
 {
+    let check = operated(
+        alloc,
+        "check",
+        "Tells whether a module is valid",
+        "gsl check MODULE",
+    )?;
+    writing(alloc)?.subcommand(check)
+}
+
+/// The program with the commands that write a file.
+fn writing<'a>(alloc: Global) -> Result<Command<'a>, AllocError>
+    ensures { IfOk result (λ c. app_of c ≡ spec.writing) }
+{
     let compile = operated(
         alloc,
         "compile",

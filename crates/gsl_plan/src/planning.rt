@@ -73,6 +73,9 @@ fn named(alloc: Global, name: &str, operands: &[&str]) -> Result<Command, Memory
     if name == "asm" {
         return assemble_of(alloc, operands);
     }
+    if name == "check" {
+        return check_of(alloc, operands);
+    }
     usage(alloc)
 }
 
@@ -117,6 +120,17 @@ fn assemble_of(alloc: Global, operands: &[&str]) -> Result<Command, Memory>
         [file, out] => Ok(Command::Assemble {
             file: Text::from_str(alloc, file)?,
             out: Text::from_str(alloc, out)?,
+        }),
+        _ => usage(alloc),
+    }
+}
+
+fn check_of(alloc: Global, operands: &[&str]) -> Result<Command, Memory>
+    ensures { IfOk result (λ found. plan_in found ≡ spec.check_of (texts operands.now)) }
+{
+    match operands {
+        [file] => Ok(Command::Check {
+            file: Text::from_str(alloc, file)?,
         }),
         _ => usage(alloc),
     }

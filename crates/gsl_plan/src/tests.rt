@@ -26,6 +26,7 @@ fn told(alloc: Global, command: Command) -> Result<String, Memory> {
         Command::Compile { stage, out, file } => joined(alloc, compiling(stage), &out, &file),
         Command::Disassemble { file, out } => joined(alloc, "dis", &file, &out),
         Command::Assemble { file, out } => joined(alloc, "asm", &file, &out),
+        Command::Check { file } => joined(alloc, "check", &file, &Text::from_str(alloc, "alone")?),
     }
 }
 
@@ -57,6 +58,7 @@ fn each_command_has_its_operands(rt: HostRuntime) -> Result<(), Fail> {
         "dis m.spv o.txt"
     );
     assert_eq!(rt; shown(alloc, "asm m.txt -")?.as_str(), "asm m.txt -");
+    assert_eq!(rt; shown(alloc, "check m.spv")?.as_str(), "check m.spv alone");
     Ok(())
 }
 
@@ -93,6 +95,8 @@ fn other_words_are_no_command(rt: HostRuntime) -> Result<(), Fail> {
         "asm -x m.txt o.spv",
         "asm m.txt",
         "asm -é o.spv",
+        "check",
+        "check m.spv o.spv",
         "-- dis m.spv o.txt",
         "Dis m.spv o.txt",
         "help",

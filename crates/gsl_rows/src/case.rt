@@ -20,6 +20,8 @@ pub enum Kind {
     Asm,
     /// A module is decoded from bytes, and shown.
     Decode,
+    /// A text is assembled, and its module's file is checked.
+    Check,
     /// A text is compiled for each stage.
     Stages,
     /// A shader and its module run on a buffer, side by side.

@@ -2,9 +2,11 @@
 
 ghost use Rattle.gsl_words.specs.Instructions.{HasFile};
 
-use crate::running::{dump, stream};
+use crate::running::{dump, stream, words};
 use gsl_asm::{AsmFault, assemble, show};
-use gsl_base::{Bytes, Memory};
+use gsl_base::{Bytes, Memory, Text};
+use gsl_cmd::glsl_main;
+use gsl_host::MemHost;
 use gsl_outline::{Done, Outline};
 use gsl_words::{Module, WordFault, decode, encode};
 use std::alloc::Global;
@@ -22,11 +24,7 @@ pub fn assembled(alloc: Global, out: &mut Outline, text: &[u8]) -> Done {
             put_file(alloc, out, &module)?;
             put_shown(alloc, out, &module, text)
         }
-        Err(AsmFault::Line(line)) => {
-            out.put("line ")?;
-            out.number(u64::from(line))?;
-            out.end_line()
-        }
+        Err(AsmFault::Line(line)) => wrong_line(out, line),
         Err(AsmFault::Memory) => Err(Memory),
     }
 }
@@ -105,6 +103,33 @@ pub fn decoded(alloc: Global, out: &mut Outline, bytes: &[u8]) -> Done {
         }
         Err(fault) => faulty(out, fault),
     }
+}
+
+/// Prints what `check` tells of the file of a text's module, or the line that is wrong.
+pub fn checked(alloc: Global, out: &mut Outline, text: &[u8]) -> Done {
+    if text.len() > MAX {
+        return Err(Memory);
+    }
+    match assemble(alloc, text) {
+        Ok(module) => put_checked(alloc, out, file_of(alloc, &module)?.as_slice()),
+        Err(AsmFault::Line(line)) => wrong_line(out, line),
+        Err(AsmFault::Memory) => Err(Memory),
+    }
+}
+
+fn put_checked(alloc: Global, out: &mut Outline, file: &[u8]) -> Done {
+    let mut host = MemHost::new(alloc, &[])?;
+    host.put_file(&Text::from_str(alloc, "module")?, file)?;
+    let line = words(alloc, "check module")?;
+    let _status = glsl_main(alloc, &line, &mut host);
+    stream(out, "out | ", host.out())?;
+    stream(out, "err | ", host.err())
+}
+
+fn wrong_line(out: &mut Outline, line: u32) -> Done {
+    out.put("line ")?;
+    out.number(u64::from(line))?;
+    out.end_line()
 }
 
 fn faulty(out: &mut Outline, fault: WordFault) -> Done {

@@ -81,6 +81,7 @@ fn take(
         "places" => case.kind = Kind::Places,
         "asm" => case.kind = Kind::Asm,
         "decode" => case.kind = Kind::Decode,
+        "check" => case.kind = Kind::Check,
         "stages" => case.kind = Kind::Stages,
         "sides" => case.kind = Kind::Sides,
         "show" => case.shown.push(String::from_str(alloc, rest)?)?,

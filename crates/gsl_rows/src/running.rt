@@ -1,7 +1,7 @@
 //! Running a case, and printing what came.
 
 use crate::case::{Case, Kind};
-use crate::modules::{assembled, decoded};
+use crate::modules::{assembled, checked, decoded};
 use crate::sides::sides;
 use crate::sources::{places, stages, tokens, tree};
 use crate::text::{bytes_of, filled};
@@ -37,6 +37,7 @@ fn run_one(alloc: Global, out: &mut Outline, case: &Case, each: &str) -> Done {
         Kind::Places => places(alloc, out, source(alloc, case, each)?.as_slice()),
         Kind::Asm => assembled(alloc, out, source(alloc, case, each)?.as_slice()),
         Kind::Decode => decoded(alloc, out, source(alloc, case, each)?.as_slice()),
+        Kind::Check => checked(alloc, out, source(alloc, case, each)?.as_slice()),
         Kind::Stages => stages(alloc, out, source(alloc, case, each)?.as_slice()),
         Kind::Sides => {
             let text = source(alloc, case, each)?;
@@ -54,7 +55,7 @@ fn source(alloc: Global, case: &Case, each: &str) -> Result<Bytes, Memory> {
 }
 
 /// The words of a command line, the program's name first.
-fn words(alloc: Global, line: &str) -> Result<Words, Memory> {
+pub fn words(alloc: Global, line: &str) -> Result<Words, Memory> {
     let mut all = Words::new(alloc);
     all.push(Text::from_str(alloc, "gsl")?)?;
     for word in line.split_whitespace() {

@@ -1,7 +1,8 @@
 use Rattle.std.proofs.Common.{◌∙◌, ap, refl, arith, Err}
 use Rattle.std.proofs.lemmas.Result.{err_from_is_err_and}
 use Rattle.gsl_host.specs.declared.target.Target.TheVariants.{Writing}
-use Rattle.gsl_cmd.proofs.Jobs.{ended_read, ended_compile, ended_write, later_rise}
+use Rattle.gsl_cmd.proofs.Jobs.{ended_read, ended_compile, ended_write}
+use Rattle.gsl_cmd.proofs.Streams.{later_rise}
 use Rattle.gsl_cmd.proofs.command.compile_file.Goals as goal
 
 pub returns-in_err-source-clause-told : goal.returns-in_err-source-clause-told

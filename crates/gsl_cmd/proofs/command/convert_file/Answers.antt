@@ -4,7 +4,7 @@ use Rattle.gsl_host.specs.declared.target.Target.TheVariants.{Writing}
 use Rattle.gsl_cmd.specs.Command.{Gives}
 use Rattle.gsl_cmd.specs.Converting.{Makes}
 use Rattle.gsl_cmd.proofs.Conversions.{ended_read, ended_made, ended_write, writes_in}
-use Rattle.gsl_cmd.proofs.Jobs.{later_rise}
+use Rattle.gsl_cmd.proofs.Streams.{later_rise}
 use Rattle.gsl_cmd.proofs.command.convert_file.Goals as goal
 
 pub returns-in_err-bytes-clause-told : goal.returns-in_err-bytes-clause-told

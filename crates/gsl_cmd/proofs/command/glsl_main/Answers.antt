@@ -25,3 +25,9 @@ returns-in-Disassemble-clause-written g c = λ zero plan planned files told.
     subst (λ (one : Plan). Written one files (g.H.Host.files c.convert_command.new.host))
     (same_plan (rw c.in-Disassemble.is at c.in-Ok.ensures) planned)
     (performed_written (Plan.Disassemble c.in-Disassemble.file c.in-Disassemble.out) files _ _ _ _ _ _ zero (c.convert_command.ensures.told files told))
+
+pub returns-in-Check-clause-written : goal.returns-in-Check-clause-written
+returns-in-Check-clause-written g c = λ zero plan planned files told.
+    subst (λ (one : Plan). Written one files (g.H.Host.files c.check_command.new.host))
+    (same_plan (rw c.in-Check.is at c.in-Ok.ensures) planned)
+    (performed_written (Plan.Check c.in-Check.file) files _ _ _ _ _ _ zero (c.check_command.ensures.told files told))
