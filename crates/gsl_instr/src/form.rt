@@ -1,6 +1,7 @@
 //! The forms of instructions: one for each row of the instruction table (SPIR-V 1.0, 3.32).
 
-ghost use Rattle.std.specs.Prelude.{◌≡◌};
+ghost use Rattle.std.specs.Prelude.{◌≡◌, ◌≤◌, slice_index};
+ghost use Rattle.gsl_instr.specs.declared.form.TheConstants.{ROWS};
 ghost use Rattle.gsl_instr.specs.Forms as spec;
 
 use crate::op;
@@ -420,11 +421,38 @@ pub const TABLE: [Row; 86] = [
     },
 ];
 
+/// For each opcode below 256 its row in `TABLE`, counted from 1; 0 where it has none.
+const ROWS: [u8; 256] = [
+    0, 0, 0, 0, 0, 1, 2, 0, 0, 0, 0, 3, 4, 0, 5, 6, 7, 8, 0, 9, 10, 11, 0, 12, 0, 0, 0, 0, 13, 14,
+    15, 0, 16, 17, 0, 0, 0, 0, 0, 0, 0, 18, 19, 21, 22, 0, 20, 0, 0, 0, 0, 0, 0, 0, 24, 25, 26, 27,
+    0, 28, 0, 29, 30, 0, 0, 31, 0, 0, 32, 0, 0, 33, 34, 0, 0, 0, 0, 35, 0, 36, 23, 37, 38, 0, 0, 0,
+    0, 0, 0, 0, 0, 0, 0, 0, 0, 0, 0, 0, 0, 0, 0, 0, 0, 0, 0, 0, 0, 0, 0, 0, 0, 0, 0, 0, 0, 0, 0, 0,
+    0, 0, 0, 0, 0, 0, 39, 0, 40, 0, 47, 0, 48, 0, 49, 0, 50, 51, 0, 52, 0, 53, 0, 0, 0, 0, 0, 0, 0,
+    0, 0, 0, 0, 0, 0, 0, 41, 42, 0, 0, 0, 0, 0, 0, 0, 0, 60, 61, 62, 63, 43, 74, 64, 65, 66, 67,
+    68, 69, 70, 71, 72, 73, 0, 0, 0, 0, 0, 0, 0, 0, 0, 0, 0, 0, 0, 0, 57, 58, 59, 54, 55, 56, 44,
+    75, 76, 77, 45, 46, 0, 0, 0, 0, 0, 0, 0, 0, 0, 0, 0, 0, 0, 0, 0, 0, 0, 0, 0, 0, 0, 0, 0, 0, 0,
+    0, 0, 0, 0, 0, 0, 0, 0, 0, 0, 0, 0, 0, 0, 0, 78, 79, 80, 81, 82, 83, 84, 85, 86, 0,
+];
+
+/// The row of an opcode, counted from 1; 0 where it has none.
+fn row_of(op: u16) -> usize
+    ensures is { result ≡ slice_index ROWS op }
+    ensures known { result ≤ 86 }
+{
+    if op < 256 {
+        usize::from(ROWS[usize::from(op)])
+    } else {
+        0
+    }
+}
+
 /// The form of an opcode, if it is one of the profile.
-#[tactic(auto, unfolding(crate::specs::Forms::form_of))]
 pub fn form_of(op: u16) -> Option<Form>
     ensures { result ≡ spec.form_of op }
 {
-    let row = TABLE.iter().find(|row| row.op == op)?;
-    Some(row.form)
+    let row = row_of(op);
+    if row == 0 {
+        return None;
+    }
+    Some(TABLE[row - 1].form)
 }
