@@ -24,6 +24,3 @@ pub use assembling::assemble;
 pub use fault::AsmFault;
 pub use laws::{one_meaning, shown_and_read};
 pub use showing::show;
-
-#[cfg(test)]
-mod tests;

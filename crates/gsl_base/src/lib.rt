@@ -34,6 +34,3 @@ pub type Words = List<Text>;
 
 /// The source files of one stage, in the order in which they were given.
 pub type Sources = List<Bytes>;
-
-#[cfg(test)]
-mod tests;

@@ -19,6 +19,3 @@ pub use block::{Block, End, Merge, Role, read_role};
 pub use cursor::Blocks;
 pub use laws::blocks_are_read;
 pub use order::nesting;
-
-#[cfg(test)]
-mod tests;

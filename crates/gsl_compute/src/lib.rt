@@ -19,6 +19,3 @@ pub use equality::same_value;
 pub use operators::{binary_value, decides, logic_word, step_value, unary_value};
 pub use parts::{has_fixed_length, index_value, is_signed, length_of, member_value, swizzle_value};
 pub use words::word_in;
-
-#[cfg(test)]
-mod tests;

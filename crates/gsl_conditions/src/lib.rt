@@ -13,6 +13,3 @@ pub use laws::conditions_are_read;
 pub use operator::{Binary, Unary};
 pub use reader::Entry;
 pub use value::literal;
-
-#[cfg(test)]
-mod tests;

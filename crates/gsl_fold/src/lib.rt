@@ -16,6 +16,3 @@ pub use gsl_tree::{Consts, Folded, Foldeds};
 pub use laws::{
     known_whatever_the_choices, left_open_where_choices_count, not_constant_by_form_or_index,
 };
-
-#[cfg(test)]
-mod tests;

@@ -18,6 +18,3 @@ pub use file::FileHost;
 pub use host::Host;
 pub use mem::MemHost;
 pub use target::{HostRefusal, ReadRefusal, Stream, Target};
-
-#[cfg(test)]
-mod tests;

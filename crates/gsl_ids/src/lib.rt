@@ -20,6 +20,3 @@ pub use pass::{Test, first_failed};
 pub use results::defined_by;
 pub use table::Definitions;
 pub use uses::defined_before_use;
-
-#[cfg(test)]
-mod tests;

@@ -27,6 +27,3 @@ pub use parts::{Part, Parts, is_text, next_of};
 pub use slot::{Enumeration, Rest, Slot};
 pub use string::push_string;
 pub use words::Operands;
-
-#[cfg(test)]
-mod tests;

@@ -22,6 +22,3 @@ pub use measuring::{lay, lay_placed};
 pub use placing::{Placing, Placings};
 pub use refusal::{LayRefusal, PlaceRefusal};
 pub use rules::{Rules, Std140, Std430};
-
-#[cfg(test)]
-mod tests;

@@ -18,8 +18,4 @@ mod text;
 pub use cooking::{MAX_WORD_BYTES, cook};
 pub use laws::{one_answer, one_cut, rows_are_rules};
 pub use lexing::lex;
-
-#[cfg(test)]
-mod cooking_tests;
-#[cfg(test)]
-mod tests;
+pub use rows::PUNCTS;

@@ -15,6 +15,3 @@ pub use moves::{MAX_DEPTH, all, next};
 pub use spelled::{Mark, Spelled};
 pub use stream::{Hid, Stream};
 pub use table::{Body, Macro, Macros, Shift, Table};
-
-#[cfg(test)]
-mod tests;

@@ -19,6 +19,3 @@ pub use input::read_manifest;
 pub use laws::{in_their_order, one_output, one_reading, spelled_and_read, written_and_read};
 pub use manifest::{BufferLine, BufferLines, Manifest, ManifestRefusal, PushLine};
 pub use output::listing;
-
-#[cfg(test)]
-mod tests;

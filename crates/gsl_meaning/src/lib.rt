@@ -9,6 +9,3 @@ mod laws;
 
 pub use fitting::fits;
 pub use laws::more_units_change_nothing;
-
-#[cfg(test)]
-mod tests;

@@ -10,6 +10,3 @@ mod stack;
 
 pub use entry::{Entries, Entry};
 pub use names::Names;
-
-#[cfg(test)]
-mod tests;

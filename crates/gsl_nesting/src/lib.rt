@@ -8,6 +8,3 @@ mod nesting;
 mod stack;
 
 pub use nesting::{Nesting, first_deep, is_continuation};
-
-#[cfg(test)]
-mod tests;

@@ -13,6 +13,3 @@ mod laws;
 pub use choice::{Choice, Params, Signatures, choose};
 pub use identity::identical;
 pub use laws::{chosen_is_best, identical_is_equal, one_best};
-
-#[cfg(test)]
-mod tests;

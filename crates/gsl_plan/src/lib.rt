@@ -10,6 +10,3 @@ mod planning;
 
 pub use command::Command;
 pub use planning::plan;
-
-#[cfg(test)]
-mod tests;

@@ -16,6 +16,3 @@ mod word;
 pub use feed::{Feed, preprocess};
 pub use group::{Group, Groups};
 pub use state::{MAX_TOKENS, State};
-
-#[cfg(test)]
-mod tests;

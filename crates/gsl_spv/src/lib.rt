@@ -21,6 +21,3 @@ pub use laws::{
 };
 pub use plain::{PlainConst, PlainType};
 pub use refusal::{BuildRefusal, MOST_IDS};
-
-#[cfg(test)]
-mod tests;

@@ -9,6 +9,3 @@ mod numbers;
 
 pub use lines::first_line;
 pub use numbers::{natural, unsigned};
-
-#[cfg(test)]
-mod tests;

@@ -10,6 +10,3 @@ pub use declare::next_struct;
 pub use laws::{struct_leaves, struct_spelling};
 pub use queries::{MOST_LEAVES, components, converts, leaves, same};
 pub use ty::{Direction, Member, Members, Scalar, StructType, Structs, Ty, Types};
-
-#[cfg(test)]
-mod tests;

@@ -16,6 +16,3 @@ mod variables;
 
 pub use access::memory;
 pub use decoration::decorations;
-
-#[cfg(test)]
-mod tests;

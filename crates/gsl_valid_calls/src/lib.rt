@@ -21,6 +21,3 @@ mod table;
 pub use call::calls;
 pub use laws::reached_in_the_closure;
 pub use limit::limits;
-
-#[cfg(test)]
-mod tests;

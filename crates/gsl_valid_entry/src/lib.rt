@@ -13,6 +13,3 @@ mod modes;
 mod stage;
 
 pub use entry_point::entry;
-
-#[cfg(test)]
-mod tests;

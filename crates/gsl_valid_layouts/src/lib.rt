@@ -10,6 +10,3 @@ mod seeds;
 mod sizes;
 
 pub use layout::layouts;
-
-#[cfg(test)]
-mod tests;

@@ -17,6 +17,3 @@ pub use function::function_shape;
 pub use leaving::returns;
 pub use near::locality;
 pub use order::sections;
-
-#[cfg(test)]
-mod tests;

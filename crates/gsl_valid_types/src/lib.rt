@@ -12,6 +12,3 @@ mod type_rule;
 pub use constant::constants;
 pub use global::globals;
 pub use type_rule::types;
-
-#[cfg(test)]
-mod tests;

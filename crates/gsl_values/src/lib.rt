@@ -33,6 +33,3 @@ pub use op::{BinaryOp, UnaryOp};
 pub use operators::{binary, unary};
 pub use value::{Value, Values};
 pub use vectors::lanes;
-
-#[cfg(test)]
-mod tests;

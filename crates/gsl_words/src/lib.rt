@@ -20,6 +20,3 @@ pub use instrs::Instrs;
 pub use laws::one_judgement;
 pub use module::{Args, Instr, Module};
 pub use target::{Target, VERSION_1_0, VERSION_1_3};
-
-#[cfg(test)]
-mod tests;

@@ -1,0 +1,61 @@
+use gsl_base::{Code, Fault, Kind, List, Memory, Place, Raw, Refusal, Text};
+use gsl_lex::lex;
+use gsl_macros::{Hid, Macro, Macros, Shift, Stream, Table, all, fault};
+use std::alloc::Global;
+use std::test::Fail;
+
+/// A table in which `A` is 3.
+fn table<'a>(alloc: Global) -> Result<Table<'a>, Memory> {
+    let mut table = Table::new(alloc);
+    let name = Text::from_str(alloc, "A")?;
+    table.set(name, Macro::Number(3))?;
+    Ok(table)
+}
+
+/// The kinds of the tokens that raw tokens give, with so much left of the count.
+fn drawn(alloc: Global, raws: &[Raw], left: u32) -> Result<List<Kind>, Refusal> {
+    let macros = Macros {
+        table: table(alloc)?,
+        shift: Shift {
+            after: 0,
+            number: 1,
+            file: 0,
+        },
+    };
+    let mut left = left;
+    let mut stream = Stream::new(alloc, raws);
+    let tokens = all(alloc, &macros, 2, &mut stream, &mut left)?;
+    kinds(alloc, tokens.as_slice())
+}
+
+/// The kinds of the tokens that a text gives, where `A` is 3, with so much left of the count.
+fn given(alloc: Global, text: &str, left: u32) -> Result<List<Kind>, Refusal> {
+    let bytes = text.as_bytes();
+    if bytes.len() >= 1000 {
+        return Err(Refusal::Memory);
+    }
+    let raws = lex(alloc, 0, bytes)?;
+    drawn(alloc, raws.as_slice(), left)
+}
+
+fn kinds(alloc: Global, tokens: &[Hid]) -> Result<List<Kind>, Refusal> {
+    let mut kinds = List::new(alloc);
+    for token in tokens {
+        kinds.push(token.spelled.cook(alloc, token.place)?.kind)?;
+    }
+    Ok(kinds)
+}
+
+#[test]
+fn a_number_is_put(rt: HostRuntime) -> Result<(), Fail> {
+    let alloc = rt.alloc();
+    let found = given(alloc, "A 4", 4)?;
+    assert!(rt; found.as_slice() == [Kind::Signed(3), Kind::Signed(4)].as_slice());
+    let place = Place { unit: 0, line: 1 };
+    let fault = Fault {
+        place,
+        code: Code::E0901,
+    };
+    assert!(rt; matches!(given(alloc, "A 4", 3), Err(Refusal::Source(found)) if found == fault));
+    Ok(())
+}

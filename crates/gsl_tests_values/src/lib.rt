@@ -1,0 +1,19 @@
+//! Tests of types, values, layouts and names.
+#![tactic(auto)]
+
+#[cfg(test)]
+mod compute;
+#[cfg(test)]
+mod fold;
+#[cfg(test)]
+mod layout;
+#[cfg(test)]
+mod meaning;
+#[cfg(test)]
+mod names;
+#[cfg(test)]
+mod overload;
+#[cfg(test)]
+mod types;
+#[cfg(test)]
+mod values;
