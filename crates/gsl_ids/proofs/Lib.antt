@@ -5,3 +5,4 @@ pub mod Passes
 pub mod Stands
 pub mod Numbers
 pub mod Defining
+pub mod Bodies

@@ -33,3 +33,7 @@ numbered code n = if n == 0 then None else read_if (slice_get code (n - 1))
 -- whether an id is defined among the first instructions of a module, of which there are this many
 abbrev pub is_defined_in : Module → ℕ → ℕ → Bool
 is_defined_in m count id = nat_lt 0 (number_of m id) && nat_le (number_of m id) count
+
+-- whether an id is defined from the instruction of a number on, before that of another
+abbrev pub is_defined_from : Module → ℕ → ℕ → ℕ → Bool
+is_defined_from m first at id = nat_lt first (number_of m id) && nat_le (number_of m id) at

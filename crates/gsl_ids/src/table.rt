@@ -82,6 +82,14 @@ impl<'a> Definitions<'a> {
         let number = self.number(id);
         0 < number && number <= count
     }
+
+    /// Whether an id is defined from the instruction of a number on, before that of another.
+    pub fn is_defined_from(&self, first: u64, at: u32, id: u32) -> bool
+        ensures { result ≡ table.is_defined_from self.now first at id }
+    {
+        let number = self.number(id);
+        first < u64::from(number) && number <= at
+    }
 }
 
 /// The number in a row, 0 where there is none.

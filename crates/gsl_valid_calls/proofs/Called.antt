@@ -14,27 +14,8 @@ use Rattle.gsl_valid.specs.Types.{begins, function_begins, defined_as}
 use Rattle.gsl_valid.specs.CallRules.{called, called_by}
 use Rattle.gsl_valid.proofs.Searching.{each_passes}
 use Rattle.gsl_ids.specs.Table.{number_from, number_of}
+use Rattle.gsl_ids.proofs.Bodies.{never_again}
 use Rattle.gsl_valid_calls.proofs.Rows.{one_less}
-
-module _ (bound : ℕ) where
-  new_id : (before : Code) (id : ℕ) (r : Option ℕ) → is_new bound before r ≡ true → defined before id ≡ true → is_id id r ≡ false
-  new_id before id None new was = refl
-  new_id before id (Some n) new was = by_cases (nat_eq n id) refl
-    where
-      by_cases : (b : Bool) → nat_eq n id ≡ b → b ≡ false
-      by_cases false e = refl
-      by_cases true e =
-          absurd
-          (true≢false
-          (sym was ∙ sym (ap (defined before) (eqb-true n id e))
-          ∙ not-true (defined before n) (and_parts (nat_le 1 n && nat_lt n bound) (not (defined before n)) new).1))
-
-  -- what was defined is not defined again
-  pub never_again : (before code : Code) (id : ℕ) → Passes (defines_once bound) before code → defined before id ≡ true → defined code id ≡ false
-  never_again before [] id all was = refl
-  never_again before (i ∷ code) id all was =
-      ap (λ b. b || defined code id) (new_id before id (result (read i)) all.0 was)
-      ∙ never_again (i ∷ before) code id all.1 (or_right (defines i id) (defined before id) was)
 
 -- what is not defined calls nothing
 none_called : (code : Code) (id : ℕ) → defined code id ≡ false → called_by code id ≡ []

@@ -18,7 +18,7 @@ use Rattle.gsl_ids.proofs.Numbers.{same_all}
 use Rattle.gsl_ids.proofs.Passes.{same_place}
 use Rattle.gsl_ids.proofs.Stands.{Stands, at_start, one_on}
 use Rattle.gsl_valid_calls.specs.Calls.{Kept, is_own_from, may_call_from, call_from, caller_after, passes, behind}
-use Rattle.gsl_valid_calls.proofs.Bodies.{Since, since_next, as_long, since_defined}
+use Rattle.gsl_ids.proofs.Bodies.{Since, since_next, as_long, since_defined}
 
 module _ (m : Module) (once : ids_defined_once m ≡ None) where
   -- What the pass keeps.

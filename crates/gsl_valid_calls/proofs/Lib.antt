@@ -7,6 +7,5 @@ mod Begun
 mod Ranked
 mod Deep
 mod Differing
-mod Bodies
 mod Calling
 mod Counting

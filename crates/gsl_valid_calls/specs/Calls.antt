@@ -9,17 +9,13 @@ use Rattle.gsl_valid.specs.Kinds.{Kind, Asks, Imports, Sets, Enters, Modes, Debu
 use Rattle.gsl_valid.specs.Types.{defined_as, is_variable_of}
 use Rattle.gsl_valid.specs.Where.{bounds_one}
 use Rattle.gsl_valid.specs.CallRules.{is_pointer, is_parameter, fits_function, pointers_differ, is_reached, has_chain, has_cycle, most_calls}
-use Rattle.gsl_ids.specs.Table.{number_of}
+use Rattle.gsl_ids.specs.Table.{number_of, is_defined_from}
 
 -- whether no two pointers are one among arguments, nor one of those that came before
 abbrev pub differ_behind : Module → List ℕ → List ℕ → Bool
 differ_behind m before [] = true
 differ_behind m before (id ∷ ids) =
     if is_pointer m id then (if list_any (nat_eq id) before then false else differ_behind m (before ++ id ∷ []) ids) else differ_behind m before ids
-
--- whether an id is defined from the instruction of a number on, before that of another
-abbrev pub is_defined_from : Module → ℕ → ℕ → ℕ → Bool
-is_defined_from m first at id = nat_lt first (number_of m id) && nat_le (number_of m id) at
 
 -- whether an argument, if it is a pointer, is the caller's own
 abbrev pub is_own_from : Module → ℕ → ℕ → ℕ → Bool

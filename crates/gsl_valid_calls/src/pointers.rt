@@ -41,15 +41,7 @@ fn is_own(definitions: &Definitions<'_>, body: u64, at: u32, id: u32) -> bool
     ensures { result ≡ kept.is_own_from definitions.now body at id }
 {
     !is_pointer(definitions, id)
-        || is_defined_from(definitions, body, at, id) && is_local(kind_if(definitions.get(id)))
-}
-
-/// Whether an id is defined from the instruction of a number on, before that of another.
-fn is_defined_from(definitions: &Definitions<'_>, first: u64, at: u32, id: u32) -> bool
-    ensures { result ≡ kept.is_defined_from definitions.now first at id }
-{
-    let number = definitions.number(id);
-    first < u64::from(number) && number <= at
+        || definitions.is_defined_from(body, at, id) && is_local(kind_if(definitions.get(id)))
 }
 
 /// Whether an instruction is a variable of class Function or a parameter.

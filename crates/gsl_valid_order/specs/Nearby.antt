@@ -1,13 +1,9 @@
 -- Where ids may be used, by the numbers of the instructions that define them.
-use Rattle.std.specs.Prelude.{ℕ, Bool, ◌&&◌, ◌||◌, not, nat_lt, nat_le, if◌then◌else◌}
+use Rattle.std.specs.Prelude.{ℕ, Bool, ◌||◌, not, if◌then◌else◌}
 use Rattle.gsl_words.specs.declared.module.Module.{Module}
 use Rattle.gsl_valid.specs.LocalityRules.{of_block, of_function}
 use Rattle.gsl_valid.specs.Types.{defined_as}
-use Rattle.gsl_ids.specs.Table.{number_of}
-
--- whether an id is defined from the instruction of a number on, before that of another
-abbrev pub is_defined_from : Module → ℕ → ℕ → ℕ → Bool
-is_defined_from m first at id = nat_lt first (number_of m id) && nat_le (number_of m id) at
+use Rattle.gsl_ids.specs.Table.{is_defined_from}
 
 -- whether an id may be used by the instruction of a number, in a function or not, where the function and the block begin with these
 abbrev pub near_by : Module → Bool → ℕ → ℕ → ℕ → ℕ → Bool

@@ -126,11 +126,11 @@ impl<'a> Here<'a> {
     {
         let kind = kind_if(self.definitions.get(id));
         if gives_value(kind) {
-            is_defined_from(self.definitions, self.block, self.at, id)
+            self.definitions.is_defined_from(self.block, self.at, id)
         } else {
             !is_local(kind)
                 || !self.inside
-                || is_defined_from(self.definitions, self.body, self.at, id)
+                || self.definitions.is_defined_from(self.body, self.at, id)
         }
     }
 }
@@ -151,12 +151,4 @@ fn is_local(kind: Kind<'_>) -> bool
         Kind::Takes { .. } => true,
         _ => false,
     }
-}
-
-/// Whether an id is defined from the instruction of a number on, before that of another.
-fn is_defined_from(definitions: &Definitions<'_>, first: u64, at: u32, id: u32) -> bool
-    ensures { result ≡ nearby.is_defined_from definitions.now first at id }
-{
-    let number = definitions.number(id);
-    first < u64::from(number) && number <= at
 }

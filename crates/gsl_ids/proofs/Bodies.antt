@@ -1,20 +1,39 @@
 -- Which ids a function's body defines, by their numbers.
-use Rattle.std.proofs.Common.{◌≡◌, ℕ, zero, suc, ◌+◌, ◌≤◌, Bool, true, false, true≢false, cond, ◌&&◌, ◌||◌, [], ◌∷◌, ◌++◌, length, drop, None, refl, ap, sym, subst, ◌∙◌, arith}
-use Rattle.std.specs.Prelude.{nat_lt, nat_le}
-use Rattle.std.proofs.lemmas.Bool.{or_left, lt-ltb, le-ltb}
+use Rattle.std.proofs.Common.{◌≡◌, ℕ, zero, suc, ◌+◌, ◌≤◌, Bool, true, false, true≢false, cond, not, ◌&&◌, ◌||◌, [], ◌∷◌, ◌++◌, length, drop, Option, Some, None, refl, ap, sym, subst, ◌∙◌, arith}
+use Rattle.std.specs.Prelude.{nat_lt, nat_le, nat_eq}
+use Rattle.std.proofs.lemmas.Bool.{and_parts, or_left, or_right, not-true, lt-ltb, le-ltb, eqb-true}
 use Rattle.std.proofs.lemmas.List.{drop_all, length_push}
 use Rattle.gsl_words.specs.declared.module.Instr.{Instr}
 use Rattle.gsl_words.specs.declared.module.Module.{Module}
-use Rattle.gsl_valid.specs.Ids.{defines, defined}
-use Rattle.gsl_valid.specs.IdsDefinedOnce.{defines_once, ids_defined_once}
+use Rattle.gsl_valid.specs.Instruction.{read}
+use Rattle.gsl_valid.specs.Ids.{result, is_id, defines, defined}
+use Rattle.gsl_valid.specs.IdsDefinedOnce.{defines_once, is_new, ids_defined_once}
 use Rattle.gsl_valid.specs.Placed.{Code}
 use Rattle.gsl_valid.specs.Search.{Passes, passed}
 use Rattle.gsl_valid.proofs.Searching.{passed_append, each_passes}
-use Rattle.gsl_ids.specs.Table.{number_from}
+use Rattle.gsl_ids.specs.Table.{number_from, is_defined_from}
 use Rattle.gsl_ids.proofs.Numbers.{in_front, turned, or_false, passed_length}
 use Rattle.gsl_ids.proofs.Stands.{Stands}
-use Rattle.gsl_valid_calls.specs.Calls.{is_defined_from}
-use Rattle.gsl_valid_calls.proofs.Called.{never_again}
+
+module _ (bound : ℕ) where
+  new_id : (before : Code) (id : ℕ) (r : Option ℕ) → is_new bound before r ≡ true → defined before id ≡ true → is_id id r ≡ false
+  new_id before id None new was = refl
+  new_id before id (Some n) new was = by_cases (nat_eq n id) refl
+    where
+      by_cases : (b : Bool) → nat_eq n id ≡ b → b ≡ false
+      by_cases false e = refl
+      by_cases true e =
+          absurd
+          (true≢false
+          (sym was ∙ sym (ap (defined before) (eqb-true n id e))
+          ∙ not-true (defined before n) (and_parts (nat_le 1 n && nat_lt n bound) (not (defined before n)) new).1))
+
+  -- what was defined is not defined again
+  pub never_again : (before code : Code) (id : ℕ) → Passes (defines_once bound) before code → defined before id ≡ true → defined code id ≡ false
+  never_again before [] id all was = refl
+  never_again before (i ∷ code) id all was =
+      ap (λ b. b || defined code id) (new_id before id (result (read i)) all.0 was)
+      ∙ never_again (i ∷ before) code id all.1 (or_right (defines i id) (defined before id) was)
 
 -- a number counts from where its code begins
 counts_from : (at : ℕ) (code : Code) (id : ℕ) → nat_lt at (number_from at code id) ≡ nat_lt 0 (number_from at code id)
