@@ -32,9 +32,10 @@ def text(pieces, each):
         elif kind == "times":
             count, _, rest = rest.partition(" ")
             out += rest * int(count)
-        elif kind == "count":
+        elif kind in ("count", "down"):
             first, last, rest = rest.split(" ", 2)
-            out += "".join(rest.replace("<n>", str(n)) for n in range(int(first), int(last) + 1))
+            numbers = range(int(first), int(last) + 1) if kind == "count" else range(int(first), int(last) - 1, -1)
+            out += "".join(rest.replace("<n>", str(n)).replace("<before>", str(n - 1)).replace("<end>", "\n") for n in numbers)
         else:
             sys.exit(f"no piece of a text: {piece}")
     return out

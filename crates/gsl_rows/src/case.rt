@@ -44,6 +44,8 @@ pub enum Piece {
     /// Two numbers, and a text that is put for each number from the first to the second, which stands
     /// for `<n>`.
     Count,
+    /// The same, from the first number down to the second.
+    Down,
 }
 
 /// A file of a case, in pieces.

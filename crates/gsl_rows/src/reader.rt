@@ -62,6 +62,23 @@ pub fn read_cases(alloc: Global, text: &str) -> Result<Vec<Case>, Misread> {
     Ok(cases)
 }
 
+/// What is done with a case, by the word of its line.
+fn kind_of(word: &str) -> Option<Kind> {
+    match word {
+        "run" => Some(Kind::Run),
+        "tree" => Some(Kind::Tree),
+        "parsed" => Some(Kind::Parsed),
+        "tokens" => Some(Kind::Tokens),
+        "places" => Some(Kind::Places),
+        "asm" => Some(Kind::Asm),
+        "decode" => Some(Kind::Decode),
+        "check" => Some(Kind::Check),
+        "stages" => Some(Kind::Stages),
+        "sides" => Some(Kind::Sides),
+        _ => None,
+    }
+}
+
 /// Takes a line of a case: what is done, or what is on the host.
 fn take(
     alloc: Global,
@@ -70,39 +87,30 @@ fn take(
     rest: &str,
     number: u32,
 ) -> Result<(), Misread> {
+    if let Some(kind) = kind_of(word) {
+        case.kind = kind;
+        case.words = String::from_str(alloc, rest)?;
+        return Ok(());
+    }
     match word {
-        "run" => {
-            case.kind = Kind::Run;
-            case.words = String::from_str(alloc, rest)?;
+        "show" => {
+            case.shown.push(String::from_str(alloc, rest)?)?;
+            Ok(())
         }
-        "tree" => case.kind = Kind::Tree,
-        "parsed" => case.kind = Kind::Parsed,
-        "tokens" => case.kind = Kind::Tokens,
-        "places" => case.kind = Kind::Places,
-        "asm" => case.kind = Kind::Asm,
-        "decode" => case.kind = Kind::Decode,
-        "check" => case.kind = Kind::Check,
-        "stages" => case.kind = Kind::Stages,
-        "sides" => case.kind = Kind::Sides,
-        "show" => case.shown.push(String::from_str(alloc, rest)?)?,
-        "each" => case.each.push(String::from_str(alloc, rest)?)?,
-        "fail" => take_fail(case, rest, number)?,
-        "buffer" => take_buffer(alloc, case, rest, number)?,
-        "file" => new_file(alloc, case, rest)?,
+        "each" => {
+            case.each.push(String::from_str(alloc, rest)?)?;
+            Ok(())
+        }
+        "fail" => take_fail(case, rest, number),
+        "buffer" => take_buffer(alloc, case, rest, number),
+        "file" => new_file(alloc, case, rest),
         "shader" => {
             new_file(alloc, case, rest)?;
-            piece(alloc, case, Piece::Line, "#version 450", number)?;
-            piece(
-                alloc,
-                case,
-                Piece::Line,
-                "layout(local_size_x = 1) in;",
-                number,
-            )?;
+            let head = "#version 450\nlayout(local_size_x = 1) in;";
+            piece(alloc, case, Piece::Line, head, number)
         }
-        _ => take_piece(alloc, case, word, rest, number)?,
+        _ => take_piece(alloc, case, word, rest, number),
     }
-    Ok(())
 }
 
 fn take_fail(case: &mut Case, rest: &str, number: u32) -> Result<(), Misread> {
@@ -180,6 +188,7 @@ fn take_piece(
         }
         "times" => piece(alloc, case, Piece::Times, rest, number),
         "count" => piece(alloc, case, Piece::Count, rest, number),
+        "down" => piece(alloc, case, Piece::Down, rest, number),
         _ => Err(Misread::Line(number)),
     }
 }

@@ -48,6 +48,7 @@ fn put(alloc: Global, out: &mut Bytes, piece: Piece, text: &str) -> Result<(), M
         Piece::Words => put_words(out, text),
         Piece::Times => put_times(out, text),
         Piece::Count => put_count(alloc, out, text),
+        Piece::Down => put_down(alloc, out, text),
     }
 }
 
@@ -77,11 +78,29 @@ fn put_count(alloc: Global, out: &mut Bytes, text: &str) -> Result<(), Memory> {
     let (first, rest) = number(text);
     let (last, text) = number(rest);
     for n in first..=last {
-        let digits = format!(in alloc; "{n}")?;
-        let one = filled(alloc, text, "<n>", digits.as_str())?;
-        out.extend_from_slice(one.as_bytes())?;
+        put_numbered(alloc, out, text, n)?;
     }
     Ok(())
+}
+
+fn put_down(alloc: Global, out: &mut Bytes, text: &str) -> Result<(), Memory> {
+    let (first, rest) = number(text);
+    let (last, text) = number(rest);
+    for n in last..=first {
+        put_numbered(alloc, out, text, first - (n - last))?;
+    }
+    Ok(())
+}
+
+/// Puts the text with this number, the one before it, and line ends.
+fn put_numbered(alloc: Global, out: &mut Bytes, text: &str, n: u32) -> Result<(), Memory> {
+    let digits = format!(in alloc; "{n}")?;
+    let numbered = filled(alloc, text, "<n>", digits.as_str())?;
+    let before = n.saturating_sub(1);
+    let digits = format!(in alloc; "{before}")?;
+    let behind = filled(alloc, numbered.as_str(), "<before>", digits.as_str())?;
+    let ended = filled(alloc, behind.as_str(), "<end>", "\n")?;
+    out.extend_from_slice(ended.as_bytes())
 }
 
 /// The bytes of a file, with this alternative.
