@@ -3,3 +3,4 @@ pub mod Reached
 pub mod Settled
 pub mod OneUnit
 pub mod Example
+mod Searching

@@ -1,4 +1,10 @@
-//! Which program typed units make together, or which is their first fault of linking (GLSL 4.50, 3.3, 4.1.8, 4.3 and 4.4): definitions.
+//! Which program typed units make together, or which is their first fault of linking (GLSL 4.50, 3.3, 4.1.8, 4.3 and 4.4).
 //!
 //! Read, in `specs/`: `Structs`, `Declarations`, `Agreement`, `Numbers`, `Renumbering`, `Whole`, `Calls`, `Rows`, `Joined`.
 #![tactic(auto)]
+
+mod structs;
+mod types;
+
+pub use structs::join_structs;
+pub use types::{retyped, same_type};
