@@ -4,6 +4,10 @@ use Rattle.std.specs.List.{list_any, position_or_len}
 use Rattle.gsl_types.specs.declared.ty.Member.{Member}
 use Rattle.gsl_link.specs.Types.{same_type}
 use Rattle.gsl_link.specs.Structs.{same_members}
+use Rattle.gsl_types.specs.declared.ty.Direction.{Direction}
+use Rattle.gsl_types.specs.declared.ty.Ty.{Ty}
+use Rattle.gsl_tree.specs.declared.unit.BlockMember.{BlockMember}
+use Rattle.gsl_link.specs.Agreement.{same_params, same_direction, same_directions, agree_member, agree_members}
 
 pub other_lengths : (a b : List Member) → (length a ≡ length b → ⊥) → false ≡ same_members a b
 other_lengths [] [] differ = absurd (differ refl)
@@ -15,6 +19,28 @@ other_lengths (x ∷ xs) (y ∷ ys) differ = by_cases (bytes_eq x.name y.name) (
     by_cases true true later = later
     by_cases true false later = refl
     by_cases false c later = refl
+
+both_needed : (b c : Bool) → false ≡ c → false ≡ (b && c)
+both_needed true c is = is
+both_needed false c is = refl
+
+pub other_params : (a b : List (Direction × Ty)) → (length a ≡ length b → ⊥) → false ≡ same_params a b
+other_params [] [] differ = absurd (differ refl)
+other_params [] (y ∷ ys) differ = refl
+other_params (x ∷ xs) [] differ = refl
+other_params (x ∷ xs) (y ∷ ys) differ = both_needed (same_type x.1 y.1) (same_params xs ys) (other_params xs ys (λ e. differ (ap suc e)))
+
+pub other_directions : (a b : List (Direction × Ty)) → (length a ≡ length b → ⊥) → false ≡ same_directions a b
+other_directions [] [] differ = absurd (differ refl)
+other_directions [] (y ∷ ys) differ = refl
+other_directions (x ∷ xs) [] differ = refl
+other_directions (x ∷ xs) (y ∷ ys) differ = both_needed (same_direction x.0 y.0) (same_directions xs ys) (other_directions xs ys (λ e. differ (ap suc e)))
+
+pub other_members : (a b : List BlockMember) → (length a ≡ length b → ⊥) → false ≡ agree_members a b
+other_members [] [] differ = absurd (differ refl)
+other_members [] (y ∷ ys) differ = refl
+other_members (x ∷ xs) [] differ = refl
+other_members (x ∷ xs) (y ∷ ys) differ = both_needed (agree_member x y) (agree_members xs ys) (other_members xs ys (λ e. differ (ap suc e)))
 
 module _ {A : Type 0} (test : A → Bool) where
   any_step : (xs : List A) → (position_or_len test xs < length xs → list_any test xs ≡ true) × (length xs ≤ position_or_len test xs → list_any test xs ≡ false)

@@ -3,8 +3,13 @@
 //! Read, in `specs/`: `Structs`, `Declarations`, `Agreement`, `Numbers`, `Renumbering`, `Whole`, `Calls`, `Rows`, `Joined`.
 #![tactic(auto)]
 
+mod agreement;
 mod structs;
 mod types;
 
+pub use agreement::{
+    agree_functions, agree_interfaces, agree_members, agree_variables, same_function, same_kind,
+    same_params,
+};
 pub use structs::join_structs;
 pub use types::{retyped, same_type};
