@@ -1,5 +1,5 @@
 -- Structs that are the same, and searches among them.
-use Rattle.std.proofs.Common.{◌≡◌, ℕ, zero, suc, ◌+◌, ◌<◌, ◌≤◌, Bool, true, false, cond, not, ◌&&◌, ◌||◌, List, [], ◌∷◌, length, refl, ap, sym, ◌∙◌, bytes_eq, arith}
+use Rattle.std.proofs.Common.{◌≡◌, suc, ◌+◌, ◌<◌, ◌≤◌, Bool, true, false, cond, not, ◌&&◌, ◌||◌, List, [], ◌∷◌, length, refl, ap, bytes_eq, arith}
 use Rattle.std.specs.List.{list_any, position_or_len}
 use Rattle.gsl_types.specs.declared.ty.Member.{Member}
 use Rattle.gsl_link.specs.Types.{same_type}

@@ -8,6 +8,8 @@ mod fold;
 #[cfg(test)]
 mod layout;
 #[cfg(test)]
+mod link;
+#[cfg(test)]
 mod meaning;
 #[cfg(test)]
 mod names;
