@@ -1,5 +1,6 @@
 -- Structs that are the same, and searches among them.
-use Rattle.std.proofs.Common.{◌≡◌, suc, ◌+◌, ◌<◌, ◌≤◌, Bool, true, false, cond, not, ◌&&◌, ◌||◌, List, [], ◌∷◌, length, refl, ap, bytes_eq, arith}
+use Rattle.std.proofs.Common.{ℕ, ◌≡◌, suc, ◌+◌, ◌<◌, ◌≤◌, Bool, true, false, cond, not, ◌&&◌, ◌||◌, List, [], ◌∷◌, length, refl, ap, bytes_eq, arith, map, take, drop, ◌++◌, get_or, set, slice_set, ◌∙◌}
+use Rattle.std.proofs.lemmas.List.Edits.{map_over_more}
 use Rattle.std.specs.List.{list_any, position_or_len}
 use Rattle.gsl_types.specs.declared.ty.Member.{Member}
 use Rattle.gsl_link.specs.Types.{same_type}
@@ -57,3 +58,8 @@ module _ {A : Type 0} (test : A → Bool) where
 
   pub none_below : (xs : List A) → length xs ≤ position_or_len test xs → list_any test xs ≡ false
   none_below xs = (any_step xs).1
+
+-- a loop that writes what it makes of each item over it
+pub put_over : {X : Type 0} (f : X → X) (xs ys : List X) (i : ℕ) (x y : X) → i < length xs → ys ≡ map f (take i xs) ++ drop i xs → x ≡ get_or ys i x → y ≡ f x →
+    slice_set ys i y ≡ map f (take (i + 1) xs) ++ drop (i + 1) xs
+put_over f xs ys i x y below so_far at is = ap (λ z. set ys i z) is ∙ map_over_more f xs ys i x below so_far at

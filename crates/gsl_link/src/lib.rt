@@ -4,6 +4,7 @@
 #![tactic(auto)]
 
 mod agreement;
+mod siding;
 mod structs;
 mod types;
 
@@ -11,5 +12,6 @@ pub use agreement::{
     agree_functions, agree_interfaces, agree_members, agree_variables, same_function, same_kind,
     same_params,
 };
+pub use siding::retype_unit;
 pub use structs::join_structs;
 pub use types::{retyped, same_type};
