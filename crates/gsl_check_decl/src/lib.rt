@@ -2,6 +2,7 @@
 //!
 //! Read `specs/Steps.antt` (one after the other, and scopes), `Declaring.antt` (what is asked of every declared name and type),
 //! `Locals.antt` (local variables), `Structs.antt`, and then `Declarations.antt`: qualifiers, a type or a struct, and variables.
+//! `Globals.antt` is for the crates above.
 #![tactic(auto)]
 
 mod asked;

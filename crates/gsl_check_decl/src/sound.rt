@@ -9,11 +9,12 @@ ghost use Rattle.gsl_names.specs.Scopes.{declare as declare_in};
 ghost use Rattle.gsl_check_decl.specs.Steps as steps;
 ghost use Rattle.gsl_check_decl.specs.Locals as locals;
 ghost use Rattle.gsl_check_decl.specs.Structs as structs;
+ghost use Rattle.gsl_check_decl.specs.Globals as globals;
 
 use gsl_base::{Memory, Text};
 use gsl_check_expr::Env;
 use gsl_names::{Entry, Names};
-use gsl_tree::Folded;
+use gsl_tree::{Folded, GlobalVar, Interface};
 use gsl_types::{Members, StructType, Structs, Ty, next_struct};
 use std::alloc::Global;
 use std::marker::Model;
@@ -126,6 +127,34 @@ impl SoundEnv {
         self.env.scene.consts.locals.push(folded)?;
         self.declare(alloc, name, Entry::Local(number, fixed))?;
         Ok(number)
+    }
+
+    /// Declares a global variable, of which so much is known.
+    #[tactic(auto, unfolding(crate::specs::Globals::with_global))]
+    pub fn declare_global(
+        &mut self,
+        alloc: Global,
+        next: GlobalVar,
+        folded: Folded,
+    ) -> Result<(), Memory>
+        ensures { OnOk result (self.new ≡ globals.with_global next folded self.old) }
+    {
+        let number = number_behind(self.env.scene.globals.len())?;
+        self.declare(alloc, &next.name, Entry::Global(number))?;
+        self.env.scene.globals.push(next)?;
+        self.env.scene.consts.globals.push(folded)?;
+        Ok(())
+    }
+
+    /// Declares an input or output.
+    #[tactic(auto, unfolding(crate::specs::Globals::with_interface))]
+    pub fn declare_interface(&mut self, alloc: Global, next: Interface) -> Result<(), Memory>
+        ensures { OnOk result (self.new ≡ globals.with_interface next self.old) }
+    {
+        let number = number_behind(self.env.scene.interfaces.len())?;
+        self.declare(alloc, &next.name, Entry::Interface(number))?;
+        self.env.scene.interfaces.push(next)?;
+        Ok(())
     }
 
     /// Puts a struct behind the others, and its height beside it.
