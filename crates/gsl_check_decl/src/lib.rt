@@ -12,14 +12,14 @@ mod locals;
 mod sound;
 mod structs;
 
-pub use asked::{is_declared, is_high, is_reserved, may_be_had};
+pub use asked::{is_declared, is_high, is_reserved, is_void, may_be_had};
 pub use declarations::{as_one, declaration};
 pub use heights::highest;
 pub use locals::{
     begun_variable, declarator, known_as, may_be_plain, may_begin, plain_variable, qualified,
     qualified_by, refused_layout, refused_value, set_variable,
 };
-pub use sound::{SoundEnv, struct_behind};
+pub use sound::{Outside, SoundEnv, number_behind, struct_behind};
 pub use structs::{
     declared_whole, has_member, may_be_member, may_be_struct, members_of, structured,
 };

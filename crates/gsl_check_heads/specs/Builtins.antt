@@ -1,5 +1,6 @@
 -- What is declared outside the global scope: built-in functions, and the built-in variables of the stage (GLSL 4.50, 7.1, 8.3, 8.7 and 8.8).
-use Rattle.std.specs.Prelude.{ℕ, Bool, true, false, List, [], ◌∷◌, ◌++◌, codes, Option, Some, None}
+use Rattle.std.specs.Prelude.{ℕ, Bool, true, false, List, [], ◌∷◌, ◌++◌, codes, Option, Some, None, if◌then◌else◌}
+use Rattle.std.specs.Str.{bytes_eq}
 use Rattle.gsl_base.specs.declared.stage.Stage.{Stage}
 use Rattle.gsl_base.specs.declared.stage.Stage.TheVariants.{Vertex, Fragment, Compute}
 use Rattle.gsl_values.specs.declared.function.Builtin.TheVariants as f
@@ -39,3 +40,8 @@ is_function (Some found) = true
 
 unfoldable pub names_function : List ℕ → Bool
 names_function name = is_function (first_of (all_in functions name))
+
+-- one of these is the name
+abbrev pub among : List (List ℕ) → List ℕ → Bool
+among [] name = false
+among (one ∷ more) name = if bytes_eq one name then true else among more name
