@@ -29,6 +29,8 @@ use Rattle.gsl_typing.specs.Rows.{fault, unless}
 use Rattle.gsl_check_expr.specs.declared.env.Env.{Env}
 use Rattle.gsl_check_expr.specs.Expressions.{bracket, callee}
 use Rattle.gsl_check_expr.specs.Written.{written_type, declared, whole_type}
+use Rattle.gsl_check_decl.specs.declared.sound.Outside.{Outside}
+use Rattle.gsl_check_decl.specs.Steps.{ended}
 use Rattle.gsl_check_decl.specs.Declaring.{is_empty, is_reserved, is_void, may_be_had, is_high}
 use Rattle.gsl_check_decl.specs.Locals.{refused_layout}
 use Rattle.gsl_check_decl.specs.Globals.{with_head}
@@ -283,4 +285,11 @@ unfoldable pub left : Env → Env → Env
 left before after = record before {
   scene = record (before.scene) { structs = after.scene.structs };
   heights = after.heights;
+}
+
+-- behind the scope of a body, with what stood around it before
+unfoldable pub left_by : Outside → Env → Env
+left_by outside after = record after {
+  names = ended after.names;
+  scene = record (after.scene) { params = outside.params; locals = outside.locals; consts = record (after.scene.consts) { locals = outside.known } };
 }

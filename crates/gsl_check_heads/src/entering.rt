@@ -7,6 +7,7 @@ use crate::parameter::{Head, Parameter};
 use crate::parameters::typed_params;
 use gsl_base::Memory;
 use gsl_check_decl::{Outside, SoundEnv, number_behind};
+use gsl_types::Types;
 use std::alloc::Global;
 
 /// Declares the name of a parameter, if it has one.
@@ -47,4 +48,14 @@ pub fn enter(alloc: Global, head: &Head, env: &mut SoundEnv) -> Result<Outside, 
     env.open(alloc)?;
     name_params(alloc, head.params.as_slice(), env)?;
     Ok(env.begin_body(alloc, typed))
+}
+
+/// Ends the scope of parameters and a body. The answer has the types of the local variables of the body.
+#[tactic(auto, unfolding(crate::specs::Heads::left_by))]
+pub fn leave(alloc: Global, outside: Outside, env: &mut SoundEnv) -> Types
+    ensures is { env.new ≡ spec.left_by outside env.old }
+    ensures locals { result ≡ env.old.scene.locals }
+{
+    env.close(alloc);
+    env.end_body(outside)
 }

@@ -12,8 +12,8 @@ mod parameter;
 mod parameters;
 mod saying;
 
-pub use builtin::names_function;
-pub use entering::enter;
+pub use builtin::{begun_in, names_function};
+pub use entering::{enter, leave};
 pub use heading::{declared_head, header, may_be_head};
 pub use matching::{disagrees, has_body_of, head_number};
 pub use parameter::{Head, Parameter, Parameters, Said};
