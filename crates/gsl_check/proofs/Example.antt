@@ -14,7 +14,7 @@ use Rattle.gsl_names.specs.Scopes.{find}
 use Rattle.gsl_typing.specs.Rows.{fault}
 use Rattle.gsl_check_expr.specs.declared.env.Env.{Env}
 use Rattle.gsl_qualifiers.specs.declared.qualified.Role.TheVariants.{Variable, Input, Buffer, Push, Member, Size, Nothing}
-use Rattle.gsl_check.specs.Builtins.{names_function}
+use Rattle.gsl_check_heads.specs.Builtins.{names_function}
 use Rattle.gsl_qualifiers.specs.Qualifiers.{role_of_variables, role_of_block, role_alone, qualified, flag, unsaid}
 use Rattle.gsl_check.specs.Units.{begun}
 

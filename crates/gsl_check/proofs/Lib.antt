@@ -1,1 +1,4 @@
 mod Example
+mod Keeping
+mod Bodies
+mod Behind

@@ -36,7 +36,7 @@ use Rattle.gsl_qualifiers.specs.declared.qualified.Role.{Role}
 use Rattle.gsl_qualifiers.specs.declared.qualified.Role.TheVariants.{Variable, Input, Output, Uniform, Buffer, Push, Member, Size, Nothing}
 use Rattle.gsl_qualifiers.specs.declared.qualified.Qualified.{Qualified}
 use Rattle.gsl_qualifiers.specs.Qualifiers.{qualified}
-use Rattle.gsl_check.specs.Variables.{Declares}
+use Rattle.gsl_check_globals.specs.Variables.{Declares}
 
 -- ---- what stands around a member
 

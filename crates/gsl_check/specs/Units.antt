@@ -1,63 +1,20 @@
 -- Units: the typed unit that a unit stands for, or its first fault (GLSL 4.50, chapters 3 to 7).
-use Rattle.std.specs.Prelude.{Bool, List, [], ◌∷◌, ◌++◌, map, Option, Some, None, is_none, unwrap_or, ◌&&◌, Ok}
+use Rattle.std.specs.Prelude.{List, [], ◌∷◌, Ok}
 use Rattle.gsl_base.specs.Checked.{Checked, ◌>>=◌}
-use Rattle.gsl_base.specs.declared.fault.Place.{Place}
-use Rattle.gsl_base.specs.declared.fault.Code.TheVariants.{E0701}
 use Rattle.gsl_base.specs.declared.stage.Stage.{Stage}
-use Rattle.gsl_syntax.specs.declared.expr.TypeSpec.{TypeSpec}
 use Rattle.gsl_syntax.specs.declared.declaration.Decl.{Decl}
 use Rattle.gsl_syntax.specs.declared.declaration.Decl.TheVariants as decl
-use Rattle.gsl_syntax.specs.declared.declaration.Declarator.{Declarator}
-use Rattle.gsl_syntax.specs.declared.declaration.Qual.{Qual}
-use Rattle.gsl_syntax.specs.declared.declaration.Struct.{Struct}
 use Rattle.gsl_syntax.specs.declared.statement.Global.{Global}
 use Rattle.gsl_syntax.specs.declared.statement.Global.TheVariants as global
-use Rattle.gsl_types.specs.declared.ty.Ty.TheVariants as ty
 use Rattle.gsl_tree.specs.declared.unit.Function.{Function}
 use Rattle.gsl_tree.specs.declared.unit.TypedUnit.{TypedUnit}
-use Rattle.gsl_typing.specs.Rows.{unless}
 use Rattle.gsl_check_expr.specs.declared.env.Env.{Env}
-use Rattle.gsl_check_expr.specs.declared.writing.Written.TheVariants.{Whole}
-use Rattle.gsl_check_expr.specs.Written.{written_type}
-use Rattle.gsl_check_decl.specs.Structs.{structured}
-use Rattle.gsl_qualifiers.specs.declared.qualified.Role.{Role}
-use Rattle.gsl_qualifiers.specs.declared.qualified.Qualified.{Qualified}
-use Rattle.gsl_check.specs.Builtins.{built_in}
-use Rattle.gsl_qualifiers.specs.Qualifiers.{role_of_variables, role_of_block, role_alone, qualified}
-use Rattle.gsl_check.specs.Variables.{Declares, all_declared, declarator}
+use Rattle.gsl_qualifiers.specs.Qualifiers.{role_of_variables, role_of_block}
+use Rattle.gsl_check_globals.specs.Variables.{Declares}
+use Rattle.gsl_check_globals.specs.Globals.{variables, struct_and_variables, alone}
+use Rattle.gsl_check_heads.specs.Builtins.{begun_in}
 use Rattle.gsl_check.specs.Blocks.{block}
 use Rattle.gsl_check.specs.Functions.{function}
-
--- ---- declarations
-
-abbrev pub variables : Role → List Qual → TypeSpec → List Declarator → Declares
-variables role quals t all env = qualified env role quals >>= (λ q. written_type env t >>= (λ base. all_declared (map (declarator role q base) all) env))
-
-abbrev pub struct_and_variables : Role → List Qual → Struct → List Declarator → Declares
-struct_and_variables role quals s all env = qualified env role quals
-    >>= (λ q. structured s env >>= (λ done. all_declared (map (declarator role q (Whole (ty.Struct done.0))) all) done.1))
-
--- ---- the size of the work group (GLSL 4.50, 4.4.1.4)
-
--- a size is stated, in one direction at least
-abbrev pub states_none : Qualified → Bool
-states_none q = is_none q.size_x && is_none q.size_y && is_none q.size_z
-
--- the size that is stated, 1 in each direction that is not
-abbrev pub with_size : Qualified → Place → Env → Env
-with_size q place env = record env {
-  scene = record env.scene {
-    sizes = env.scene.sizes ++ record { parts = unwrap_or q.size_x 1 ∷ unwrap_or q.size_y 1 ∷ unwrap_or q.size_z 1 ∷ []; place = place } ∷ [];
-  };
-}
-
--- The size of the work group is all that qualifiers alone declare; it stands at its `in`.
-abbrev pub sized_at : Qualified → Env → Option Place → Checked Env
-sized_at q env None = Ok env
-sized_at q env (Some place) = unless place ((E0701, states_none q) ∷ []) (Ok (with_size q place env))
-
-abbrev pub alone : List Qual → Declares
-alone quals env = qualified env (role_alone env.scene.stage quals) quals >>= (λ q. sized_at q env q.within)
 
 -- ---- each declaration
 
@@ -91,25 +48,7 @@ all (one ∷ more) so_far = next one so_far >>= all more
 
 -- Before its first declaration a unit of a stage has the built-in functions and variables.
 abbrev pub begun : Stage → Progress
-begun stage = record {
-  env = record {
-    names = [] ∷ built_in stage ∷ [];
-    scene = record {
-      stage = stage;
-      structs = [];
-      globals = [];
-      blocks = [];
-      interfaces = [];
-      prototypes = [];
-      sizes = [];
-      params = [];
-      locals = [];
-      consts = record { locals = []; globals = [] };
-    };
-    heights = [];
-  };
-  functions = [];
-}
+begun stage = record { env = begun_in stage; functions = [] }
 
 -- the typed unit of all that was declared
 abbrev pub unit_of : Progress → TypedUnit

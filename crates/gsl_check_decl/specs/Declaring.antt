@@ -5,6 +5,8 @@ use Rattle.gsl_base.specs.Checked.{Checked, ◌>>=◌}
 use Rattle.gsl_syntax.specs.declared.expr.Dim.{Dim}
 use Rattle.gsl_types.specs.Known.{sound}
 use Rattle.gsl_types.specs.declared.ty.Ty.{Ty}
+use Rattle.gsl_types.specs.declared.ty.Ty.TheVariants as ty
+use Rattle.gsl_overload.specs.Identity.{identical}
 use Rattle.gsl_tree.specs.Weights.{height_of, most_high}
 use Rattle.gsl_tree.specs.WellTyped.{is_plain}
 use Rattle.gsl_names.specs.Scopes.{find_here}
@@ -29,6 +31,9 @@ unfoldable pub is_reserved : List ℕ → Bool
 is_reserved name = bytes_eq (take 3 name) (103 ∷ 108 ∷ 95 ∷ [])
 
 -- ---- types
+
+abbrev pub is_void : Ty → Bool
+is_void t = identical t ty.Void
 
 -- a type that variables and members may have: no `void` and no array without a size stands in it, and all of its parts are there
 unfoldable pub may_be_had : Scene → Ty → Bool

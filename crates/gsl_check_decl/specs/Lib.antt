@@ -3,3 +3,4 @@ pub mod Declaring
 pub mod Locals
 pub mod Structs
 pub mod Declarations
+pub mod Globals

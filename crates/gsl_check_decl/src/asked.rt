@@ -9,6 +9,7 @@ ghost use Rattle.gsl_check_decl.specs.Declaring as spec;
 use gsl_base::Text;
 use gsl_check_expr::Env;
 use gsl_makers::is_low;
+use gsl_overload::identical;
 use gsl_types::Ty;
 use gsl_typing::Scene;
 
@@ -26,6 +27,13 @@ pub fn is_reserved(name: &Text) -> bool
     ensures { result ≡ spec.is_reserved name.now }
 {
     name.as_str().as_bytes().starts_with(b"gl_")
+}
+
+/// Whether a type is `void`.
+pub fn is_void(ty: &Ty) -> bool
+    ensures { result ≡ spec.is_void ty.now }
+{
+    identical(ty, &Ty::Void)
 }
 
 /// Whether no `void` and no runtime array stands in a type.

@@ -2,6 +2,7 @@
 //!
 //! Read `specs/Steps.antt` (one after the other, and scopes), `Declaring.antt` (what is asked of every declared name and type),
 //! `Locals.antt` (local variables), `Structs.antt`, and then `Declarations.antt`: qualifiers, a type or a struct, and variables.
+//! `Globals.antt` is for the crates above.
 #![tactic(auto)]
 
 mod asked;
@@ -11,14 +12,14 @@ mod locals;
 mod sound;
 mod structs;
 
-pub use asked::{is_declared, is_high, is_reserved, may_be_had};
+pub use asked::{is_declared, is_high, is_reserved, is_void, may_be_had};
 pub use declarations::{as_one, declaration};
 pub use heights::highest;
 pub use locals::{
     begun_variable, declarator, known_as, may_be_plain, may_begin, plain_variable, qualified,
     qualified_by, refused_layout, refused_value, set_variable,
 };
-pub use sound::{SoundEnv, struct_behind};
+pub use sound::{Outside, SoundEnv, number_behind, struct_behind};
 pub use structs::{
     declared_whole, has_member, may_be_member, may_be_struct, members_of, structured,
 };

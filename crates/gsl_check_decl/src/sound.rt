@@ -5,16 +5,18 @@ ghost use Rattle.std.specs.List.{AllByRecursion};
 ghost use Rattle.gsl_types.specs.Known.{AreStructs, IsSound};
 ghost use Rattle.gsl_types.specs.declared.ty.Member.{Member as OneMember};
 ghost use Rattle.gsl_makers.specs.Heights.{AreHeights};
+ghost use Rattle.gsl_names.specs.declared.entry.Entry.TheVariants as entry;
 ghost use Rattle.gsl_names.specs.Scopes.{declare as declare_in};
 ghost use Rattle.gsl_check_decl.specs.Steps as steps;
 ghost use Rattle.gsl_check_decl.specs.Locals as locals;
 ghost use Rattle.gsl_check_decl.specs.Structs as structs;
+ghost use Rattle.gsl_check_decl.specs.Globals as globals;
 
-use gsl_base::{Memory, Text};
+use gsl_base::{List, Memory, Text};
 use gsl_check_expr::Env;
 use gsl_names::{Entry, Names};
-use gsl_tree::Folded;
-use gsl_types::{Members, StructType, Structs, Ty, next_struct};
+use gsl_tree::{Folded, Foldeds, GlobalVar, Interface, LocalSize, Params, Prototype};
+use gsl_types::{Members, StructType, Structs, Ty, Types, next_struct};
 use std::alloc::Global;
 use std::marker::Model;
 use std::mem::replace;
@@ -42,8 +44,16 @@ impl Model for SoundEnv {
     ghost invariant = { λ s. AreStructs s.env.scene.structs × AreHeights s.env.scene.structs s.env.heights × (length s.env.heights ≡ length s.env.scene.structs) };
 }
 
+/// What stands around the body of a function: the parameters and local variables before it, and what is known of these.
+#[derive(Drop)]
+pub struct Outside {
+    pub params: Params,
+    pub locals: Types,
+    pub known: Foldeds,
+}
+
 /// The number of what stands behind so many others. What no word counts has no room.
-fn number_behind(count: usize) -> Result<u32, Memory>
+pub fn number_behind(count: usize) -> Result<u32, Memory>
     ensures { IfOk result (λ number. number ≡ count) }
 {
     if count > u32::MAX as usize {
@@ -126,6 +136,92 @@ impl SoundEnv {
         self.env.scene.consts.locals.push(folded)?;
         self.declare(alloc, name, Entry::Local(number, fixed))?;
         Ok(number)
+    }
+
+    /// Declares a global variable, of which so much is known.
+    #[tactic(auto, unfolding(crate::specs::Globals::with_global))]
+    pub fn declare_global(
+        &mut self,
+        alloc: Global,
+        next: GlobalVar,
+        folded: Folded,
+    ) -> Result<(), Memory>
+        ensures { OnOk result (self.new ≡ globals.with_global next folded self.old) }
+    {
+        let number = number_behind(self.env.scene.globals.len())?;
+        self.declare(alloc, &next.name, Entry::Global(number))?;
+        self.env.scene.globals.push(next)?;
+        self.env.scene.consts.globals.push(folded)?;
+        Ok(())
+    }
+
+    /// Declares an input or output.
+    #[tactic(auto, unfolding(crate::specs::Globals::with_interface))]
+    pub fn declare_interface(&mut self, alloc: Global, next: Interface) -> Result<(), Memory>
+        ensures { OnOk result (self.new ≡ globals.with_interface next self.old) }
+    {
+        let number = number_behind(self.env.scene.interfaces.len())?;
+        self.declare(alloc, &next.name, Entry::Interface(number))?;
+        self.env.scene.interfaces.push(next)?;
+        Ok(())
+    }
+
+    /// Declares a function by its first head. The answer is its number.
+    #[tactic(auto, unfolding(crate::specs::Globals::with_head))]
+    pub fn declare_head(&mut self, alloc: Global, next: Prototype) -> Result<u32, Memory>
+        ensures { IfOk result (λ number. (number ≡ length self.old.scene.prototypes) × (self.new ≡ globals.with_head next self.old)) }
+    {
+        let number = number_behind(self.env.scene.prototypes.len())?;
+        self.declare(alloc, &next.name, Entry::Function(number))?;
+        self.env.scene.prototypes.push(next)?;
+        Ok(number)
+    }
+
+    /// Declares the size of the work group.
+    pub fn declare_size(&mut self, next: LocalSize) -> Result<(), Memory>
+        ensures { OnOk result (self.new ≡ record self.old { scene = record self.old.scene { sizes = self.old.scene.sizes ++ next ∷ [] } }) }
+    {
+        self.env.scene.sizes.push(next)
+    }
+
+    /// Declares the name of a parameter in the innermost scope.
+    pub fn declare_param(
+        &mut self,
+        alloc: Global,
+        number: u32,
+        fixed: bool,
+        name: &Text,
+    ) -> Result<(), Memory>
+        ensures { OnOk result (self.new ≡ record self.old { names = declare_in name.now (entry.Param number fixed) self.old.names }) }
+    {
+        self.declare(alloc, name, Entry::Param(number, fixed))
+    }
+
+    /// Begins the body of a function of these parameters: it has no local variables yet.
+    pub fn begin_body(&mut self, alloc: Global, params: Params) -> Outside
+        ensures is { self.new ≡ record self.old { scene = record self.old.scene { params = params; locals = []; consts = record self.old.scene.consts { locals = [] } } } }
+        ensures outside { result ≡ record { params = self.old.scene.params; locals = self.old.scene.locals; known = self.old.scene.consts.locals } }
+    {
+        Outside {
+            params: replace(&mut self.env.scene.params, params),
+            locals: replace(&mut self.env.scene.locals, List::new(alloc)),
+            known: replace(&mut self.env.scene.consts.locals, List::new(alloc)),
+        }
+    }
+
+    /// Ends the body of a function. The answer has the types of its local variables.
+    pub fn end_body(&mut self, outside: Outside) -> Types
+        ensures is { self.new ≡ record self.old { scene = record self.old.scene { params = outside.params; locals = outside.locals; consts = record self.old.scene.consts { locals = outside.known } } } }
+        ensures locals { result ≡ self.old.scene.locals }
+    {
+        let Outside {
+            params,
+            locals,
+            known,
+        } = outside;
+        self.env.scene.params = params;
+        self.env.scene.consts.locals = known;
+        replace(&mut self.env.scene.locals, locals)
     }
 
     /// Puts a struct behind the others, and its height beside it.

@@ -6,9 +6,7 @@ use Rattle.gsl_base.specs.declared.fault.Code.{Code}
 use Rattle.gsl_base.specs.declared.fault.Code.TheVariants.{E0503, E0504, E0507, E0510, E0512, E0513, E0514}
 use Rattle.gsl_base.specs.declared.stage.Stage.{Stage}
 use Rattle.gsl_base.specs.declared.stage.Stage.TheVariants.{Vertex, Fragment, Compute}
-use Rattle.gsl_overload.specs.Identity.{identical}
 use Rattle.gsl_types.specs.declared.ty.Ty.{Ty}
-use Rattle.gsl_types.specs.declared.ty.Ty.TheVariants as ty
 use Rattle.gsl_tree.specs.declared.stmt.Stmt.{Stmt}
 use Rattle.gsl_tree.specs.declared.stmt.Stmt.TheVariants as stmt
 use Rattle.gsl_tree.specs.Trees.{place_of}
@@ -19,6 +17,7 @@ use Rattle.gsl_typing.specs.Scene.{type_in}
 use Rattle.gsl_typing.specs.Conversions.{serves_as, as_type}
 use Rattle.gsl_typing.specs.Uses.{is_unread, is_bool, is_runtime, whole}
 use Rattle.gsl_check_stmt.specs.declared.within.Within.{Within}
+use Rattle.gsl_check_decl.specs.Declaring.{is_void}
 
 -- an expression that stands alone: its value is dropped, and may be `void`
 unfoldable pub alone : Scene → Part → Checked Part
@@ -48,9 +47,6 @@ is_fragment Compute = Bool.false
 
 unfoldable pub discarded : Stage → Place → Checked Stmt
 discarded stage place = unless place ((E0514, not (is_fragment stage)) ∷ []) (Ok stmt.Discard)
-
-abbrev pub is_void : Ty → Bool
-is_void t = identical t ty.Void
 
 -- `return` without a value, in a function of this result
 unfoldable pub returned : Ty → Place → Checked Stmt

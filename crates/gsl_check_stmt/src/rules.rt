@@ -7,7 +7,7 @@ ghost use Rattle.gsl_check_stmt.specs.Rules as spec;
 
 use crate::within::Within;
 use gsl_base::{Code, Place, Refusal, Stage};
-use gsl_overload::identical;
+use gsl_check_decl::is_void;
 use gsl_tree::{Expr, Stmt};
 use gsl_types::Ty;
 use gsl_typing::{Part, Scene, as_type, is_bool, is_runtime, is_unread, refuse, serves_as, whole};
@@ -70,12 +70,6 @@ pub fn discarded(stage: Stage, place: Place) -> Result<Stmt, Refusal>
         Stage::Fragment => Ok(Stmt::Discard),
         Stage::Vertex | Stage::Compute => Err(refuse(place, Code::E0514)),
     }
-}
-
-fn is_void(ty: &Ty) -> bool
-    ensures { result ≡ spec.is_void ty.now }
-{
-    identical(ty, &Ty::Void)
 }
 
 /// `return` without a value.

@@ -1,5 +1,5 @@
 -- Variables at the top of a unit: global ones, inputs and outputs (GLSL 4.50, 4.3).
-use Rattle.std.specs.Prelude.{Bool, true, false, not, ◌||◌, List, [], ◌∷◌, ◌++◌, map, length, Option, Some, None, is_none, unwrap_or, Ok, if◌then◌else◌}
+use Rattle.std.specs.Prelude.{Bool, true, false, not, ◌||◌, List, [], ◌∷◌, map, Option, Some, None, is_none, unwrap_or, Ok, if◌then◌else◌}
 use Rattle.gsl_base.specs.Checked.{Checked, ◌>>=◌}
 use Rattle.gsl_base.specs.declared.fault.Code.TheVariants.{E0403, E0404, E0504, E0507, E0510, E0601, E0602, E0702, E0703, E0706, E0908}
 use Rattle.gsl_base.specs.declared.stage.Stage.{Stage}
@@ -9,13 +9,10 @@ use Rattle.gsl_syntax.specs.declared.declaration.Declarator.{Declarator}
 use Rattle.gsl_syntax.specs.declared.declaration.Declarator.TheVariants as declarator_of
 use Rattle.gsl_types.specs.declared.ty.Ty.{Ty}
 use Rattle.gsl_values.specs.declared.value.Value.{Value}
-use Rattle.gsl_names.specs.declared.entry.Entry.TheVariants as entry
-use Rattle.gsl_names.specs.Scopes.{declare}
 use Rattle.gsl_tree.specs.declared.expr.Expr.{Expr}
 use Rattle.gsl_tree.specs.declared.folded.Folded.{Folded}
 use Rattle.gsl_tree.specs.declared.folded.Folded.TheVariants.{Known, NotConstant, Free}
 use Rattle.gsl_tree.specs.declared.unit.GlobalVar.{GlobalVar}
-use Rattle.gsl_tree.specs.declared.unit.Interface.{Interface}
 use Rattle.gsl_tree.specs.Constants.{constant_of}
 use Rattle.gsl_tree.specs.Shapes.{shape_of}
 use Rattle.gsl_typing.specs.declared.scene.Part.{Part}
@@ -30,6 +27,7 @@ use Rattle.gsl_check_expr.specs.Written.{declared, whole_type}
 use Rattle.gsl_check_expr.specs.Initialisers.{initial, begun_type}
 use Rattle.gsl_check_decl.specs.Declaring.{is_declared, is_reserved, may_be_had, is_high}
 use Rattle.gsl_check_decl.specs.Locals.{may_be_plain, begun_as}
+use Rattle.gsl_check_decl.specs.Globals.{with_global, with_interface}
 use Rattle.gsl_qualifiers.specs.declared.qualified.Role.{Role}
 use Rattle.gsl_qualifiers.specs.declared.qualified.Role.TheVariants.{Variable, Input, Output, Uniform, Buffer, Push, Member, Size, Nothing}
 use Rattle.gsl_qualifiers.specs.declared.qualified.Qualified.{Qualified}
@@ -44,16 +42,6 @@ all_declared [] env = Ok env
 all_declared (one ∷ more) env = one env >>= all_declared more
 
 -- ---- global variables
-
--- what is declared behind one more global variable, of which this is known
-unfoldable pub with_global : GlobalVar → Folded → Env → Env
-with_global g folded env = record env {
-  names = declare g.name (entry.Global (length env.scene.globals)) env.names;
-  scene = record env.scene {
-    globals = env.scene.globals ++ g ∷ [];
-    consts = record env.scene.consts { globals = env.scene.consts.globals ++ folded ∷ [] };
-  };
-}
 
 abbrev pub plain_global : Name → Ty → GlobalVar
 plain_global name t = record { name = name.text; ty = t; constant = false; init = None; value = None; place = name.place }
@@ -129,13 +117,6 @@ may_be_interface output q name t env = unless name.place (
     ∷ []
     )
     (Ok tt)
-
--- what is declared behind one more input or output
-unfoldable pub with_interface : Interface → Env → Env
-with_interface i env = record env {
-  names = declare i.name (entry.Interface (length env.scene.interfaces)) env.names;
-  scene = record env.scene { interfaces = env.scene.interfaces ++ i ∷ [] };
-}
 
 unfoldable pub interface : Bool → Qualified → Name → Ty → Declares
 interface output q name t env = may_be_interface output q name t env
