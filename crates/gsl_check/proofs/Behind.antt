@@ -1,11 +1,10 @@
 -- What is left behind the body of a function is what the definition says.
-use Rattle.std.proofs.Common.{◌≡◌, refl, sym, ap, ◌∙◌, ℕ, ◌+◌, ◌<◌, Bool, List, [], ◌∷◌, length, Option, Some, None, arith}
+use Rattle.std.proofs.Common.{◌≡◌, refl, ◌∙◌, ℕ, ◌+◌, ◌<◌, Bool, List, [], ◌∷◌, length, Option, Some, None, arith}
 use Rattle.gsl_syntax.specs.declared.statement.Stmt.{Stmt as Syntax}
 use Rattle.gsl_tree.specs.declared.stmt.Stmt.{Stmt}
 use Rattle.gsl_names.specs.declared.entry.Entry.TheVariants as entry
 use Rattle.gsl_names.specs.Scopes.{Scopes, outer}
 use Rattle.gsl_check_expr.specs.declared.env.Env.{Env}
-use Rattle.gsl_check_decl.specs.Steps.{ended}
 use Rattle.gsl_check_decl.proofs.Gathering.{Holds}
 use Rattle.gsl_check_stmt.specs.Statements.{statements}
 use Rattle.gsl_check_heads.specs.declared.parameter.Parameter.{Parameter}

@@ -1,5 +1,5 @@
 -- The statements of a body leave what stands around it as it was.
-use Rattle.std.proofs.Common.{◌≡◌, refl, sym, ap, subst, ◌∙◌, ℕ, ◌+◌, ◌<◌, Bool, true, false, cond, List, [], ◌∷◌, length, map, Option, Some, None, Ok, Err, arith}
+use Rattle.std.proofs.Common.{◌≡◌, refl, sym, subst, ◌<◌, true, false, cond, List, [], ◌∷◌, length, map, Option, Some, None, Ok, arith}
 use Rattle.std.specs.Prelude.{is_some}
 use Rattle.std.specs.List.{AllByRecursion}
 use Rattle.gsl_base.specs.Checked.{Checked, ◌>>=◌}
@@ -19,15 +19,15 @@ use Rattle.gsl_tree.specs.declared.stmt.Stmt.TheVariants as stmt
 use Rattle.gsl_typing.specs.declared.scene.Part.{Part}
 use Rattle.gsl_typing.specs.Scene.{type_in}
 use Rattle.gsl_check_expr.specs.declared.env.Env.{Env}
-use Rattle.gsl_check_expr.specs.Expressions.{expression, taken_expression}
+use Rattle.gsl_check_expr.specs.Expressions.{taken_expression}
 use Rattle.gsl_check_decl.specs.Steps.{Step, in_turn, opened, closed, scoped}
 use Rattle.gsl_check_decl.specs.Declarations.{declaration}
 use Rattle.gsl_check_decl.proofs.Gathering.{Holds, holds_then, holds_after}
 use Rattle.gsl_check_stmt.specs.declared.within.Within.{Within}
 use Rattle.gsl_check_stmt.specs.declared.gathered.Gathered.{Gathered}
-use Rattle.gsl_check_stmt.specs.Rules.{alone, unless_wrong, broken, continued, discarded, returned, returned_value}
+use Rattle.gsl_check_stmt.specs.Rules.{unless_wrong, broken, continued, discarded, returned, returned_value}
 use Rattle.gsl_check_stmt.specs.Switches.{nothing, with_stmt, misplaced_case, misplaced_default, switched}
-use Rattle.gsl_check_stmt.specs.Statements.{Answer, Case, Default, Head, Label, Test, plain, still, group, block, tested, tested_if, eval, eval_if, evaluated, stray_case, return_with, header, while_head, for_head, loop_of, loop_done, looped, behind_body, do_loop, if_head, if_done, branch, branches, labelled, stated, item, items, arms, switch_head, switch, by_parts, answer, statements, in_row, in_part, in_loop, in_switch, behind_header}
+use Rattle.gsl_check_stmt.specs.Statements.{Answer, Head, Test, still, group, block, tested, tested_if, eval, eval_if, evaluated, stray_case, return_with, header, while_head, for_head, loop_of, loop_done, looped, behind_body, do_loop, if_head, if_done, branch, branches, labelled, stated, item, items, arms, switch_head, switch, by_parts, answer, statements, in_row, in_part, in_loop, in_switch, behind_header}
 use Rattle.gsl_check.proofs.Keeping.{Keeps, Stays, Steady, after_one, after_all, same, then_keeps, so_holds, still_open, closes, turns, scoped_steady, declaration_steady}
 
 abbrev Kept : Env → Stmt × Env → Type 0

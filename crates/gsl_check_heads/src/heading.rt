@@ -3,7 +3,6 @@
 ghost use Rattle.std.specs.Prelude.{◌≡◌, ◌||◌, ◌&&◌, IfOk};
 ghost use Rattle.gsl_base.specs.Checked.{Gives, GivesBy};
 ghost use Rattle.gsl_makers.specs.Heights.{AreHeights};
-ghost use Rattle.gsl_tree.specs.declared.unit.Prototype.{Prototype as Prototyped};
 ghost use Rattle.gsl_check_heads.specs.Heads as spec;
 
 use crate::builtin::names_function;
