@@ -1,4 +1,3 @@
 pub mod Builtins
-pub mod Blocks
 pub mod Functions
 pub mod Units

@@ -25,7 +25,7 @@ use Rattle.gsl_qualifiers.specs.declared.qualified.Qualified.{Qualified}
 use Rattle.gsl_check.specs.Builtins.{built_in}
 use Rattle.gsl_qualifiers.specs.Qualifiers.{role_of_variables, role_of_block, role_alone, qualified}
 use Rattle.gsl_check_globals.specs.Variables.{Declares, all_declared, declarator}
-use Rattle.gsl_check.specs.Blocks.{block}
+use Rattle.gsl_check_blocks.specs.Blocks.{block}
 use Rattle.gsl_check.specs.Functions.{function}
 
 -- ---- declarations
