@@ -1,5 +1,5 @@
--- Members that are gathered from left to right have types that are there.
-use Rattle.std.proofs.Common.{◌≡◌, refl, sym, subst, Bool, true, false, not, ◌&&◌, List, [], ◌∷◌, ◌++◌, length, map, Ok, Err}
+-- Members that are gathered from left to right have types that are there, and plain ones.
+use Rattle.std.proofs.Common.{◌≡◌, ◌∙◌, refl, sym, subst, IsTrue, Bool, true, false, not, ◌&&◌, List, [], ◌∷◌, ◌++◌, length, map, Ok, Err}
 use Rattle.std.specs.List.{AllByRecursion}
 use Rattle.gsl_base.specs.Checked.{Checked, ◌>>=◌}
 use Rattle.gsl_base.specs.declared.fault.Code.{Code}
@@ -11,6 +11,7 @@ use Rattle.gsl_syntax.specs.declared.declaration.StructMember.{StructMember}
 use Rattle.gsl_types.specs.declared.ty.Member.{Member}
 use Rattle.gsl_types.specs.declared.ty.Ty.{Ty}
 use Rattle.gsl_types.specs.Known.{IsSound, sound}
+use Rattle.gsl_layout.specs.Extents.{plain}
 use Rattle.gsl_tree.specs.WellTyped.{is_plain}
 use Rattle.gsl_typing.specs.declared.scene.Scene.{Scene}
 use Rattle.gsl_typing.specs.Rows.{unless}
@@ -21,6 +22,7 @@ use Rattle.gsl_check_expr.specs.Written.{written_type, declared, whole_type}
 use Rattle.gsl_check_decl.specs.Declaring.{is_reserved, may_be_had, is_high}
 use Rattle.gsl_check_decl.specs.Structs.{has_member, may_be_member, with_member, with_name, with_names, with_line, with_lines}
 use Rattle.gsl_check_decl.proofs.Pushed.{all_pushed}
+use Rattle.gsl_check_decl.proofs.Plain.{same_plain}
 
 -- what is given has this property, if anything is given
 abbrev pub Holds : {A : Type 0} → (A → Type 0) → Checked A → Type 0
@@ -45,52 +47,59 @@ third_row P place false false true d e f g h is = tt
 third_row P place false false false true e f g h is = tt
 third_row P place false false false false e f g h is = is refl
 
-is_had : (scene : Scene) (t : Ty) → not (may_be_had scene t) ≡ false → IsSound (length scene.structs) t
+both_had : (a b : Bool) → not (a && b) ≡ false → (a ≡ true) × (b ≡ true)
+both_had true true e = (refl, refl)
+both_had true false e = (refl, sym e)
+both_had false true e = (sym e, refl)
+both_had false false e = (sym e, sym e)
+
+-- a type that may be had is there
+pub had_sound : (scene : Scene) (t : Ty) → not (may_be_had scene t) ≡ false → IsSound (length scene.structs) t
 unfolding may_be_had
-is_had scene t applies = by_cases (is_plain t) (sound (length scene.structs) t) applies where
-  by_cases : (a b : Bool) → not (a && b) ≡ false → b ≡ true
-  by_cases true true e = refl
-  by_cases true false e = sym e
-  by_cases false true e = refl
-  by_cases false false e = sym e
+had_sound scene t applies = (both_had (is_plain t) (sound (length scene.structs) t) applies).1
 
-may_be_sound : (scene : Scene) (name : Name) (t : Ty) (members : List Member) → Holds (λ _. IsSound (length scene.structs) t) (may_be_member scene name t members)
-unfolding may_be_member
-may_be_sound scene name t members =
-    third_row (IsSound (length scene.structs) t) name.place (has_member members name.text) (is_reserved name.text) (not (may_be_had scene t)) (is_high scene t)
-    E0403 E0404 E0510 E0908 (is_had scene t)
+-- and plain
+pub had_plain : (scene : Scene) (t : Ty) → not (may_be_had scene t) ≡ false → IsTrue (plain t)
+unfolding may_be_had
+had_plain scene t applies = sym (same_plain t) ∙ (both_had (is_plain t) (sound (length scene.structs) t) applies).0
 
-module _ (env : Env) where
-  abbrev pub AllSound : List Member → Type 0
-  AllSound members = AllByRecursion (λ (member : Member). IsSound (length env.scene.structs) member.ty) members
+-- what every type has that may be had, each member has
+module _ (env : Env) (P : Ty → Type 0) (had : (t : Ty) → not (may_be_had env.scene t) ≡ false → P t) where
+  abbrev pub AllHad : List Member → Type 0
+  AllHad members = AllByRecursion (λ (member : Member). P member.ty) members
 
-  member_sound : (name : Name) (t : Ty) (members : List Member) → AllSound members → Holds AllSound (with_member env.scene name t members)
-  member_sound name t members all =
-      holds_after (λ _. IsSound (length env.scene.structs) t) AllSound (may_be_member env.scene name t members) (λ _. Ok (members ++ record { name = name.text; ty = t } ∷ []))
-      (may_be_sound env.scene name t members)
-      (λ _ is. all_pushed (λ (member : Member). IsSound (length env.scene.structs) member.ty) members (record { name = name.text; ty = t }) all is)
+  may_be_had_by : (name : Name) (t : Ty) (members : List Member) → Holds (λ _. P t) (may_be_member env.scene name t members)
+  unfolding may_be_member
+  may_be_had_by name t members =
+      third_row (P t) name.place (has_member members name.text) (is_reserved name.text) (not (may_be_had env.scene t)) (is_high env.scene t)
+      E0403 E0404 E0510 E0908 (had t)
 
-  name_sound : (base : Written) (one : Declared) (members : List Member) → AllSound members → Holds AllSound (with_name env base one members)
+  member_had : (name : Name) (t : Ty) (members : List Member) → AllHad members → Holds AllHad (with_member env.scene name t members)
+  member_had name t members all =
+      holds_after (λ _. P t) AllHad (may_be_member env.scene name t members) (λ _. Ok (members ++ record { name = name.text; ty = t } ∷ []))
+      (may_be_had_by name t members)
+      (λ _ is. all_pushed (λ (member : Member). P member.ty) members (record { name = name.text; ty = t }) all is)
+
+  name_had : (base : Written) (one : Declared) (members : List Member) → AllHad members → Holds AllHad (with_name env base one members)
   unfolding with_name
-  name_sound base one members all =
-      holds_then AllSound (declared (map (bracket env) one.dims) base) (λ t. whole_type t >>= (λ whole. with_member env.scene one.name whole members))
-      (λ t. holds_then AllSound (whole_type t) (λ whole. with_member env.scene one.name whole members) (λ whole. member_sound one.name whole members all))
+  name_had base one members all =
+      holds_then AllHad (declared (map (bracket env) one.dims) base) (λ t. whole_type t >>= (λ whole. with_member env.scene one.name whole members))
+      (λ t. holds_then AllHad (whole_type t) (λ whole. with_member env.scene one.name whole members) (λ whole. member_had one.name whole members all))
 
-  names_sound : (base : Written) (names : List Declared) (members : List Member) → AllSound members → Holds AllSound (with_names env base names members)
-  names_sound base [] members all = all
-  names_sound base (one ∷ more) members all =
-      holds_after AllSound AllSound (with_name env base one members) (with_names env base more) (name_sound base one members all) (names_sound base more)
+  names_had : (base : Written) (names : List Declared) (members : List Member) → AllHad members → Holds AllHad (with_names env base names members)
+  names_had base [] members all = all
+  names_had base (one ∷ more) members all =
+      holds_after AllHad AllHad (with_name env base one members) (with_names env base more) (name_had base one members all) (names_had base more)
 
-  line_sound : (line : StructMember) (members : List Member) → AllSound members → Holds AllSound (with_line env line members)
+  line_had : (line : StructMember) (members : List Member) → AllHad members → Holds AllHad (with_line env line members)
   unfolding with_line
-  line_sound line members all =
-      holds_then AllSound (written_type env line.ty) (λ base. with_names env base line.names members) (λ base. names_sound base line.names members all)
+  line_had line members all =
+      holds_then AllHad (written_type env line.ty) (λ base. with_names env base line.names members) (λ base. names_had base line.names members all)
 
-  all_lines : (lines : List StructMember) (members : List Member) → AllSound members → Holds AllSound (with_lines env lines members)
+  all_lines : (lines : List StructMember) (members : List Member) → AllHad members → Holds AllHad (with_lines env lines members)
   all_lines [] members all = all
   all_lines (line ∷ lines) members all =
-      holds_after AllSound AllSound (with_line env line members) (with_lines env lines) (line_sound line members all) (all_lines lines)
+      holds_after AllHad AllHad (with_line env line members) (with_lines env lines) (line_had line members all) (all_lines lines)
 
-  pub lines_sound : (lines : List StructMember) (members : List Member) → with_lines env lines [] ≡ Ok members
-      → AllByRecursion (λ (member : Member). IsSound (length env.scene.structs) member.ty) members
-  lines_sound lines members is = subst (Holds AllSound) is (all_lines lines [] tt)
+  pub lines_had : (lines : List StructMember) (members : List Member) → with_lines env lines [] ≡ Ok members → AllByRecursion (λ (member : Member). P member.ty) members
+  lines_had lines members is = subst (Holds AllHad) is (all_lines lines [] tt)

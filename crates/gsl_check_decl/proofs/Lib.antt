@@ -1,5 +1,6 @@
 pub mod Longer
 pub mod Pushed
 pub mod Turns
+pub mod Plain
 pub mod Gathering
 pub mod Example

@@ -11,6 +11,8 @@ use Rattle.gsl_types.specs.Structs.{Meaning, struct_over, table_from, numbered, 
 use Rattle.gsl_types.proofs.Layers.{over_struct}
 use Rattle.gsl_types.proofs.Structs.{numbered_is, members_agree}
 use Rattle.gsl_types.proofs.Longer.{numbered_push}
+use Rattle.gsl_layout.specs.Extents.{ArePlain}
+use Rattle.gsl_layout.proofs.PlainStructs.{AllPlain, longer as still_plain}
 use Rattle.gsl_tree.specs.Weights.{height_of, height_meaning, highest}
 use Rattle.gsl_makers.specs.Heights.{AreHeights}
 use Rattle.gsl_check_decl.specs.Structs.{struct_of, leaves_together_told, height_over}
@@ -92,15 +94,16 @@ heights_behind structs s heights h known count are is k =
 -- ---- what is kept of structs and their heights
 
 abbrev pub AreKept : List StructType → List ℕ → Type 0
-AreKept structs heights = AreStructs structs × AreHeights structs heights × (length heights ≡ length structs)
+AreKept structs heights = AreStructs structs × ArePlain structs × AreHeights structs heights × (length heights ≡ length structs)
 
 -- behind one more of each
 pub kept_behind : (structs : List StructType) (s : StructType) (heights : List ℕ) (h : ℕ) (more : List StructType) (higher : List ℕ) → AreKept structs heights
-    → AreStructs (structs ++ s ∷ []) → h ≡ height_over structs s.members → more ≡ structs ++ s ∷ [] → higher ≡ heights ++ h ∷ [] → AreKept more higher
-kept_behind structs s heights h more higher kept known is longer_is higher_is =
-    let count : length (heights ++ h ∷ []) ≡ length (structs ++ s ∷ []) = omega (arith, length-append heights (h ∷ []), length-append structs (s ∷ []), kept.2) in
+    → AreStructs (structs ++ s ∷ []) → AllPlain s → h ≡ height_over structs s.members → more ≡ structs ++ s ∷ [] → higher ≡ heights ++ h ∷ [] → AreKept more higher
+kept_behind structs s heights h more higher kept known plain is longer_is higher_is =
+    let count : length (heights ++ h ∷ []) ≡ length (structs ++ s ∷ []) = omega (arith, length-append heights (h ∷ []), length-append structs (s ∷ []), kept.3) in
     subst (λ (m : List StructType). AreKept m higher) (sym longer_is)
-    (subst (λ (l : List ℕ). AreKept (structs ++ s ∷ []) l) (sym higher_is) (known, heights_behind structs s heights h known kept.2 kept.1 is, count))
+    (subst (λ (l : List ℕ). AreKept (structs ++ s ∷ []) l) (sym higher_is)
+    (known, still_plain structs s kept.1 plain, heights_behind structs s heights h known kept.3 kept.2 is, count))
 
 front_of : {X : Type 0} (xs : List X) (y : X) → take (length xs) (xs ++ y ∷ []) ≡ xs
 front_of [] y = refl

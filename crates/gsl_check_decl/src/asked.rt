@@ -2,6 +2,7 @@
 
 ghost use Rattle.std.specs.Prelude.{◌≡◌, IsTrue, length};
 ghost use Rattle.gsl_types.specs.Known.{IsSound, sound};
+ghost use Rattle.gsl_layout.specs.Extents.{plain};
 ghost use Rattle.gsl_tree.specs.WellTyped.{is_plain as is_plain_type};
 ghost use Rattle.gsl_makers.specs.Heights.{AreHeights};
 ghost use Rattle.gsl_check_decl.specs.Declaring as spec;
@@ -38,7 +39,8 @@ pub fn is_void(ty: &Ty) -> bool
 
 /// Whether no `void` and no runtime array stands in a type.
 fn is_plain(ty: &Ty) -> bool
-    ensures { result ≡ is_plain_type ty.now }
+    ensures is { result ≡ is_plain_type ty.now }
+    ensures laid { result ≡ plain ty.now }
 {
     match ty {
         Ty::Void | Ty::Runtime(_) => false,
@@ -65,6 +67,7 @@ fn is_sound(count: usize, ty: &Ty) -> bool
 pub fn may_be_had(scene: &Scene, ty: &Ty) -> bool
     ensures is { result ≡ spec.may_be_had scene.now ty.now }
     ensures sound { IsTrue result → IsSound (length scene.now.structs) ty.now }
+    ensures plain { IsTrue result → IsTrue (plain ty.now) }
 {
     is_plain(ty) && is_sound(scene.structs.len(), ty)
 }

@@ -1,9 +1,10 @@
 //! What is declared so far, with what is known of it.
 
-ghost use Rattle.std.specs.Prelude.{◌≡◌, ◌<◌, ◌++◌, ◌∷◌, [], length, IfOk, OnOk};
+ghost use Rattle.std.specs.Prelude.{◌≡◌, ◌<◌, ◌++◌, ◌∷◌, [], length, IfOk, IsTrue, OnOk};
 ghost use Rattle.std.specs.List.{AllByRecursion};
 ghost use Rattle.gsl_types.specs.Known.{AreStructs, IsSound};
 ghost use Rattle.gsl_types.specs.declared.ty.Member.{Member as OneMember};
+ghost use Rattle.gsl_layout.specs.Extents.{ArePlain, plain};
 ghost use Rattle.gsl_makers.specs.Heights.{AreHeights};
 ghost use Rattle.gsl_names.specs.declared.entry.Entry.TheVariants as entry;
 ghost use Rattle.gsl_names.specs.Scopes.{declare as declare_in};
@@ -15,14 +16,16 @@ ghost use Rattle.gsl_check_decl.specs.Globals as globals;
 use gsl_base::{List, Memory, Text};
 use gsl_check_expr::Env;
 use gsl_names::{Entry, Names};
-use gsl_tree::{Folded, Foldeds, GlobalVar, Interface, LocalSize, Params, Prototype};
+use gsl_tree::{
+    Block, BlockMember, Folded, Foldeds, GlobalVar, Interface, LocalSize, Params, Prototype,
+};
 use gsl_types::{Members, StructType, Structs, Ty, Types, next_struct};
 use std::alloc::Global;
 use std::marker::Model;
 use std::mem::replace;
 
-/// What an expression or a statement is checked in, whose structs are well formed and have their heights beside them. Contracts see
-/// the `Env`.
+/// What an expression or a statement is checked in, whose structs are well formed, have plain members, and have their heights beside them.
+/// Contracts see the `Env`.
 #[derive(Drop)]
 pub struct SoundEnv {
     env: Env,
@@ -31,6 +34,7 @@ pub struct SoundEnv {
 impl Model for SoundEnv {
     ghost use Rattle.std.specs.Prelude.{◌≡◌, length};
     ghost use Rattle.gsl_types.specs.Known.{AreStructs};
+    ghost use Rattle.gsl_layout.specs.Extents.{ArePlain};
     ghost use Rattle.gsl_makers.specs.Heights.{AreHeights};
     ghost use Rattle.gsl_check_expr.specs.declared.env.Env.{Env as Seen};
     ghost use Rattle.gsl_check_expr.specs.contracts.env.Env.{the_row};
@@ -41,7 +45,7 @@ impl Model for SoundEnv {
 
     ghost view = { λ s. s.env };
 
-    ghost invariant = { λ s. AreStructs s.env.scene.structs × AreHeights s.env.scene.structs s.env.heights × (length s.env.heights ≡ length s.env.scene.structs) };
+    ghost invariant = { λ s. AreStructs s.env.scene.structs × ArePlain s.env.scene.structs × AreHeights s.env.scene.structs s.env.heights × (length s.env.heights ≡ length s.env.scene.structs) };
 }
 
 /// What stands around the body of a function: the parameters and local variables before it, and what is known of these.
@@ -63,9 +67,10 @@ pub fn number_behind(count: usize) -> Result<u32, Memory>
 }
 
 impl SoundEnv {
-    /// What is declared, where its structs are well formed and have their heights beside them.
+    /// What is declared, where its structs are well formed, have plain members, and have their heights beside them.
     pub fn new(env: Env) -> SoundEnv
         requires known { AreStructs env.scene.structs }
+        requires plain { ArePlain env.scene.structs }
         requires heights { AreHeights env.scene.structs env.heights }
         requires count { length env.heights ≡ length env.scene.structs }
         ensures { result ≡ env }
@@ -77,6 +82,7 @@ impl SoundEnv {
     pub fn get(&self) -> &Env
         ensures is { result.now ≡ self.now }
         ensures known { AreStructs result.now.scene.structs }
+        ensures plain { ArePlain result.now.scene.structs }
         ensures heights { AreHeights result.now.scene.structs result.now.heights }
     {
         &self.env
@@ -86,6 +92,7 @@ impl SoundEnv {
     pub fn into_env(self) -> Env
         ensures is { result ≡ self }
         ensures known { AreStructs result.scene.structs }
+        ensures plain { ArePlain result.scene.structs }
         ensures heights { AreHeights result.scene.structs result.heights }
     {
         let SoundEnv { env } = self;
@@ -224,9 +231,23 @@ impl SoundEnv {
         replace(&mut self.env.scene.locals, locals)
     }
 
+    /// Declares a block, and its instance name or the names of its members.
+    #[tactic(auto, unfolding(crate::specs::Globals::with_block))]
+    pub fn declare_block(&mut self, alloc: Global, next: Block) -> Result<(), Memory>
+        ensures { OnOk result (self.new ≡ globals.with_block next self.old) }
+    {
+        let number = number_behind(self.env.scene.blocks.len())?;
+        self.declare(alloc, &next.name, Entry::Block(number))?;
+        let names = replace(&mut self.env.names, Names::new(alloc));
+        self.env.names = inner_names(alloc, names, number, &next)?;
+        self.env.scene.blocks.push(next)?;
+        Ok(())
+    }
+
     /// Puts a struct behind the others, and its height beside it.
     fn push_struct(&mut self, next: StructType, height: u32) -> Result<(), Memory>
         requires known { AreStructs (self.old.scene.structs ++ next ∷ []) }
+        requires plain { AllByRecursion (λ (member : OneMember). IsTrue (plain member.ty)) next.members }
         requires height { height ≡ structs.height_over self.old.scene.structs next.members }
         ensures { OnOk result (self.new ≡ record self.old { scene = record self.old.scene { structs = self.old.scene.structs ++ next ∷ [] }; heights = self.old.heights ++ height ∷ [] }) }
     {
@@ -252,6 +273,7 @@ impl SoundEnv {
     ) -> Result<u32, Memory>
         requires some { 0 < length members }
         requires sound { AllByRecursion (λ (member : OneMember). IsSound (length self.old.scene.structs) member.ty) members }
+        requires plain { AllByRecursion (λ (member : OneMember). IsTrue (plain member.ty)) members }
         requires height { height ≡ structs.height_over self.old.scene.structs members }
         ensures { IfOk result (λ number. (number ≡ length self.old.scene.structs) × (self.new ≡ structs.with_struct name.now members self.old)) }
     {
@@ -261,6 +283,37 @@ impl SoundEnv {
         self.push_struct(next, height)?;
         self.declare(alloc, name, Entry::Struct(number))?;
         Ok(number)
+    }
+}
+
+/// Names with those of a block's members.
+fn members_named(
+    alloc: Global,
+    block: u32,
+    members: &[BlockMember],
+    names: Names,
+) -> Result<Names, Memory>
+    ensures { IfOk result (λ all. all ≡ globals.members_named block 0 members.now names) }
+{
+    let mut names = names;
+    for k in 0..members.len() {
+        let number = number_behind(k)?;
+        let name = Text::from_str(alloc, members[k].name.as_str())?;
+        names = names.with(alloc, name, Entry::Member(block, number))?;
+    }
+    Ok(names)
+}
+
+/// Names with those that a block declares besides its own.
+fn inner_names(alloc: Global, names: Names, number: u32, block: &Block) -> Result<Names, Memory>
+    ensures { IfOk result (λ all. all ≡ globals.inner_names number block.now block.now.instance names) }
+{
+    match &block.instance {
+        None => members_named(alloc, number, block.members.as_slice(), names),
+        Some(instance) => {
+            let name = Text::from_str(alloc, instance.as_str())?;
+            names.with(alloc, name, Entry::Instance(number))
+        }
     }
 }
 

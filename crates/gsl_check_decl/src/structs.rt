@@ -1,10 +1,11 @@
 //! Structs.
 
-ghost use Rattle.std.specs.Prelude.{◌≡◌, ◌<◌, [], IfOk, length};
+ghost use Rattle.std.specs.Prelude.{◌≡◌, ◌<◌, [], IfOk, IsTrue, length};
 ghost use Rattle.std.specs.List.{AllByRecursion};
 ghost use Rattle.gsl_base.specs.Checked.{Gives, GivesBy};
 ghost use Rattle.gsl_types.specs.Known.{AreStructs, IsSound};
 ghost use Rattle.gsl_types.specs.declared.ty.Member.{Member as OneMember};
+ghost use Rattle.gsl_layout.specs.Extents.{plain};
 ghost use Rattle.gsl_makers.specs.Heights.{AreHeights};
 ghost use Rattle.gsl_check_decl.specs.Declaring as declaring;
 ghost use Rattle.gsl_check_decl.specs.Structs as spec;
@@ -33,6 +34,7 @@ pub fn may_be_member(env: &Env, name: &Name, ty: &Ty, members: &[Member]) -> Res
     requires heights { AreHeights env.now.scene.structs env.now.heights }
     ensures gives { Gives result (spec.may_be_member env.now.scene name.now ty.now members.now) }
     ensures sound { IfOk result (λ _. IsSound (length env.now.scene.structs) ty.now) }
+    ensures plain { IfOk result (λ _. IsTrue (plain ty.now)) }
 {
     if has_member(members, &name.text) {
         return Err(refuse(name.place, Code::E0403));
@@ -158,6 +160,7 @@ pub fn members_of(alloc: Global, env: &Env, lines: &[StructMember]) -> Result<Me
     requires heights { AreHeights env.now.scene.structs env.now.heights }
     ensures gives { Gives result (spec.with_lines env.now lines.now []) }
     ensures sound { IfOk result (λ members. AllByRecursion (λ (member : OneMember). IsSound (length env.now.scene.structs) member.ty) members) }
+    ensures plain { IfOk result (λ members. AllByRecursion (λ (member : OneMember). IsTrue (plain member.ty)) members) }
 {
     let mut members = List::new(alloc);
     push_lines(alloc, env, lines, &mut members)?;

@@ -10,6 +10,7 @@ invariant_of-self-in-Ok c =
     let env = c.self.inside.env in
     kept_behind env.scene.structs c.args.next env.heights c.args.height c.push-2.new.self c.push.new.self c.self.invariant
     (subst (λ (e : Env). AreStructs (e.scene.structs ++ c.args.next ∷ [])) (sym c.self.view_is) c.requires.known)
+    c.requires.plain
     (subst (λ (e : Env). c.args.height ≡ height_over e.scene.structs c.args.next.members) (sym c.self.view_is) c.requires.height)
     c.in-Ok.ensures.ok
     c.in_ok-push.ensures.ok

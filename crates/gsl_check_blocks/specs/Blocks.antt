@@ -1,5 +1,5 @@
 -- Blocks and their members (GLSL 4.50, 4.3.9 and 4.4.5; GL_KHR_vulkan_glsl).
-use Rattle.std.specs.Prelude.{ℕ, ◌+◌, Bool, true, false, not, ◌&&◌, ◌||◌, nat_le, nat_lt, List, [], ◌∷◌, ◌++◌, map, length, Option, Some, None, is_none, is_some, unwrap_or, Ok}
+use Rattle.std.specs.Prelude.{ℕ, Bool, true, false, not, ◌&&◌, ◌||◌, nat_le, nat_lt, List, [], ◌∷◌, ◌++◌, map, length, Option, Some, None, is_none, is_some, unwrap_or, Ok}
 use Rattle.std.specs.List.{list_any}
 use Rattle.std.specs.Str.{bytes_eq}
 use Rattle.gsl_base.specs.Checked.{Checked, ◌>>=◌}
@@ -12,8 +12,6 @@ use Rattle.gsl_syntax.specs.declared.declaration.Qual.{Qual}
 use Rattle.gsl_types.specs.declared.ty.StructType.{StructType}
 use Rattle.gsl_types.specs.declared.ty.Ty.{Ty}
 use Rattle.gsl_types.specs.declared.ty.Ty.TheVariants as ty
-use Rattle.gsl_names.specs.declared.entry.Entry.TheVariants as entry
-use Rattle.gsl_names.specs.Scopes.{Scopes, declare}
 use Rattle.gsl_layout.specs.Layout.{need}
 use Rattle.gsl_layout.specs.Extents.{most_bytes}
 use Rattle.gsl_layout.specs.Measures.{misplaced_in}
@@ -32,24 +30,12 @@ use Rattle.gsl_check_expr.specs.declared.writing.Written.TheVariants.{Whole, Ope
 use Rattle.gsl_check_expr.specs.Expressions.{bracket}
 use Rattle.gsl_check_expr.specs.Written.{written_type, declared}
 use Rattle.gsl_check_decl.specs.Declaring.{is_declared, is_reserved, may_be_had, is_high}
+use Rattle.gsl_check_decl.specs.Globals.{with_block}
 use Rattle.gsl_qualifiers.specs.declared.qualified.Role.{Role}
 use Rattle.gsl_qualifiers.specs.declared.qualified.Role.TheVariants.{Variable, Input, Output, Uniform, Buffer, Push, Member, Size, Nothing}
 use Rattle.gsl_qualifiers.specs.declared.qualified.Qualified.{Qualified}
 use Rattle.gsl_qualifiers.specs.Qualifiers.{qualified}
-use Rattle.gsl_check_globals.specs.Variables.{Declares}
-
--- ---- what stands around a member
-
--- A block as far as it stands before its members.
-pub record Frame : Type 0 where
-  -- whether it is a buffer block
-  pub buffer : Bool
-  -- whether its members are names of their own, since it has no instance name
-  pub bare : Bool
-  -- whether it is laid out by std140
-  pub std140 : Bool
-  -- what its qualifiers say
-  pub said : Qualified
+use Rattle.gsl_check_blocks.specs.declared.frame.Frame.{Frame}
 
 -- ---- one member
 
@@ -137,17 +123,25 @@ abbrev pub is_end : {A : Type 0} → List A → Bool
 is_end [] = true
 is_end (x ∷ xs) = false
 
--- the members of one line, behind those before it; `last` says whether no line follows
+-- the members with one more, where this type stands before its name
+unfoldable pub with_name : Frame → Bool → Env → Qualified → Written → Declared → List BlockMember → Checked (List BlockMember)
+with_name frame last env q base one members = declared (map (bracket env) one.dims) base >>= (λ t. with_member frame last env q one.name t members)
+
+-- the members of one type, behind those before it; `last` says whether no line follows
 abbrev pub with_names : Frame → Bool → Env → Qualified → Written → List Declared → List BlockMember → Checked (List BlockMember)
 with_names frame last env q base [] members = Ok members
-with_names frame last env q base (one ∷ more) members = declared (map (bracket env) one.dims) base
-    >>= (λ t. with_member frame (last && is_end more) env q one.name t members >>= with_names frame last env q base more)
+with_names frame last env q base (one ∷ more) members =
+    with_name frame (last && is_end more) env q base one members >>= with_names frame last env q base more
 
--- the members of all lines: qualifiers, type and names of each
+-- the members of one line: its qualifiers, its type and its names
+unfoldable pub with_line : Frame → Bool → Env → MemberLine → List BlockMember → Checked (List BlockMember)
+with_line frame last env line members = qualified env (Member frame.buffer) line.quals
+    >>= (λ q. written_type env line.ty >>= (λ base. with_names frame last env q base line.names members))
+
+-- the members of all lines
 abbrev pub with_lines : Frame → Env → List MemberLine → List BlockMember → Checked (List BlockMember)
 with_lines frame env [] members = Ok members
-with_lines frame env (line ∷ lines) members = qualified env (Member frame.buffer) line.quals
-    >>= (λ q. written_type env line.ty >>= (λ base. with_names frame (is_end lines) env q base line.names members >>= with_lines frame env lines))
+with_lines frame env (line ∷ lines) members = with_line frame (is_end lines) env line members >>= with_lines frame env lines
 
 -- ---- the block
 
@@ -203,19 +197,22 @@ is_block_taken env name instance members =
 abbrev pub with_need : List StructType → Block → Block
 with_need structs block = record block { need = need (layout_of structs block) }
 
+-- a block whose `need` is not known yet
+abbrev pub draft_of : BlockKind → Qualified → Name → Option Name → List BlockMember → Block
+draft_of k q name instance members = record {
+  name = name.text;
+  instance = text_of instance;
+  kind = k;
+  set = unwrap_or q.set 0;
+  binding = unwrap_or q.binding 0;
+  std140 = unwrap_or q.std140 (is_uniform k);
+  members = members;
+  need = 0;
+  place = name.place;
+}
+
 unfoldable pub block_of : BlockKind → Qualified → Name → Option Name → List BlockMember → List StructType → Block
-block_of k q name instance members structs =
-    with_need structs (record {
-      name = name.text;
-      instance = text_of instance;
-      kind = k;
-      set = unwrap_or q.set 0;
-      binding = unwrap_or q.binding 0;
-      std140 = unwrap_or q.std140 (is_uniform k);
-      members = members;
-      need = 0;
-      place = name.place;
-    })
+block_of k q name instance members structs = with_need structs (draft_of k q name instance members)
 
 -- a block may be declared
 unfoldable pub may_be_block : Env → Qualified → Name → Option Name → Block → Checked (Unit {0})
@@ -231,30 +228,13 @@ may_be_block env q name instance block = unless name.place (
     )
     (Ok tt)
 
--- the names of members, numbered from one on
-abbrev pub members_named : ℕ → ℕ → List BlockMember → Scopes → Scopes
-members_named block number [] names = names
-members_named block number (member ∷ members) names = members_named block (number + 1) members (declare member.name (entry.Member block number) names)
-
--- the names that a block declares besides its own
-abbrev pub inner_names : ℕ → Block → Option (List ℕ) → Scopes → Scopes
-inner_names number block None names = members_named number 0 block.members names
-inner_names number block (Some instance) names = declare instance (entry.Instance number) names
-
--- what is declared behind one more block
-unfoldable pub with_block : Block → Env → Env
-with_block block env = record env {
-  names = inner_names (length env.scene.blocks) block block.instance (declare block.name (entry.Block (length env.scene.blocks)) env.names);
-  scene = record env.scene { blocks = env.scene.blocks ++ block ∷ [] };
-}
-
 -- the block behind its members
-unfoldable pub block_with : BlockKind → Qualified → Name → Option Name → List BlockMember → Declares
+unfoldable pub block_with : BlockKind → Qualified → Name → Option Name → List BlockMember → Env → Checked Env
 block_with k q name instance members env = may_be_instance env instance
     >>= (λ _. may_be_block env q name instance (block_of k q name instance members env.scene.structs)
     >>= (λ _. Ok (with_block (block_of k q name instance members env.scene.structs) env)))
 
 -- A block: its qualifiers, its members, its instance name, and then the block.
-unfoldable pub block : Role → List Qual → Name → List MemberLine → Option Name → Declares
+unfoldable pub block : Role → List Qual → Name → List MemberLine → Option Name → Env → Checked Env
 block role quals name lines instance env = qualified env role quals
     >>= (λ q. with_lines (frame_of (kind_of role) instance q) env lines [] >>= (λ members. block_with (kind_of role) q name instance members env))

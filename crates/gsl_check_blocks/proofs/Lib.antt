@@ -1,0 +1,4 @@
+pub mod MemberTypes
+pub mod Behind
+pub mod Flags
+pub mod Drafts
