@@ -440,7 +440,8 @@ fn row_of(op: u16) -> usize
     ensures known { result ≤ 86 }
 {
     if op < 256 {
-        usize::from(ROWS[usize::from(op)])
+        let rows = &ROWS;
+        usize::from(rows[usize::from(op)])
     } else {
         0
     }
@@ -454,5 +455,6 @@ pub fn form_of(op: u16) -> Option<Form>
     if row == 0 {
         return None;
     }
-    Some(TABLE[row - 1].form)
+    let rows = &TABLE;
+    Some(rows[row - 1].form)
 }
