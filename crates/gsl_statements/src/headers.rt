@@ -89,3 +89,11 @@ pub fn loop_done(
     let s = loop_of(place, test, step, body)?;
     Ok(behind_header(alloc, first, s)?)
 }
+
+/// Gives up a header, part by part.
+pub fn give_up(head: Head) {
+    let Head { first, test, step } = head;
+    drop(first);
+    drop(test);
+    drop(step);
+}
