@@ -10,6 +10,4 @@ mod singles;
 mod switched;
 mod walking;
 
-pub use headers::{for_head, loop_done};
-pub use switched::arms;
-pub use walking::statement;
+pub use walking::{statement, statements};

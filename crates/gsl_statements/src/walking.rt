@@ -163,7 +163,14 @@ fn switch(
     ensures { GivesBy (λ t. (t, env.new)) result (spec.switch place e.now (map (spec.answer returns.now) all.now) within env.old) }
 {
     let selector = switch_head(alloc, env, e)?;
-    let g = items(alloc, env, all, &selector.expr.ty, returns, in_switch(within))?;
+    let g = items(
+        alloc,
+        env,
+        all,
+        &selector.expr.ty,
+        returns,
+        in_switch(within),
+    )?;
     arms(alloc, env, place, selector, g)
 }
 
