@@ -41,9 +41,9 @@ impl Model for Test {
 /// The header of a loop: what stands first, the test, and the step. Contracts see the triple.
 #[derive(Drop)]
 pub struct Head {
-    first: Option<Stmt>,
-    test: Option<Test>,
-    step: Option<Expr>,
+    pub first: Option<Stmt>,
+    pub test: Option<Test>,
+    pub step: Option<Expr>,
 }
 
 impl Model for Head {
