@@ -13,7 +13,7 @@ use Rattle.gsl_qualifiers.specs.Qualifiers.{role_of_variables, role_of_block}
 use Rattle.gsl_check_globals.specs.Variables.{Declares}
 use Rattle.gsl_check_globals.specs.Globals.{variables, struct_and_variables, alone}
 use Rattle.gsl_check_heads.specs.Builtins.{begun_in}
-use Rattle.gsl_check.specs.Blocks.{block}
+use Rattle.gsl_check_blocks.specs.Blocks.{block}
 use Rattle.gsl_check.specs.Functions.{function}
 
 -- ---- each declaration

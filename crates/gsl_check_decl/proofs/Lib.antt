@@ -3,3 +3,4 @@ pub mod Pushed
 pub mod Turns
 pub mod Gathering
 pub mod Example
+pub mod Scoping
