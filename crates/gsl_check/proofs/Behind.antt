@@ -57,15 +57,18 @@ module _ (h : Headed) (some : 0 < length h.env.names) where
       so_holds (λ (done : List Stmt × Env). Keeps (entered h) done.1) (λ (done : List Stmt × Env). left_by (outside_of h.env) done.1 ≡ left h.env done.1)
       (statements h.result body nowhere (entered h)) (statements_keep h.result body nowhere (entered h) is_open) (λ done kept. behind done.1 kept)
 
-  abbrev made : Name → List Stmt → List Ty → Env → Checked (Function × Env)
-  made name all locals behind = Ok (record { prototype = h.number; locals = locals; body = all; place = name.place }, behind)
+  abbrev made : Name → List Stmt → List Ty → Function
+  made name all locals = record { prototype = h.number; locals = locals; body = all; place = name.place }
+
+  abbrev given : Function → Env → Checked (Function × Env)
+  given f last = Ok (f, last)
 
   -- the function of a body, where what stood around it is put back behind it
-  pub bodied_is : (name : Name) (body : List Syntax) (outside : Outside) (all : List Stmt) (after last : Env) (locals : List Ty) → outside ≡ outside_of h.env
-      → statements h.result body nowhere (entered h) ≡ Ok (all, after) → last ≡ left_by outside after → locals ≡ after.scene.locals → bodied h name body ≡ made name all locals last
-  bodied_is name body outside all after last locals around is ends types =
+  pub bodied_is : (name : Name) (body : List Syntax) (outside : Outside) (all : List Stmt) (after last : Env) (f : Function) → outside ≡ outside_of h.env
+      → statements h.result body nowhere (entered h) ≡ Ok (all, after) → last ≡ left_by outside after → f ≡ made name all after.scene.locals → bodied h name body ≡ given f last
+  bodied_is name body outside all after last f around is ends made_is =
       let left_at : left_by (outside_of h.env) after ≡ left h.env after =
           subst (λ (r : Checked (List Stmt × Env)). Holds (λ (done : List Stmt × Env). left_by (outside_of h.env) done.1 ≡ left h.env done.1) r) is (left_behind body) in
-      ap (λ (r : Checked (List Stmt × Env)). r >>= (λ done. made name done.0 done.1.scene.locals (left h.env done.1))) is
-      ∙ ap (λ (e : Env). made name all after.scene.locals e) (sym (ends ∙ ap (λ (o : Outside). left_by o after) around ∙ left_at))
-      ∙ ap (λ (ts : List Ty). made name all ts last) (sym types)
+      ap (λ (r : Checked (List Stmt × Env)). r >>= (λ done. given (made name done.0 done.1.scene.locals) (left h.env done.1))) is
+      ∙ ap (λ (e : Env). given (made name all after.scene.locals) e) (sym (ends ∙ ap (λ (o : Outside). left_by o after) around ∙ left_at))
+      ∙ ap (λ (g : Function). given g last) (sym made_is)

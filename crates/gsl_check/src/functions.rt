@@ -2,16 +2,16 @@
 
 ghost use Rattle.std.specs.Prelude.{◌≡◌};
 ghost use Rattle.gsl_base.specs.Checked.{GivesBy};
-ghost use Rattle.gsl_check_heads.specs.Heads.{head_in};
+ghost use Rattle.gsl_check_heads.specs.Heads.{head_in, left_by};
 ghost use Rattle.gsl_check.specs.Functions as spec;
 
 use gsl_base::Refusal;
-use gsl_check_decl::SoundEnv;
+use gsl_check_decl::{Outside, SoundEnv};
 use gsl_check_heads::{Head, enter, header, leave};
 use gsl_check_stmt::Within;
 use gsl_statements::statements;
 use gsl_syntax::{Body, Function as FunctionTree, Name, Stmt as Syntax};
-use gsl_tree::{Function, Functions};
+use gsl_tree::{Function, Functions, Stmts};
 use std::alloc::Global;
 
 /// A function or a prototype. One with a body is put behind the functions before it.
@@ -50,6 +50,7 @@ fn with_body(
 }
 
 /// The function of a head and a body. What the body declares is gone behind it, but for the structs.
+#[tactic(auto, using(crate::proofs::Behind::bodied_is))]
 fn bodied(
     alloc: Global,
     head: &Head,
@@ -60,14 +61,29 @@ fn bodied(
     ensures { GivesBy (λ f. (f, env.new)) result (spec.bodied (head_in head.now env.old) name.now body.now) }
 {
     let outside = enter(alloc, head, env)?;
-    let body = statements(alloc, env, body, &head.result, nowhere())?;
+    let all = statements(alloc, env, body, &head.result, nowhere())?;
+    Ok(behind_body(alloc, head, name, outside, all, env))
+}
+
+/// The function of a head and the statements of its body, whose scope ends.
+fn behind_body(
+    alloc: Global,
+    head: &Head,
+    name: &Name,
+    outside: Outside,
+    body: Stmts,
+    env: &mut SoundEnv,
+) -> Function
+    ensures left { env.new ≡ left_by outside env.old }
+    ensures is { result ≡ record { prototype = head.now.number; locals = env.old.scene.locals; body = body; place = name.now.place } }
+{
     let locals = leave(alloc, outside, env);
-    Ok(Function {
+    Function {
         prototype: head.number,
         locals,
         body,
         place: name.place,
-    })
+    }
 }
 
 /// In no loop, no `switch` and no other statement.
