@@ -1,4 +1,4 @@
--- Qualifiers with what they say or their first fault, so that a wrong definition is seen.
+-- Qualifiers and units with what they say or their first fault, so that a wrong definition is seen.
 use Rattle.std.proofs.Common.{◌≡◌, refl, ℕ, true, false, List, [], ◌∷◌, Some, None, Ok}
 use Rattle.std.specs.Prelude.{codes}
 use Rattle.gsl_base.specs.declared.fault.Place.{Place}
@@ -8,6 +8,8 @@ use Rattle.gsl_base.specs.declared.stage.Stage.TheVariants.{Vertex, Fragment, Co
 use Rattle.gsl_syntax.specs.declared.declaration.Lay.{Lay}
 use Rattle.gsl_syntax.specs.declared.declaration.Lay.TheVariants as lay
 use Rattle.gsl_syntax.specs.declared.declaration.Qual.TheVariants as qual
+use Rattle.gsl_syntax.specs.declared.declaration.Decl.TheVariants as decl
+use Rattle.gsl_syntax.specs.declared.statement.Global.TheVariants as global
 use Rattle.gsl_values.specs.declared.function.Builtin.TheVariants as f
 use Rattle.gsl_names.specs.declared.entry.Entry.TheVariants as entry
 use Rattle.gsl_names.specs.Scopes.{find}
@@ -16,7 +18,8 @@ use Rattle.gsl_check_expr.specs.declared.env.Env.{Env}
 use Rattle.gsl_qualifiers.specs.declared.qualified.Role.TheVariants.{Variable, Input, Buffer, Push, Member, Size, Nothing}
 use Rattle.gsl_check_heads.specs.Builtins.{names_function}
 use Rattle.gsl_qualifiers.specs.Qualifiers.{role_of_variables, role_of_block, role_alone, qualified, flag, unsaid}
-use Rattle.gsl_check.specs.Units.{begun}
+use Rattle.gsl_check_globals.specs.Globals.{alone}
+use Rattle.gsl_check.specs.Units.{begun, declaration, checked, unit_of}
 
 -- at a line
 abbrev at : ℕ → Place
@@ -109,3 +112,18 @@ binding_of_push_constants = refl
 push_constants_in_a_buffer : qualified (env Vertex) Buffer (qual.Layout (at 1) (said 2 (codes "push_constant") ∷ []) ∷ []) ≡ fault (at 2) E0704
 unfolding qualified flag
 push_constants_in_a_buffer = refl
+
+-- Units -----------------------------------------------------------------------------------------------------------
+
+nothing : checked Vertex [] ≡ Ok (unit_of (begun Vertex))
+unfolding checked
+nothing = refl
+
+semicolons : checked Fragment (global.Empty (at 1) ∷ global.Empty (at 2) ∷ []) ≡ Ok (unit_of (begun Fragment))
+unfolding checked
+semicolons = refl
+
+-- `; in; out;` outside of compute shaders
+first_fault : checked Vertex (global.Empty (at 1) ∷ global.Decl (decl.Quals (qual.In (at 2) ∷ [])) ∷ global.Decl (decl.Quals (qual.Out (at 3) ∷ [])) ∷ []) ≡ fault (at 2) E0701
+unfolding checked declaration alone role_alone qualified flag
+first_fault = refl

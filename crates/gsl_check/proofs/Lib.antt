@@ -1,4 +1,4 @@
 mod Example
 mod Keeping
 mod Bodies
-mod Behind
+pub mod Behind

@@ -4,3 +4,4 @@ pub mod Turns
 pub mod Plain
 pub mod Gathering
 pub mod Example
+pub mod Scoping

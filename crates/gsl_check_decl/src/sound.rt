@@ -24,15 +24,15 @@ use std::alloc::Global;
 use std::marker::Model;
 use std::mem::replace;
 
-/// What an expression or a statement is checked in, whose structs are well formed, have plain members, and have their heights beside them.
-/// Contracts see the `Env`.
+/// What an expression or a statement is checked in: a scope is open, and the structs are well formed, have plain members, and have their
+/// heights beside them. Contracts see the `Env`.
 #[derive(Drop)]
 pub struct SoundEnv {
     env: Env,
 }
 
 impl Model for SoundEnv {
-    ghost use Rattle.std.specs.Prelude.{◌≡◌, length};
+    ghost use Rattle.std.specs.Prelude.{◌≡◌, ◌<◌, length};
     ghost use Rattle.gsl_types.specs.Known.{AreStructs};
     ghost use Rattle.gsl_layout.specs.Extents.{ArePlain};
     ghost use Rattle.gsl_makers.specs.Heights.{AreHeights};
@@ -45,7 +45,7 @@ impl Model for SoundEnv {
 
     ghost view = { λ s. s.env };
 
-    ghost invariant = { λ s. AreStructs s.env.scene.structs × ArePlain s.env.scene.structs × AreHeights s.env.scene.structs s.env.heights × (length s.env.heights ≡ length s.env.scene.structs) };
+    ghost invariant = { λ s. AreStructs s.env.scene.structs × ArePlain s.env.scene.structs × AreHeights s.env.scene.structs s.env.heights × (length s.env.heights ≡ length s.env.scene.structs) × (0 < length s.env.names) };
 }
 
 /// What stands around the body of a function: the parameters and local variables before it, and what is known of these.
@@ -67,12 +67,13 @@ pub fn number_behind(count: usize) -> Result<u32, Memory>
 }
 
 impl SoundEnv {
-    /// What is declared, where its structs are well formed, have plain members, and have their heights beside them.
+    /// What is declared, where a scope is open, and the structs are well formed, have plain members, and have their heights beside them.
     pub fn new(env: Env) -> SoundEnv
         requires known { AreStructs env.scene.structs }
         requires plain { ArePlain env.scene.structs }
         requires heights { AreHeights env.scene.structs env.heights }
         requires count { length env.heights ≡ length env.scene.structs }
+        requires scopes { 0 < length env.names }
         ensures { result ≡ env }
     {
         SoundEnv { env }
@@ -84,6 +85,7 @@ impl SoundEnv {
         ensures known { AreStructs result.now.scene.structs }
         ensures plain { ArePlain result.now.scene.structs }
         ensures heights { AreHeights result.now.scene.structs result.now.heights }
+        ensures scopes { 0 < length result.now.names }
     {
         &self.env
     }
@@ -101,7 +103,8 @@ impl SoundEnv {
 
     /// Opens a scope.
     pub fn open(&mut self, alloc: Global) -> Result<(), Memory>
-        ensures { OnOk result (self.new ≡ steps.opened self.old) }
+        ensures is { OnOk result (self.new ≡ steps.opened self.old) }
+        ensures scopes { 0 < length self.old.names }
     {
         let names = replace(&mut self.env.names, Names::new(alloc));
         self.env.names = names.opened()?;
@@ -117,6 +120,7 @@ impl SoundEnv {
     }
 
     /// Declares a name in the innermost scope.
+    #[tactic(auto, using(crate::proofs::Scoping::declared_is_open))]
     fn declare(&mut self, alloc: Global, name: &Text, entry: Entry) -> Result<(), Memory>
         ensures { OnOk result (self.new ≡ record self.old { names = declare_in name.now entry self.old.names }) }
     {
@@ -331,8 +335,10 @@ pub fn struct_behind(all: &Structs, name: Text, members: Members) -> StructType
 }
 
 /// Names behind the end of their innermost scope.
+#[tactic(auto, using(crate::proofs::Scoping::ended_is_open))]
 fn ended(names: Names) -> Names
-    ensures { result ≡ steps.ended names }
+    ensures is { result ≡ steps.ended names }
+    ensures scopes { 0 < length names → 0 < length result }
 {
     if names.is_nested() {
         names.closed()

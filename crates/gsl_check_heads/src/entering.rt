@@ -1,6 +1,6 @@
 //! In what bodies are checked.
 
-ghost use Rattle.std.specs.Prelude.{◌≡◌, OnOk, IfOk};
+ghost use Rattle.std.specs.Prelude.{◌≡◌, ◌<◌, length, OnOk, IfOk};
 ghost use Rattle.gsl_check_heads.specs.Heads as spec;
 
 use crate::parameter::{Head, Parameter};
@@ -43,6 +43,7 @@ fn name_params(alloc: Global, params: &[Parameter], env: &mut SoundEnv) -> Resul
 pub fn enter(alloc: Global, head: &Head, env: &mut SoundEnv) -> Result<Outside, Memory>
     ensures is { IfOk result (λ _. env.new ≡ spec.entered (spec.head_in head.now env.old)) }
     ensures outside { IfOk result (λ outside. outside ≡ record { params = env.old.scene.params; locals = env.old.scene.locals; known = env.old.scene.consts.locals }) }
+    ensures scopes { IfOk result (λ _. 0 < length env.old.names) }
 {
     let typed = typed_params(alloc, head.params.as_slice())?;
     env.open(alloc)?;
