@@ -68,7 +68,7 @@ module _ (h : Headed) (some : 0 < length h.env.names) where
       → statements h.result body nowhere (entered h) ≡ Ok (all, after) → last ≡ left_by outside after → f ≡ made name all after.scene.locals → bodied h name body ≡ given f last
   bodied_is name body outside all after last f around is ends made_is =
       let left_at : left_by (outside_of h.env) after ≡ left h.env after =
-          subst (λ (r : Checked (List Stmt × Env)). Holds (λ (done : List Stmt × Env). left_by (outside_of h.env) done.1 ≡ left h.env done.1) r) is (left_behind body) in
+      subst (λ (r : Checked (List Stmt × Env)). Holds (λ (done : List Stmt × Env). left_by (outside_of h.env) done.1 ≡ left h.env done.1) r) is (left_behind body) in
       ap (λ (r : Checked (List Stmt × Env)). r >>= (λ done. given (made name done.0 done.1.scene.locals) (left h.env done.1))) is
       ∙ ap (λ (e : Env). given (made name all after.scene.locals) e) (sym (ends ∙ ap (λ (o : Outside). left_by o after) around ∙ left_at))
       ∙ ap (λ (g : Function). given g last) (sym made_is)
