@@ -19,7 +19,7 @@ use Rattle.gsl_qualifiers.specs.declared.qualified.Role.TheVariants.{Variable, I
 use Rattle.gsl_check_heads.specs.Builtins.{names_function}
 use Rattle.gsl_qualifiers.specs.Qualifiers.{role_of_variables, role_of_block, role_alone, qualified, flag, unsaid}
 use Rattle.gsl_check_globals.specs.Globals.{alone}
-use Rattle.gsl_check.specs.Units.{begun, declaration, checked, unit_of}
+use Rattle.gsl_check.specs.Units.{begun, declaration, finished, checked, unit_of}
 
 -- at a line
 abbrev at : ℕ → Place
@@ -116,14 +116,14 @@ push_constants_in_a_buffer = refl
 -- Units -----------------------------------------------------------------------------------------------------------
 
 nothing : checked Vertex [] ≡ Ok (unit_of (begun Vertex))
-unfolding checked
+unfolding checked finished
 nothing = refl
 
 semicolons : checked Fragment (global.Empty (at 1) ∷ global.Empty (at 2) ∷ []) ≡ Ok (unit_of (begun Fragment))
-unfolding checked
+unfolding checked finished
 semicolons = refl
 
 -- `; in; out;` outside of compute shaders
 first_fault : checked Vertex (global.Empty (at 1) ∷ global.Decl (decl.Quals (qual.In (at 2) ∷ [])) ∷ global.Decl (decl.Quals (qual.Out (at 3) ∷ [])) ∷ []) ≡ fault (at 2) E0701
-unfolding checked declaration alone role_alone qualified flag
+unfolding checked finished declaration alone role_alone qualified flag
 first_fault = refl

@@ -62,6 +62,10 @@ unit_of done = record {
   local_sizes = done.env.scene.sizes;
 }
 
+-- the typed unit behind the rest of its declarations
+unfoldable pub finished : List Global → Progress → Checked TypedUnit
+finished unit so_far = all unit so_far >>= (λ done. Ok (unit_of done))
+
 -- The typed unit that a unit of a stage stands for, or its first fault.
 unfoldable pub checked : Stage → List Global → Checked TypedUnit
-checked stage unit = all unit (begun stage) >>= (λ done. Ok (unit_of done))
+checked stage unit = finished unit (begun stage)

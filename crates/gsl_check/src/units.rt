@@ -19,8 +19,22 @@ use std::alloc::Global;
 pub fn check(alloc: Global, stage: Stage, unit: &[GlobalTree]) -> Result<TypedUnit, Refusal>
     ensures { Gives result (spec.checked stage unit.now) }
 {
-    let mut env = begun_in(alloc, stage)?;
-    let mut functions = List::new(alloc);
+    let env = begun_in(alloc, stage)?;
+    finished(alloc, unit, List::new(alloc), env)
+}
+
+/// The typed unit behind the rest of its declarations.
+#[tactic(auto, unfolding(crate::specs::Units::finished))]
+fn finished(
+    alloc: Global,
+    unit: &[GlobalTree],
+    functions: Functions,
+    env: SoundEnv,
+) -> Result<TypedUnit, Refusal>
+    ensures { Gives result (spec.finished unit.now (spec.with_functions (functions, env))) }
+{
+    let mut functions = functions;
+    let mut env = env;
     all(alloc, unit, &mut functions, &mut env)?;
     Ok(unit_of(env, functions))
 }

@@ -8,7 +8,7 @@ use Rattle.gsl_check.proofs.functions.bodied.Goals as goal
 
 pub returns : goal.returns
 returns c =
-    let h = head_in c.args.head.now c.args.env in
+    let h = head_in c.args.head.now c.args.env.now in
     let is = ap (λ (w : Within). statements h.result c.args.body.now w (entered h)) (sym c.nowhere.ensures)
     ∙ ap (λ (e : Env). statements h.result c.args.body.now c.nowhere.result e) (sym c.in_ok-outside.ensures.is)
     ∙ c.in_ok-all.ensures in
