@@ -1,4 +1,4 @@
-use Rattle.std.proofs.Common.{◌≡◌, ◌∙◌, ap, subst, List, []}
+use Rattle.std.proofs.Common.{◌∙◌, ap, subst, List, []}
 use Rattle.gsl_base.specs.Checked.{Gives}
 use Rattle.gsl_tree.specs.declared.unit.Function.{Function}
 use Rattle.gsl_check_expr.specs.declared.env.Env.{Env}
