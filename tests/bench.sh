@@ -110,6 +110,12 @@ hostile "300 nested ?:" choices 300
 hostile "200 if .. else" elses 200
 hostile "300 nested macro uses" nested 300
 hostile "a condition of 300 (" tests 300
+hostile "20,000 globals" globals 20000
+hostile "20,000 locals" locals 20000
+hostile "20,000 overloads" overloads 20000
+hostile "16,383 members" fields 16383
+hostile "16,383 parts" parts 16383
+hostile "a chain of 63 structs" twice 63
 as_text "1 MiB" 1048576
 as_text "64 MiB" 67108864
 judged "1 function" module 1
@@ -128,6 +134,11 @@ if command -v valgrind >/dev/null; then
   doubling "macro uses" uses 2000
   doubling "a chain of macros" macros 1000
   doubling "nested conditions" conditions 2000
+  doubling "functions" functions 500
+  doubling "global variables" globals 10000
+  doubling "local variables" locals 10000
+  doubling "members" fields 8000
+  doubling "parts" parts 8000
 else
   echo "valgrind is not installed: no instructions counted"
 fi

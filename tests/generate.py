@@ -13,6 +13,12 @@ generate.py choices N       a statement of N conditional operators, each in the 
 generate.py elses N         N ifs, each in the else of the one before it
 generate.py nested N        N uses of a function macro, each in the one before it
 generate.py tests N         a condition that begins with N parentheses
+generate.py globals N       N global variables, of which main reads the first and the last
+generate.py locals N        N local variables, in scopes of 100 each, 100 deep within each other
+generate.py overloads N     N functions of one name (20,736 at most), and a call of the last
+generate.py fields N        a struct of N members, and an access to the last
+generate.py parts N         an array of N elements with an initialiser list
+generate.py twice N         a chain of N structs, each of which holds the one before it twice
 generate.py assembly BYTES  the text of a module, of sums one behind the other, about so many bytes
 generate.py module N        the text of a module of N functions that main calls: straight ones, ones with an if, and ones with a loop
 generate.py heights N       the text of a module with N types, each an array of the one before it
@@ -236,8 +242,55 @@ def conditions(count):
         yield "#endif\n"
 
 
-KINDS = {f.__name__: f for f in (functions, tokens, macros, uses, directives, conditions, parens, choices, elses, nested, tests, assembly, module, heights, nests,
-          blocks, chain, pairs, members, marks)}
+def globals_(count):
+    yield "#version 450\n"
+    for n in range(count):
+        yield f"int v{n};\n"
+    yield f"void main() {{ int a = v0 + v{count - 1}; }}\n"
+
+
+def locals_(count):
+    yield "#version 450\nvoid main() {\n"
+    for n in range(count):
+        if n % 100 == 0:
+            yield "}" * 100 + "\n" if n and n // 100 % 100 == 0 else ""
+            yield "{\n"
+        yield f"int v{n % 10000} = {n};\n"
+    yield "}" * ((count - 1) // 100 % 100 + 1) + "}\n"
+
+
+def overloads(count):
+    kinds = "bool int uint bvec2 bvec3 bvec4 ivec2 ivec3 ivec4 uvec2 uvec3 uvec4".split()
+    yield "#version 450\n"
+    for n in range(count):
+        yield "void f({});\n".format(", ".join(kinds[n // 12**k % 12] for k in range(4)))
+    values = [f"{kinds[(count - 1) // 12**k % 12]}(1)" for k in range(4)]
+    yield "void main() {{ f({}); }}\n".format(", ".join(values))
+
+
+def fields(count):
+    yield "#version 450\nstruct S {\n"
+    for n in range(count):
+        yield f"int m{n};\n"
+    yield f"}};\nvoid main() {{ S s; s.m{count - 1} = 1; }}\n"
+
+
+def parts(count):
+    yield f"#version 450\nint a[{count}] = {{\n"
+    for n in range(count):
+        yield f"{n},\n"
+    yield "};\nvoid main() {}\n"
+
+
+def twice(count):
+    yield "#version 450\nstruct S0 { int a; };\n"
+    for n in range(1, count):
+        yield f"struct S{n} {{ S{n - 1} a; S{n - 1} b; }};\n"
+    yield f"void f(S{count - 1} s);\nvoid main() {{}}\n"
+
+
+KINDS = {f.__name__.rstrip("_"): f for f in (functions, tokens, macros, uses, directives, conditions, parens, choices, elses, nested, tests, globals_, locals_, overloads,
+          fields, parts, twice, assembly, module, heights, nests, blocks, chain, pairs, members, marks)}
 
 if len(sys.argv) != 3 or sys.argv[1] not in KINDS or not sys.argv[2].isdigit():
     sys.exit(__doc__)

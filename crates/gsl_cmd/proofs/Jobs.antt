@@ -17,9 +17,11 @@ use Rattle.gsl_cmd.specs.declared.stop.Stop.TheVariants as stop
 use Rattle.gsl_form.specs.declared.program.Program.{Program}
 use Rattle.gsl_form.specs.Form.{Name}
 use Rattle.gsl_form.specs.Trees.{Spells}
+use Rattle.gsl_tree.specs.declared.unit.TypedUnit.{TypedUnit}
+use Rattle.gsl_tree.specs.WellTyped.{unit_lists}
 use Rattle.gsl_form.specs.Reading.{program_of}
 use Rattle.gsl_form.proofs.Units.{program_is, program_gives}
-use Rattle.gsl_cmd.specs.Verdict.{Tree, AreOfForm, Accepts, FaultWhere, Judges, fault_in, trees_of}
+use Rattle.gsl_cmd.specs.Verdict.{AreOfForm, Accepts, FaultWhere, Judges, fault_in, units_of}
 use Rattle.gsl_plan.specs.Plan.{Plan}
 use Rattle.gsl_cmd.specs.Texts.{told_fault}
 use Rattle.gsl_cmd.specs.Job.{Job, Effect, IsJob, IsCompileJob, Gathered, Sources, Absent, TooLong, gather, gather_one, reads, failed, refused, compiled, found_in}
@@ -36,31 +38,31 @@ stage_compute Vertex = inr (λ e. cc)
 stage_compute Fragment = inr (λ e. cc)
 stage_compute Compute = inl refl
 
--- the trees have a program of the form, or none
-formed : (stage : Stage) (trees : List Tree) → ((p : Program) × AreOfForm stage trees p) ⊎ ((p : Program) → AreOfForm stage trees p → ⊥)
-formed stage [] = inr (λ p are. let never : ◌≡◌ {A = List Tree} [] (are.tree ∷ []) = are.one in cc)
-formed stage (a ∷ b ∷ trees) = inr (λ p are. let never : ◌≡◌ {A = List Tree} (a ∷ b ∷ trees) (are.tree ∷ []) = are.one in cc)
-formed stage (tree ∷ []) =
+-- the units have a program of the form, or none
+formed : (stage : Stage) (units : List TypedUnit) → ((p : Program) × AreOfForm stage units p) ⊎ ((p : Program) → AreOfForm stage units p → ⊥)
+formed stage [] = inr (λ p are. let never : ◌≡◌ {A = List TypedUnit} [] (are.unit ∷ []) = are.one in cc)
+formed stage (a ∷ b ∷ units) = inr (λ p are. let never : ◌≡◌ {A = List TypedUnit} (a ∷ b ∷ units) (are.unit ∷ []) = are.one in cc)
+formed stage (unit ∷ []) =
     elim (stage_compute stage) [
       | inr other ↦ inr (λ p are. other are.stage_is)
       | inl compute ↦
-          elim (program_of tree) as (λ found. program_of tree ≡ found → ((p : Program) × AreOfForm stage (tree ∷ []) p) ⊎ ((p : Program) → AreOfForm stage (tree ∷ []) p → ⊥)) [
+          elim (program_of (unit_lists stage unit)) as (λ found. program_of (unit_lists stage unit) ≡ found → ((p : Program) × AreOfForm stage (unit ∷ []) p) ⊎ ((p : Program) → AreOfForm stage (unit ∷ []) p → ⊥)) [
             | None ↦ λ e. inr (λ p are.
-                let there : program_of tree ≡ Some p = program_gives tree p (subst (λ t. Spells t p) (sym (first_same are.one)) are.spelled) in cc)
-            | Some p ↦ λ e. inl (p, record { stage_is = compute; tree = tree; one = refl; spelled = program_is tree p e })
+                let there : program_of (unit_lists stage unit) ≡ Some p = program_gives (unit_lists stage unit) p (subst (λ t. Spells (unit_lists stage t) p) (sym (first_same are.one)) are.spelled) in cc)
+            | Some p ↦ λ e. inl (p, record { stage_is = compute; unit = unit; one = refl; spelled = program_is (unit_lists stage unit) p e })
           ] refl
     ]
 
-judged : (stage : Stage) (sources : List (List ℕ)) (read : Checked (List Tree)) → trees_of sources ≡ read → (verdict : Checked Program) × Judges stage sources verdict
+judged : (stage : Stage) (sources : List (List ℕ)) (read : Checked (List TypedUnit)) → units_of stage sources ≡ read → (verdict : Checked Program) × Judges stage sources verdict
 judged stage sources (Err first) is = (Err first, subst (FaultWhere stage first) (sym is) refl)
-judged stage sources (Ok trees) is =
-    elim (formed stage trees) [
-      | inl (p, are) ↦ (Ok p, record { trees = trees; read = is; formed = are })
+judged stage sources (Ok units) is =
+    elim (formed stage units) [
+      | inl (p, are) ↦ (Ok p, record { units = units; read = is; formed = are })
       | inr none ↦ (Err (fault_in 0 E0001), subst (FaultWhere stage (fault_in 0 E0001)) (sym is) (refl, none))
     ]
 
 pub some_verdict : (stage : Stage) (sources : List (List ℕ)) → (verdict : Checked Program) × Judges stage sources verdict
-some_verdict stage sources = judged stage sources (trees_of sources) refl
+some_verdict stage sources = judged stage sources (units_of stage sources) refl
 
 -- There is a job of every command over all files.
 compile_job : (stage : Stage) (out : Name) (names : List Name) (targets : List Target) (gathered : Gathered) → (job : Job) × IsCompileJob stage out names targets job gathered

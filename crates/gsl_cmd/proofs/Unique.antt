@@ -9,30 +9,32 @@ use Rattle.gsl_host.specs.Outside.{Files}
 use Rattle.gsl_form.specs.declared.program.Program.{Program}
 use Rattle.gsl_form.specs.Form.{Name}
 use Rattle.gsl_form.specs.Trees.{Spells}
+use Rattle.gsl_tree.specs.declared.unit.TypedUnit.{TypedUnit}
+use Rattle.gsl_tree.specs.WellTyped.{unit_lists}
 use Rattle.gsl_form.proofs.Units.{one_program}
 use Rattle.gsl_cmd.specs.Job.{Job, IsJob, IsCompileJob, Gathered, Sources, Absent, TooLong, gather, reads, compiled, found_in}
 use Rattle.gsl_plan.specs.Plan.{Plan}
-use Rattle.gsl_cmd.specs.Verdict.{Tree, AreOfForm, Accepts, FirstFault, FaultWhere, Judges, trees_of}
+use Rattle.gsl_cmd.specs.Verdict.{AreOfForm, Accepts, FirstFault, FaultWhere, Judges, units_of}
 use Rattle.gsl_cmd.specs.declared.converting.Conversion.TheVariants.{Disassemble, Assemble}
 use Rattle.gsl_cmd.proofs.Converted.{one_conversion}
 use Rattle.gsl_cmd.proofs.CheckJobs.{one_check}
 use Rattle.gsl_cmd.proofs.Verdicts.{first_same}
 
-one_formed : (stage : Stage) (trees : List Tree) (p q : Program) → AreOfForm stage trees p → AreOfForm stage trees q → p ≡ q
-one_formed stage trees p q ps qs =
-    let same : qs.tree ≡ ps.tree = first_same (sym qs.one ∙ ps.one) in
-    one_program ps.tree p q ps.spelled (subst (λ t. Spells t q) same qs.spelled)
+one_formed : (stage : Stage) (units : List TypedUnit) (p q : Program) → AreOfForm stage units p → AreOfForm stage units q → p ≡ q
+one_formed stage units p q ps qs =
+    let same : qs.unit ≡ ps.unit = first_same (sym qs.one ∙ ps.one) in
+    one_program (unit_lists stage ps.unit) p q ps.spelled (subst (λ t. Spells (unit_lists stage t) q) same qs.spelled)
 
-same_trees : {xs ys : List Tree} → ◌≡◌ {A = Checked (List Tree)} (Ok xs) (Ok ys) → xs ≡ ys
-same_trees e = cc
+same_units : {xs ys : List TypedUnit} → ◌≡◌ {A = Checked (List TypedUnit)} (Ok xs) (Ok ys) → xs ≡ ys
+same_units e = cc
 
 one_accepted : (stage : Stage) (sources : List (List ℕ)) (p q : Program) → Accepts stage sources p → Accepts stage sources q → p ≡ q
 one_accepted stage sources p q ps qs =
-    one_formed stage ps.trees p q ps.formed (subst (λ trees. AreOfForm stage trees q) (same_trees (sym qs.read ∙ ps.read)) qs.formed)
+    one_formed stage ps.units p q ps.formed (subst (λ units. AreOfForm stage units q) (same_units (sym qs.read ∙ ps.read)) qs.formed)
 
-one_where : (stage : Stage) (f g : Fault) (read : Checked (List Tree)) → FaultWhere stage f read → FaultWhere stage g read → f ≡ g
+one_where : (stage : Stage) (f g : Fault) (read : Checked (List TypedUnit)) → FaultWhere stage f read → FaultWhere stage g read → f ≡ g
 one_where stage f g (Err first) fs gs = fs ∙ sym gs
-one_where stage f g (Ok trees) fs gs = fs.0 ∙ sym gs.0
+one_where stage f g (Ok units) fs gs = fs.0 ∙ sym gs.0
 
 never_both : (stage : Stage) (sources : List (List ℕ)) (p : Program) (f : Fault) → Accepts stage sources p → FirstFault stage sources f → ⊥
 never_both stage sources p f ps fs = (subst (FaultWhere stage f) ps.read fs).1 p ps.formed
@@ -41,7 +43,7 @@ pub one_judged : (stage : Stage) (sources : List (List ℕ)) (v w : Checked Prog
 one_judged stage sources (Ok p) (Ok q) ps qs = ap Ok (one_accepted stage sources p q ps qs)
 one_judged stage sources (Ok p) (Err f) ps fs = absurd (never_both stage sources p f ps fs)
 one_judged stage sources (Err f) (Ok p) fs ps = absurd (never_both stage sources p f ps fs)
-one_judged stage sources (Err f) (Err g) fs gs = ap Err (one_where stage f g (trees_of sources) fs gs)
+one_judged stage sources (Err f) (Err g) fs gs = ap Err (one_where stage f g (units_of stage sources) fs gs)
 
 one_compile_job : (stage : Stage) (out : Name) (names : List Name) (targets : List Target) (gathered : Gathered) (j k : Job) →
     IsCompileJob stage out names targets j gathered → IsCompileJob stage out names targets k gathered → j ≡ k

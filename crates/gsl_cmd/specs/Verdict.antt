@@ -13,6 +13,9 @@ use Rattle.gsl_lex.specs.Raws.{raws_of}
 use Rattle.gsl_parse.specs.Judged.{unit_of}
 use Rattle.gsl_pp.specs.Unit.{preprocessed}
 use Rattle.gsl_syntax.specs.declared.statement.Global.{Global}
+use Rattle.gsl_check.specs.Units.{checked}
+use Rattle.gsl_tree.specs.declared.unit.TypedUnit.{TypedUnit}
+use Rattle.gsl_tree.specs.WellTyped.{unit_lists}
 use Rattle.gsl_words.specs.Bytes.{bytes_of}
 use Rattle.gsl_cmd.specs.declared.compiling.TheConstants.{MAX_SOURCE_BYTES}
 use Rattle.gsl_form.specs.declared.program.Program.{Program}
@@ -43,51 +46,55 @@ tokens_of unit source = raws_of unit source >>= preprocessed unit
 unfoldable pub tree_of : ℕ → List ℕ → Checked Tree
 tree_of unit source = tokens_of unit source >>= unit_of
 
--- the trees of sources that are numbered from this one on, or the first fault
-abbrev pub trees_from : ℕ → List (List ℕ) → Checked (List Tree)
-trees_from unit [] = Ok []
-trees_from unit (source ∷ sources) = tree_of unit source >>= λ tree. trees_from (unit + 1) sources >>= λ trees. Ok (tree ∷ trees)
+-- the typed unit of the source file of this number, or its first fault: what its tree stands for
+unfoldable pub typed_of : Stage → ℕ → List ℕ → Checked TypedUnit
+typed_of stage unit source = tree_of unit source >>= checked stage
+
+-- the typed units of sources that are numbered from this one on, or the first fault
+abbrev pub typed_from : Stage → ℕ → List (List ℕ) → Checked (List TypedUnit)
+typed_from stage unit [] = Ok []
+typed_from stage unit (source ∷ sources) = typed_of stage unit source >>= λ typed. typed_from stage (unit + 1) sources >>= λ units. Ok (typed ∷ units)
 
 abbrev pub sized : {A : Type 0} → Option ℕ → Checked A → Checked A
-sized (Some unit) trees = Err (fault_in unit E0900)
-sized None trees = trees
+sized (Some unit) units = Err (fault_in unit E0900)
+sized None units = units
 
--- the trees of the sources, or their first fault: that of the first one that is too long, and else the first one in their order
-abbrev pub trees_of : List (List ℕ) → Checked (List Tree)
-trees_of sources = sized (too_long_from 0 sources) (trees_from 0 sources)
+-- the typed units of the sources, or their first fault: that of the first one that is too long, and else the first one in their order
+abbrev pub units_of : Stage → List (List ℕ) → Checked (List TypedUnit)
+units_of stage sources = sized (too_long_from 0 sources) (typed_from stage 0 sources)
 
--- The trees are of the form that is built so far: one tree, which spells the program.
-pub record AreOfForm (stage : Stage) (trees : List Tree) (p : Program) : Type 0 where
+-- The units are of the form that is built so far: one unit, which spells the program.
+pub record AreOfForm (stage : Stage) (units : List TypedUnit) (p : Program) : Type 0 where
   pub stage_is : stage ≡ Compute
-  pub tree : Tree
-  pub one : trees ≡ tree ∷ []
-  pub spelled : Spells tree p
+  pub unit : TypedUnit
+  pub one : units ≡ unit ∷ []
+  pub spelled : Spells (unit_lists stage unit) p
 
 -- The sources give this program.
 pub record Accepts (stage : Stage) (sources : List (List ℕ)) (p : Program) : Type 0 where
-  pub trees : List Tree
-  pub read : trees_of sources ≡ Ok trees
-  pub formed : AreOfForm stage trees p
+  pub units : List TypedUnit
+  pub read : units_of stage sources ≡ Ok units
+  pub formed : AreOfForm stage units p
 
 -- The fault is the first one of the sources; where they have none, they are not of the form.
-abbrev pub FaultWhere : Stage → Fault → Checked (List Tree) → Type 0
+abbrev pub FaultWhere : Stage → Fault → Checked (List TypedUnit) → Type 0
 FaultWhere stage fault (Err first) = fault ≡ first
-FaultWhere stage fault (Ok trees) = (fault ≡ fault_in 0 E0001) × ((p : Program) → AreOfForm stage trees p → ⊥)
+FaultWhere stage fault (Ok units) = (fault ≡ fault_in 0 E0001) × ((p : Program) → AreOfForm stage units p → ⊥)
 
 -- The sources have this first fault.
 abbrev pub FirstFault : Stage → List (List ℕ) → Fault → Type 0
-FirstFault stage sources fault = FaultWhere stage fault (trees_of sources)
+FirstFault stage sources fault = FaultWhere stage fault (units_of stage sources)
 
 -- The rules give this program, or this first fault.
 abbrev pub Judges : Stage → List (List ℕ) → Checked Program → Type 0
 Judges stage sources (Ok p) = Accepts stage sources p
 Judges stage sources (Err fault) = FirstFault stage sources fault
 
--- What compiling a tree answers: the file of the module of its program, or that it is not of the form.
-abbrev pub CompilesTree : Stage → Tree → Result (List ℕ) Refusal → Type 0
-CompilesTree stage tree (Ok bytes) = (p : Program) × (stage ≡ Compute) × Spells tree p × (bytes ≡ bytes_of (module_of p))
-CompilesTree stage tree (Err (refusal.Source fault)) = (fault ≡ fault_in 0 E0001) × ((p : Program) → stage ≡ Compute → Spells tree p → ⊥)
-CompilesTree stage tree (Err refusal.Memory) = Unit {0}
+-- What compiling a typed unit answers: the file of the module of its program, or that it is not of the form.
+abbrev pub CompilesUnit : Stage → TypedUnit → Result (List ℕ) Refusal → Type 0
+CompilesUnit stage unit (Ok bytes) = (p : Program) × (stage ≡ Compute) × Spells (unit_lists stage unit) p × (bytes ≡ bytes_of (module_of p))
+CompilesUnit stage unit (Err (refusal.Source fault)) = (fault ≡ fault_in 0 E0001) × ((p : Program) → stage ≡ Compute → Spells (unit_lists stage unit) p → ⊥)
+CompilesUnit stage unit (Err refusal.Memory) = Unit {0}
 
 -- What compiling the sources answers: the file of the program's module, which carries the program, is small for it and is one that other
 -- consumers take; or the sources' first fault.

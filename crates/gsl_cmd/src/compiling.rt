@@ -6,16 +6,21 @@ ghost use Rattle.gsl_words.specs.Bytes.{bytes_of};
 ghost use Rattle.gsl_form.specs.declared.program.Program.{Program};
 ghost use Rattle.gsl_form.specs.Form.{IsProgram};
 ghost use Rattle.gsl_form.specs.Trees.{Spells};
+ghost use Rattle.gsl_tree.specs.WellTyped.{unit_lists};
 ghost use Rattle.gsl_cmd.specs.Lowering.{module_of};
-ghost use Rattle.gsl_cmd.specs.Verdict.{Compiles, CompilesTree, tokens_of, tree_of, fault_in as first_line};
+ghost use Rattle.gsl_parse.specs.Fed.{unit_fed};
+ghost use Rattle.gsl_pp.specs.Unit.{unit_of as given_out};
+ghost use Rattle.gsl_cmd.specs.Verdict.{Compiles, CompilesUnit, tree_of, typed_of, fault_in as first_line};
 
 use crate::lowering::lower;
-use gsl_base::{Bytes, Code, Fault, Memory, Place, Refusal, Sources, Stage, Tokens};
-use gsl_form::{Program, read_program};
+use gsl_base::{Bytes, Code, Fault, Memory, Place, Raws, Refusal, Sources, Stage};
+use gsl_check::check;
+use gsl_form::{Program, read_unit};
 use gsl_lex::lex;
-use gsl_parse::parse;
-use gsl_pp::preprocess;
+use gsl_parse::parse_feed;
+use gsl_pp::Feed;
 use gsl_syntax::Unit;
+use gsl_tree::TypedUnit;
 use gsl_words::encode;
 use std::alloc::Global;
 
@@ -29,8 +34,8 @@ pub const MAX_SOURCE_BYTES: usize = 1_048_576;
 ///
 /// One source is taken so far. `Refusal::Source` comes exactly where the sources have a fault: `E0900`
 /// where one is longer than `MAX_SOURCE_BYTES`, else the first fault of the lexer, the preprocessor, the
-/// limit on nesting or the parser, else `E0001` where it is not of the form that `docs/LANGUAGE.md`
-/// describes.
+/// limit on nesting, the parser or the checker, else `E0001` where its typed unit is not of the form that
+/// `docs/LANGUAGE.md` describes.
 pub fn compile(alloc: Global, stage: Stage, sources: &Sources) -> Result<Bytes, Refusal>
     requires { length sources.now ≡ 1 }
     ensures { Compiles stage sources.now result }
@@ -39,50 +44,57 @@ pub fn compile(alloc: Global, stage: Stage, sources: &Sources) -> Result<Bytes, 
     if source.len() > MAX_SOURCE_BYTES {
         return Err(Refusal::Source(fault_in(0, Code::E0900)));
     }
-    match tree(alloc, 0, source) {
-        Ok(tree) => compile_tree(alloc, stage, &tree),
+    match typed(alloc, stage, 0, source) {
+        Ok(unit) => compile_unit(alloc, stage, &unit),
         Err(refusal) => Err(refusal),
     }
 }
 
-/// The tree of the source file of this number, or its first fault.
-#[tactic(auto, unfolding(crate::specs::Verdict::tree_of))]
+/// The typed unit of the source file of this number, or its first fault.
+#[tactic(auto, unfolding(crate::specs::Verdict::typed_of))]
+fn typed(alloc: Global, stage: Stage, number: u32, source: &[u8]) -> Result<TypedUnit, Refusal>
+    requires { length source.now < 2 ^ 32 }
+    ensures { Gives result (typed_of stage number source.now) }
+{
+    let tree = tree(alloc, number, source)?;
+    check(alloc, stage, tree.as_slice())
+}
+
+/// The tree of the source file of this number, or its first fault. No list of its live tokens is made; the raw ones end here.
+#[tactic(auto, unfolding(crate::specs::Verdict::tree_of, crate::specs::Verdict::tokens_of, gsl_pp::specs::Unit::preprocessed, gsl_parse::specs::Fed::unit_fed))]
 fn tree(alloc: Global, number: u32, source: &[u8]) -> Result<Unit, Refusal>
     requires { length source.now < 2 ^ 32 }
     ensures { Gives result (tree_of number source.now) }
 {
-    let tokens = tokens(alloc, number, source)?;
-    parse(alloc, &tokens)
-}
-
-/// The live tokens of the source file of this number, or its first fault up to there. The raw tokens end here, so that they
-/// do not stand beside the tree.
-#[tactic(auto, unfolding(crate::specs::Verdict::tokens_of))]
-fn tokens(alloc: Global, number: u32, source: &[u8]) -> Result<Tokens, Refusal>
-    requires { length source.now < 2 ^ 32 }
-    ensures { Gives result (tokens_of number source.now) }
-{
     let raws = lex(alloc, number, source)?;
-    preprocess(alloc, number, &raws)
+    tree_from(alloc, number, &raws)
 }
 
-/// The bytes of the module of a tree, or `E0001` where it is not of the form.
-fn compile_tree(alloc: Global, stage: Stage, tree: &Unit) -> Result<Bytes, Refusal>
-    ensures { CompilesTree stage tree.now result }
+/// The tree of a file's raw tokens, or the first fault of the preprocessor or the parser.
+fn tree_from(alloc: Global, number: u32, raws: &Raws) -> Result<Unit, Refusal>
+    ensures { Gives result (unit_fed (given_out number raws.now)) }
 {
-    match accepted(alloc, stage, tree)? {
+    let feed = Feed::new(alloc, number, raws)?;
+    parse_feed(alloc, feed)
+}
+
+/// The bytes of the module of a typed unit, or `E0001` where it is not of the form.
+fn compile_unit(alloc: Global, stage: Stage, unit: &TypedUnit) -> Result<Bytes, Refusal>
+    ensures { CompilesUnit stage unit.now result }
+{
+    match accepted(alloc, stage, unit)? {
         None => Err(Refusal::Source(fault_in(0, Code::E0001))),
         Some(program) => Ok(file_of(alloc, &program)?),
     }
 }
 
-/// The program of a tree, or `None` where it has no program of this stage.
-fn accepted(alloc: Global, stage: Stage, tree: &Unit) -> Result<Option<Program>, Memory>
-    ensures found { IfOk result (λ found. IfSome found (λ p. (stage ≡ Stage.Compute) × Spells tree.now p)) }
-    ensures none { IfOk result (λ found. IfNone found ((p : Program) → stage ≡ Stage.Compute → Spells tree.now p → ⊥)) }
+/// The program of a typed unit, or `None` where it has no program of this stage.
+fn accepted(alloc: Global, stage: Stage, unit: &TypedUnit) -> Result<Option<Program>, Memory>
+    ensures found { IfOk result (λ found. IfSome found (λ p. (stage ≡ Stage.Compute) × Spells (unit_lists stage unit.now) p)) }
+    ensures none { IfOk result (λ found. IfNone found ((p : Program) → stage ≡ Stage.Compute → Spells (unit_lists stage unit.now) p → ⊥)) }
 {
     match stage {
-        Stage::Compute => read_program(alloc, tree),
+        Stage::Compute => read_unit(alloc, unit),
         Stage::Vertex | Stage::Fragment => Ok(None),
     }
 }

@@ -1,5 +1,7 @@
+pub mod Behind
 pub mod Climbing
 pub mod Complete
+pub mod Drawn
 pub mod Ends
 pub mod Forms
 pub mod Halves

@@ -20,17 +20,15 @@ pub record Front : Type 1 where
 abbrev pub after : Tokens → Front → Front
 after xs F = record { holds = λ ys. F.holds (xs ++ ys); closed = λ ys zs h. F.closed (xs ++ ys) zs (subst (λ (z : Tokens). F.holds z) (sym (append_assoc xs ys zs)) h) }
 
--- It is known of the tokens before the last n.
-pub record Reaches (F : Front) (ts : Tokens) (n : ℕ) : Type 0 where
+-- It is known of the tokens before these last ones.
+pub record Reaches (F : Front) (ts bad : Tokens) : Type 0 where
   pub pre : Tokens
-  pub bad : Tokens
   pub splits : ts ≡ pre ++ bad
-  pub left : length bad ≡ n
   pub holds : F.holds pre
 
 abbrev pub Opened : {A : Type 0} → Front → Tokens → Outcome A → Type 0
 Opened F ts (Ok x) = Unit {0}
-Opened F ts (Err n) = Reaches F ts n
+Opened F ts (Err bad) = Reaches F ts bad
 
 -- of a reader, whatever the tokens are
 pub record Live {A : Type 0} (F : Front) (f : Parser A) : Type 0 where
@@ -41,8 +39,8 @@ pub record Live {A : Type 0} (F : Front) (f : Parser A) : Type 0 where
 abbrev pub Leads : {A : Type 0} → (A → Tokens → Type 0) → Front → Type 0
 Leads {A = A} C F = (a : A) (xs : Tokens) → C a xs → F.holds xs
 
-pub fails : (F : Front) (ts : Tokens) → F.holds [] → Reaches F ts (length ts)
-fails F ts h = record { pre = []; bad = ts; splits = refl; left = refl; holds = h }
+pub fails : (F : Front) (ts : Tokens) → F.holds [] → Reaches F ts ts
+fails F ts h = record { pre = []; splits = refl; holds = h }
 
 pub live_pure : {A : Type 0} {F : Front} (a : A) → F.holds [] → Live F (pure a)
 live_pure a h = record { starts = h; opened = λ ts. tt }
@@ -53,7 +51,7 @@ live_fail {F = F} h = record { starts = h; opened = λ ts. fails F ts h }
 -- more tokens in front
 pub opened_front : {A : Type 0} (F : Front) (ts xs rest : Tokens) (o : Outcome A) → ts ≡ xs ++ rest → Opened (after xs F) rest o → Opened F ts o
 opened_front F ts xs rest (Ok x) e g = tt
-opened_front F ts xs rest (Err n) e g = record { pre = xs ++ g.pre; bad = g.bad; splits = e ∙ ap (λ (z : Tokens). xs ++ z) g.splits ∙ sym (append_assoc xs g.pre g.bad); left = g.left; holds = g.holds }
+opened_front F ts xs rest (Err bad) e g = record { pre = xs ++ g.pre; splits = e ∙ ap (λ (z : Tokens). xs ++ z) g.splits ∙ sym (append_assoc xs g.pre bad); holds = g.holds }
 
 pub opened_to : {A B : Type 0} (F : Front) (C : A → Tokens → Tokens → Type 0) (ts : Tokens) (o : Outcome A) (f : A → Parser B) → GoodTo C ts o → Opened F ts o
     → ((a : A) (xs rest : Tokens) → ts ≡ xs ++ rest → C a xs rest → Opened (after xs F) rest (f a rest)) → Opened F ts (and_then o f)
@@ -123,7 +121,7 @@ live_expect {B = B} {F = F} {f = f} m next = record { starts = start; opened = �
     start : F.holds []
     start = F.closed [] (sign no_place m ∷ []) (next no_place).starts
 
-    go : (ts : Tokens) (b : Bool) → sees m ts ≡ b → Opened F ts (and_then (cond b (take_one ts) (Err (length ts))) f)
+    go : (ts : Tokens) (b : Bool) → sees m ts ≡ b → Opened F ts (and_then (cond b (take_one ts) (Err ts)) f)
     go ts true h = opened_sign F m ts f h (λ p rest split. (next p).opened rest)
     go ts false h = fails F ts start
 

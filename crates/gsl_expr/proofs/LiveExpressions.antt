@@ -180,12 +180,12 @@ module _ (next : ℕ → Parser Expr) (hyp : Nested next) (alive : Alive next) w
       indexed (base.Named n) ts = tt
       indexed (base.Basic b) ts = fails F ts (applied_start h xs F s lead)
 
-      or_indexed : (ts : Tokens) (d : Bool) → Opened F ts (cond d (indexed_by next h.place h.base h.dims ts) (Err (length ts)))
+      or_indexed : (ts : Tokens) (d : Bool) → Opened F ts (cond d (indexed_by next h.place h.base h.dims ts) (Err ts))
       or_indexed ts true = indexed h.base ts
       or_indexed ts false = fails F ts (applied_start h xs F s lead)
 
       go : (ts : Tokens) (b c d : Bool) → sees punct.LeftParen ts ≡ b → may_be_open h.mode ≡ c
-          → Opened F ts (cond (b && c) (and_then (take_one ts) (λ _. arguments next (head_type h))) (cond d (indexed_by next h.place h.base h.dims ts) (Err (length ts))))
+          → Opened F ts (cond (b && c) (and_then (take_one ts) (λ _. arguments next (head_type h))) (cond d (indexed_by next h.place h.base h.dims ts) (Err ts)))
       go ts true true d j k =
           opened_sign F punct.LeftParen ts (λ _. arguments next (head_type h)) j
           (λ o rest split. (arguments_live (head_type h) o xs (after (sign o punct.LeftParen ∷ []) F) (s.as_type k) (λ a ys w. lead a (sign o punct.LeftParen ∷ ys) w)).opened rest)

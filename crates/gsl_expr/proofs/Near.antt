@@ -12,7 +12,7 @@ use Rattle.gsl_expr.specs.Reading.{Tokens, Outcome, Parser, and_then, ◌>>=◌,
 
 abbrev pub Within : {A : Type 0} → Tokens → Outcome A → Type 0
 Within ts (Ok x) = length x.1 ≤ length ts
-Within ts (Err n) = n ≤ length ts
+Within ts (Err us) = length us ≤ length ts
 
 -- where something is read, something is taken
 abbrev pub Takes : {A : Type 0} → Tokens → Outcome A → Type 0
@@ -72,7 +72,7 @@ module _ (b : Token) (p q : Tokens) where
   -- what the second outcome is, if the first is one at b or before
   abbrev pub Same : {A : Type 0} → Outcome A → Outcome A → Type 0
   Same (Ok x) o = length p < length x.1 → (rest : Tokens) × (o ≡ Ok (x.0, rest)) × Twin x.1 rest
-  Same (Err n) o = length p < n → (m : ℕ) × (o ≡ Err m)
+  Same (Err us) o = length p < length us → (vs : Tokens) × (o ≡ Err vs)
 
   behind : {A : Type 0} (ts : Tokens) (x y : Outcome A) → length ts ≤ length p → Within ts x → Same x y
   behind ts (Ok x) y le w = λ lt. absurd (omega arith)
@@ -87,7 +87,7 @@ module _ (b : Token) (p q : Tokens) where
   near_pure a = record { within = λ ts. omega arith; same = λ ts us lt le w. λ h. (us, refl, w) }
 
   pub near_fail : {A : Type 0} {d c : ℕ} → Near {A = A} d c fail fail
-  near_fail = record { within = λ ts. omega arith; same = λ ts us lt le w. λ h. (length us, refl) }
+  near_fail = record { within = λ ts. omega arith; same = λ ts us lt le w. λ h. (us, refl) }
 
   pub near_less : {A : Type 0} {d c m n : ℕ} {f g : Parser A} → d ≤ m → c ≤ n → Near m n f g → Near d c f g
   near_less x y s = record { within = s.within; same = λ ts us lt le w. s.same ts us (omega arith) (omega arith) w }

@@ -96,17 +96,17 @@ module _ (b : Token) (p q : Tokens) where
 
       by : (t : Token) (xs ys : Tokens) (k : Kind) → (Twin b p q xs ys) → Same b p q (name_by t xs k) (name_by t ys k)
       by t xs ys (kind.Name n) w = λ far. (ys, refl, w)
-      by t xs ys (kind.Key v) w = λ far. (length (t ∷ ys), refl)
-      by t xs ys (kind.Signed n) w = λ far. (length (t ∷ ys), refl)
-      by t xs ys (kind.Unsigned n) w = λ far. (length (t ∷ ys), refl)
-      by t xs ys (kind.Punct m) w = λ far. (length (t ∷ ys), refl)
+      by t xs ys (kind.Key v) w = λ far. (t ∷ ys, refl)
+      by t xs ys (kind.Signed n) w = λ far. (t ∷ ys, refl)
+      by t xs ys (kind.Unsigned n) w = λ far. (t ∷ ys, refl)
+      by t xs ys (kind.Punct m) w = λ far. (t ∷ ys, refl)
 
       last : (k : Kind) → Same b p q (name_by b p k) (name_by b q k)
       last (kind.Name n) = λ far. absurd (omega arith)
-      last (kind.Key v) = λ far. (length (b ∷ q), refl)
-      last (kind.Signed n) = λ far. (length (b ∷ q), refl)
-      last (kind.Unsigned n) = λ far. (length (b ∷ q), refl)
-      last (kind.Punct m) = λ far. (length (b ∷ q), refl)
+      last (kind.Key v) = λ far. (b ∷ q, refl)
+      last (kind.Signed n) = λ far. (b ∷ q, refl)
+      last (kind.Unsigned n) = λ far. (b ∷ q, refl)
+      last (kind.Punct m) = λ far. (b ∷ q, refl)
 
       go : (pre : Tokens) → Same b p q (name (pre ++ b ∷ p)) (name (pre ++ b ∷ q))
       go [] = last b.kind
@@ -118,7 +118,7 @@ module _ (b : Token) (p q : Tokens) where
 
   module _ (d c : ℕ) (nf ng : ℕ → Parser Expr) (near : (k : ℕ) → Near b p q d c (nf k) (ng k))
       (void : (k : ℕ) (l : Place) (ts : Tokens) → length (word l key.Void ∷ ts) ≤ d → Within ts (nf k (word l key.Void ∷ ts))) where
-    bracket_near : (m : Mode) (l : Place) → Near b p q d c (bracket nf m l) (bracket ng m l)
+    pub bracket_near : (m : Mode) (l : Place) → Near b p q d c (bracket nf m l) (bracket ng m l)
     unfolding bracket
     bracket_near m l =
         near_if b p q {test = λ ts. sees punct.RightBracket ts && may_be_open m} (both (may_be_open m)) (near_then b p q (near_one b p q) (λ _. near_pure b p q (dim.Open l, mode.Type)))
@@ -269,7 +269,7 @@ module _ (b : Token) (p q : Tokens) where
         go (follow.Binary o) = near_take b p q (λ l. near_then b p q (near (level_of o + 1)) (λ r. near_pure b p q (e.Binary l o a r)))
         go follow.End = near_fail b p q
 
-    operate_takes : (a : Expr) (ts : Tokens) → Takes ts (operate nf a ts)
+    pub operate_takes : (a : Expr) (ts : Tokens) → Takes ts (operate nf a ts)
     unfolding operate
     operate_takes a ts = go (follow_at ts)
       where

@@ -162,12 +162,12 @@ module _ (next : ℕ → Parser Expr) (hyp : Nested next) where
   unfolding applied
   applied_good h xs ts s = go (sees punct.LeftParen ts) (may_be_open h.mode) (may_be_index h.mode) refl refl refl
     where
-      or_indexed : (d : Bool) → may_be_index h.mode ≡ d → Good (λ a ys. IsExpr 15 a (xs ++ ys)) ts (cond d (indexed_by next h.place h.base h.dims ts) (Err (length ts)))
+      or_indexed : (d : Bool) → may_be_index h.mode ≡ d → Good (λ a ys. IsExpr 15 a (xs ++ ys)) ts (cond d (indexed_by next h.place h.base h.dims ts) (Err ts))
       or_indexed true i = indexed_good h.place h.base h.dims xs ts (s.as_indexed i)
       or_indexed false i = tt
 
       go : (b c d : Bool) → sees punct.LeftParen ts ≡ b → may_be_open h.mode ≡ c → may_be_index h.mode ≡ d
-          → Good (λ a ys. IsExpr 15 a (xs ++ ys)) ts (cond (b && c) (and_then (take_one ts) (λ _. arguments next (head_type h))) (cond d (indexed_by next h.place h.base h.dims ts) (Err (length ts))))
+          → Good (λ a ys. IsExpr 15 a (xs ++ ys)) ts (cond (b && c) (and_then (take_one ts) (λ _. arguments next (head_type h))) (cond d (indexed_by next h.place h.base h.dims ts) (Err ts)))
       go true true d j k l =
           good_sign (λ a ys. IsExpr 15 a (xs ++ ys)) punct.LeftParen ts (λ _. arguments next (head_type h)) j (λ o rest split. arguments_good (head_type h) o xs rest (s.as_type k))
       go true false d j k l = or_indexed d l

@@ -136,7 +136,7 @@ unfolding expect sees
 expect_good m [] = tt
 expect_good m (t ∷ ts) = go (is_punct m t.kind) refl
   where
-    go : (b : Bool) → is_punct m t.kind ≡ b → Good (λ p xs. xs ≡ sign p m ∷ []) (t ∷ ts) (cond b (take_one (t ∷ ts)) (Err (length (t ∷ ts))))
+    go : (b : Bool) → is_punct m t.kind ≡ b → Good (λ p xs. xs ≡ sign p m ∷ []) (t ∷ ts) (cond b (take_one (t ∷ ts)) (Err (t ∷ ts)))
     go true h = record { xs = t ∷ []; splits = refl; stands = ap (λ (k : Kind). token t.place k ∷ []) (punct_is m t.kind h) }
     go false h = tt
 

@@ -1,4 +1,5 @@
 pub mod Expressions
+pub mod InHand
 pub mod Names
 pub mod Nests
 pub mod Reading

@@ -1,7 +1,8 @@
 -- How the code reads, and not the rule, which stands in `Phrases.antt` of `gsl_syntax`.
--- Reading tokens from left to right. A fault is how many tokens are left from the bad one on.
-use Rattle.std.specs.Prelude.{◌≡◌, ℕ, Bool, false, List, [], ◌∷◌, length, Result, Ok, Err, if◌then◌else◌}
+-- Reading tokens from left to right. A fault is the tokens that are left, from the bad one on.
+use Rattle.std.specs.Prelude.{◌≡◌, ℕ, Bool, false, List, [], ◌∷◌, Option, Result, Ok, Err, if◌then◌else◌}
 use denote.Enum.Bare.{sameb}
+use Rattle.gsl_base.specs.declared.fault.Fault.{Fault}
 use Rattle.gsl_base.specs.declared.fault.Place.{Place}
 use Rattle.gsl_base.specs.declared.token.Punct.{Punct}
 use Rattle.gsl_base.specs.contracts.token.Punct.{the_type as punct_type}
@@ -19,14 +20,14 @@ Tokens = List Token
 
 -- a tree and the tokens behind it, or a fault
 abbrev pub Outcome : Type 0 → Type 0
-Outcome A = Result (A × Tokens) ℕ
+Outcome A = Result (A × Tokens) Tokens
 
 abbrev pub Parser : Type 0 → Type 0
 Parser A = Tokens → Outcome A
 
 abbrev pub and_then : {A B : Type 0} → Outcome A → (A → Parser B) → Outcome B
 and_then (Ok p) f = f p.0 p.1
-and_then (Err n) f = Err n
+and_then (Err bad) f = Err bad
 
 infixl 10 ◌>>=◌
 abbrev pub ◌>>=◌ : {A B : Type 0} → Parser A → (A → Parser B) → Parser B
@@ -36,11 +37,11 @@ abbrev pub pure : {A : Type 0} → A → Parser A
 pure a = λ ts. Ok (a, ts)
 
 abbrev pub fail : {A : Type 0} → Parser A
-fail = λ ts. Err (length ts)
+fail = λ ts. Err ts
 
 -- takes a token, whatever it is, and gives its place
 abbrev pub take_one : Parser Place
-take_one [] = Err 0
+take_one [] = Err []
 take_one (t ∷ ts) = Ok (t.place, ts)
 
 abbrev pub is_punct : Punct → Kind → Bool
@@ -63,23 +64,36 @@ sees_key w (t ∷ ts) = is_key w t.kind
 
 -- takes this punctuator
 unfoldable pub expect : Punct → Parser Place
-expect m ts = if sees m ts then take_one ts else Err (length ts)
+expect m ts = if sees m ts then take_one ts else Err ts
 
 abbrev pub name_by : Token → Tokens → Kind → Outcome Name
 name_by t ts (kind.Name n) = Ok (record { place = t.place; text = n }, ts)
-name_by t ts _ = Err (length (t ∷ ts))
+name_by t ts _ = Err (t ∷ ts)
 
 -- takes a name
 unfoldable pub name : Parser Name
-name [] = Err 0
+name [] = Err []
 name (t ∷ ts) = name_by t ts t.kind
+
+-- whether this punctuator stands behind the next token
+unfoldable pub sees_behind : Punct → Tokens → Bool
+sees_behind m [] = false
+sees_behind m (t ∷ ts) = sees m ts
 
 -- ---- what a function that reads ensures: this outcome, unless memory runs out
 
-abbrev pub Stops : {A : Type 0} → Stop → Outcome A → Type 0
-Stops stop.Memory outcome = Unit {0}
-Stops (stop.At n) outcome = outcome ≡ Err n
+-- what stays as tokens are taken: how many there are, the place of the last, and the fault that goes before the grammar's
+pub record Kept : Type 0 where
+  pub total : ℕ
+  pub ends : Place
+  pub fault : Option Fault
 
-abbrev pub Reads : {A : Type 0} → Outcome A → Result A Stop → Tokens → Type 0
-Reads outcome (Ok a) new = outcome ≡ Ok (a, new)
-Reads outcome (Err r) new = Stops r outcome
+-- the tokens that a cursor has left, and what stays
+pub record Ahead : Type 0 where
+  pub left : Tokens
+  pub kept : Kept
+
+abbrev pub Reads : {A : Type 0} → Outcome A → Result A Stop → Ahead → Ahead → Type 0
+Reads outcome (Ok a) old new = (outcome ≡ Ok (a, new.left)) × (new.kept ≡ old.kept)
+Reads outcome (Err stop.Bad) old new = (outcome ≡ Err new.left) × (new.kept ≡ old.kept)
+Reads outcome (Err stop.Memory) old new = Unit {0}

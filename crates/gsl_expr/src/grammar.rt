@@ -1,7 +1,7 @@
 //! The rules of expressions and types. They take the reader of nested expressions as a parameter, so
 //! that each is proved by itself.
 
-ghost use Rattle.std.specs.Prelude.{◌≡◌, [], length};
+ghost use Rattle.std.specs.Prelude.{◌≡◌, ◌<◌, [], length};
 ghost use Rattle.gsl_expr.specs.Expressions as spec;
 ghost use Rattle.gsl_expr.specs.Reading.{Reads};
 ghost use Rattle.gsl_expr.specs.Nests.{Nests};
@@ -36,7 +36,7 @@ impl<F: Fn(Global, &mut Cursor<'_>, usize, u8) -> Result<Expr, Stop>> Grammar<F>
     /// An expression of a level.
     pub fn expr(&self, tokens: &mut Cursor<'_>, least: u8) -> Result<Expr, Stop>
         requires { Nests self.now.depth (F.pre self.now.expr) (F.post self.now.expr) }
-        ensures { Reads (spec.expr self.now.depth least tokens.old) result tokens.new }
+        ensures { Reads (spec.expr self.now.depth least tokens.old.left) result tokens.old tokens.new }
     {
         (self.expr)(self.alloc, tokens, self.depth, least)
     }
@@ -50,7 +50,7 @@ impl<F: Fn(Global, &mut Cursor<'_>, usize, u8) -> Result<Expr, Stop>> Grammar<F>
         tokens: &mut Cursor<'_>,
     ) -> Result<(Dim, Mode), Stop>
         requires { Nests self.now.depth (F.pre self.now.expr) (F.post self.now.expr) }
-        ensures { Reads (spec.bracket (spec.expr self.now.depth) mode place tokens.old) result tokens.new }
+        ensures { Reads (spec.bracket (spec.expr self.now.depth) mode place tokens.old.left) result tokens.old tokens.new }
     {
         if tokens.sees(Punct::RightBracket) && may_be_open(mode) {
             tokens.take_one()?;
@@ -66,7 +66,7 @@ impl<F: Fn(Global, &mut Cursor<'_>, usize, u8) -> Result<Expr, Stop>> Grammar<F>
     #[tactic(auto, unfolding(crate::specs::Expressions::dims))]
     pub fn dims(&self, tokens: &mut Cursor<'_>) -> Result<Dims, Stop>
         requires { Nests self.now.depth (F.pre self.now.expr) (F.post self.now.expr) }
-        ensures { Reads (spec.dims (spec.expr self.now.depth) tokens.old) result tokens.new }
+        ensures { Reads (spec.dims (spec.expr self.now.depth) tokens.old.left) result tokens.old tokens.new }
     {
         let (dims, _) = self.brackets(Mode::Type, tokens)?;
         Ok(dims)
@@ -76,9 +76,9 @@ impl<F: Fn(Global, &mut Cursor<'_>, usize, u8) -> Result<Expr, Stop>> Grammar<F>
     #[tactic(auto, unfolding(crate::specs::Expressions::named_head))]
     pub fn named_head(&self, tokens: &mut Cursor<'_>) -> Result<Head, Stop>
         requires { Nests self.now.depth (F.pre self.now.expr) (F.post self.now.expr) }
-        ensures { Reads (spec.named_head (spec.expr self.now.depth) tokens.old) result tokens.new }
+        ensures { Reads (spec.named_head (spec.expr self.now.depth) tokens.old.left) result tokens.old tokens.new }
     {
-        let name = tokens.name(self.alloc)?;
+        let name = tokens.name()?;
         let (dims, mode) = self.brackets(Mode::Either, tokens)?;
         Ok(named(name, dims, mode))
     }
@@ -87,7 +87,7 @@ impl<F: Fn(Global, &mut Cursor<'_>, usize, u8) -> Result<Expr, Stop>> Grammar<F>
     #[tactic(auto, unfolding(crate::specs::Expressions::basic_head))]
     pub fn basic_head(&self, basic: Basic, tokens: &mut Cursor<'_>) -> Result<Head, Stop>
         requires { Nests self.now.depth (F.pre self.now.expr) (F.post self.now.expr) }
-        ensures { Reads (spec.basic_head (spec.expr self.now.depth) basic tokens.old) result tokens.new }
+        ensures { Reads (spec.basic_head (spec.expr self.now.depth) basic tokens.old.left) result tokens.old tokens.new }
     {
         let place = tokens.take_one()?;
         let dims = self.dims(tokens)?;
@@ -96,7 +96,7 @@ impl<F: Fn(Global, &mut Cursor<'_>, usize, u8) -> Result<Expr, Stop>> Grammar<F>
 
     fn by_name(&self, tokens: &mut Cursor<'_>) -> Result<Expr, Stop>
         requires { Nests self.now.depth (F.pre self.now.expr) (F.post self.now.expr) }
-        ensures { Reads (spec.operand_as (spec.expr self.now.depth) start.Name tokens.old) result tokens.new }
+        ensures { Reads (spec.operand_as (spec.expr self.now.depth) start.Name tokens.old.left) result tokens.old tokens.new }
     {
         let head = self.named_head(tokens)?;
         self.applied(head, tokens)
@@ -104,7 +104,7 @@ impl<F: Fn(Global, &mut Cursor<'_>, usize, u8) -> Result<Expr, Stop>> Grammar<F>
 
     fn by_type(&self, basic: Basic, tokens: &mut Cursor<'_>) -> Result<Expr, Stop>
         requires { Nests self.now.depth (F.pre self.now.expr) (F.post self.now.expr) }
-        ensures { Reads (spec.operand_as (spec.expr self.now.depth) (start.Basic basic) tokens.old) result tokens.new }
+        ensures { Reads (spec.operand_as (spec.expr self.now.depth) (start.Basic basic) tokens.old.left) result tokens.old tokens.new }
     {
         let head = self.basic_head(basic, tokens)?;
         self.applied(head, tokens)
@@ -112,7 +112,7 @@ impl<F: Fn(Global, &mut Cursor<'_>, usize, u8) -> Result<Expr, Stop>> Grammar<F>
 
     fn paren(&self, tokens: &mut Cursor<'_>) -> Result<Expr, Stop>
         requires { Nests self.now.depth (F.pre self.now.expr) (F.post self.now.expr) }
-        ensures { Reads (spec.operand_as (spec.expr self.now.depth) start.Paren tokens.old) result tokens.new }
+        ensures { Reads (spec.operand_as (spec.expr self.now.depth) start.Paren tokens.old.left) result tokens.old tokens.new }
     {
         let place = tokens.take_one()?;
         let inner = self.expr(tokens, 0)?;
@@ -122,7 +122,7 @@ impl<F: Fn(Global, &mut Cursor<'_>, usize, u8) -> Result<Expr, Stop>> Grammar<F>
 
     fn unary(&self, op: UnaryOp, tokens: &mut Cursor<'_>) -> Result<Expr, Stop>
         requires { Nests self.now.depth (F.pre self.now.expr) (F.post self.now.expr) }
-        ensures { Reads (spec.operand_as (spec.expr self.now.depth) (start.Unary op) tokens.old) result tokens.new }
+        ensures { Reads (spec.operand_as (spec.expr self.now.depth) (start.Unary op) tokens.old.left) result tokens.old tokens.new }
     {
         let place = tokens.take_one()?;
         let inner = self.expr(tokens, 14)?;
@@ -132,9 +132,9 @@ impl<F: Fn(Global, &mut Cursor<'_>, usize, u8) -> Result<Expr, Stop>> Grammar<F>
     #[tactic(auto, unfolding(crate::specs::Expressions::operand))]
     fn operand(&self, tokens: &mut Cursor<'_>) -> Result<Expr, Stop>
         requires { Nests self.now.depth (F.pre self.now.expr) (F.post self.now.expr) }
-        ensures { Reads (spec.operand (spec.expr self.now.depth) tokens.old) result tokens.new }
+        ensures { Reads (spec.operand (spec.expr self.now.depth) tokens.old.left) result tokens.old tokens.new }
     {
-        match next_start(tokens.rest()) {
+        match next_start(tokens) {
             Start::Name => self.by_name(tokens),
             Start::Basic(basic) => self.by_type(basic, tokens),
             Start::Signed(word) => Ok(Expr::Signed(tokens.take_one()?, word)),
@@ -142,18 +142,18 @@ impl<F: Fn(Global, &mut Cursor<'_>, usize, u8) -> Result<Expr, Stop>> Grammar<F>
             Start::Bool(value) => Ok(Expr::Bool(tokens.take_one()?, value)),
             Start::Paren => self.paren(tokens),
             Start::Unary(op) => self.unary(op, tokens),
-            Start::Bad => Err(Stop::At(tokens.left())),
+            Start::Bad => Err(Stop::Bad),
         }
     }
 
     /// Any number of brackets.
     pub fn brackets(&self, first: Mode, tokens: &mut Cursor<'_>) -> Result<(Dims, Mode), Stop>
         requires { Nests self.now.depth (F.pre self.now.expr) (F.post self.now.expr) }
-        ensures { Reads (spec.brackets (spec.expr self.now.depth) (length tokens.old) first [] tokens.old) result tokens.new }
+        ensures { Reads (spec.brackets (spec.expr self.now.depth) (length tokens.old.left) first [] tokens.old.left) result tokens.old tokens.new }
     {
         let mut found = List::new(self.alloc);
         let mut mode = first;
-        for _turn in 0..tokens.left() {
+        for _turn in 0..usize::MAX {
             if !tokens.sees(Punct::LeftBracket) {
                 return Ok((found, mode));
             }
@@ -162,16 +162,16 @@ impl<F: Fn(Global, &mut Cursor<'_>, usize, u8) -> Result<Expr, Stop>> Grammar<F>
             found.push(dim)?;
             mode = next;
         }
-        Ok((found, mode))
+        Err(Stop::Memory)
     }
 
     /// One or more arguments, with the parenthesis that closes them.
     fn items(&self, tokens: &mut Cursor<'_>) -> Result<Exprs, Stop>
         requires { Nests self.now.depth (F.pre self.now.expr) (F.post self.now.expr) }
-        ensures { Reads (spec.items (spec.expr self.now.depth) (length tokens.old) [] tokens.old) result tokens.new }
+        ensures { Reads (spec.items (spec.expr self.now.depth) (length tokens.old.left) [] tokens.old.left) result tokens.old tokens.new }
     {
         let mut found = List::new(self.alloc);
-        for _turn in 0..tokens.left() {
+        for _turn in 0..usize::MAX {
             let item = self.expr(tokens, 1)?;
             found.push(item)?;
             if !tokens.sees(Punct::Comma) {
@@ -180,21 +180,21 @@ impl<F: Fn(Global, &mut Cursor<'_>, usize, u8) -> Result<Expr, Stop>> Grammar<F>
             }
             tokens.take_one()?;
         }
-        Err(Stop::At(tokens.left()))
+        Err(Stop::Memory)
     }
 
     /// A call, behind its parenthesis.
     #[tactic(auto, unfolding(crate::specs::Expressions::arguments))]
     fn arguments(&self, callee: TypeSpec, tokens: &mut Cursor<'_>) -> Result<Expr, Stop>
         requires { Nests self.now.depth (F.pre self.now.expr) (F.post self.now.expr) }
-        ensures { Reads (spec.arguments (spec.expr self.now.depth) callee tokens.old) result tokens.new }
+        ensures { Reads (spec.arguments (spec.expr self.now.depth) callee tokens.old.left) result tokens.old tokens.new }
     {
         let callee = Boxed::new(self.alloc, callee)?;
         if tokens.sees(Punct::RightParen) {
             tokens.take_one()?;
             return Ok(Expr::Call(callee, List::new(self.alloc)));
         }
-        if void_alone(tokens.rest()) {
+        if void_alone(tokens) {
             tokens.take_one()?;
             tokens.take_one()?;
             return Ok(Expr::CallVoid(callee));
@@ -207,14 +207,14 @@ impl<F: Fn(Global, &mut Cursor<'_>, usize, u8) -> Result<Expr, Stop>> Grammar<F>
     #[tactic(auto, unfolding(crate::specs::Expressions::applied))]
     pub fn applied(&self, head: Head, tokens: &mut Cursor<'_>) -> Result<Expr, Stop>
         requires { Nests self.now.depth (F.pre self.now.expr) (F.post self.now.expr) }
-        ensures { Reads (spec.applied (spec.expr self.now.depth) head tokens.old) result tokens.new }
+        ensures { Reads (spec.applied (spec.expr self.now.depth) head tokens.old.left) result tokens.old tokens.new }
     {
         if tokens.sees(Punct::LeftParen) && may_be_open(head.mode) {
             tokens.take_one()?;
             return self.arguments(head_type(head), tokens);
         }
         if !may_be_index(head.mode) {
-            return Err(Stop::At(tokens.left()));
+            return Err(Stop::Bad);
         }
         let Head {
             place,
@@ -224,7 +224,7 @@ impl<F: Fn(Global, &mut Cursor<'_>, usize, u8) -> Result<Expr, Stop>> Grammar<F>
         } = head;
         match base {
             Base::Named(text) => Ok(index_all(self.alloc, Expr::Name(place, text), dims)?),
-            Base::Basic(_) => Err(Stop::At(tokens.left())),
+            Base::Basic(_) => Err(Stop::Bad),
         }
     }
 
@@ -237,7 +237,7 @@ impl<F: Fn(Global, &mut Cursor<'_>, usize, u8) -> Result<Expr, Stop>> Grammar<F>
         left: Expr,
         tokens: &mut Cursor<'_>,
     ) -> Result<Expr, Stop>
-        ensures { Reads (spec.selected place member left tokens.old) result tokens.new }
+        ensures { Reads (spec.selected place member left tokens.old.left) result tokens.old tokens.new }
     {
         let left = Boxed::new(self.alloc, left)?;
         let Name { text, .. } = member;
@@ -251,7 +251,7 @@ impl<F: Fn(Global, &mut Cursor<'_>, usize, u8) -> Result<Expr, Stop>> Grammar<F>
 
     fn indexed(&self, left: Expr, tokens: &mut Cursor<'_>) -> Result<Expr, Stop>
         requires { Nests self.now.depth (F.pre self.now.expr) (F.post self.now.expr) }
-        ensures { Reads (spec.operate_as (spec.expr self.now.depth) left follow.Index tokens.old) result tokens.new }
+        ensures { Reads (spec.operate_as (spec.expr self.now.depth) left follow.Index tokens.old.left) result tokens.old tokens.new }
     {
         let place = tokens.take_one()?;
         let at = self.expr(tokens, 0)?;
@@ -261,16 +261,16 @@ impl<F: Fn(Global, &mut Cursor<'_>, usize, u8) -> Result<Expr, Stop>> Grammar<F>
 
     fn member(&self, left: Expr, tokens: &mut Cursor<'_>) -> Result<Expr, Stop>
         requires { Nests self.now.depth (F.pre self.now.expr) (F.post self.now.expr) }
-        ensures { Reads (spec.operate_as (spec.expr self.now.depth) left follow.Member tokens.old) result tokens.new }
+        ensures { Reads (spec.operate_as (spec.expr self.now.depth) left follow.Member tokens.old.left) result tokens.old tokens.new }
     {
         let place = tokens.take_one()?;
-        let name = tokens.name(self.alloc)?;
+        let name = tokens.name()?;
         self.selected(place, name, left, tokens)
     }
 
     fn stepped(&self, op: PostfixOp, left: Expr, tokens: &mut Cursor<'_>) -> Result<Expr, Stop>
         requires { Nests self.now.depth (F.pre self.now.expr) (F.post self.now.expr) }
-        ensures { Reads (spec.operate_as (spec.expr self.now.depth) left (follow.Postfix op) tokens.old) result tokens.new }
+        ensures { Reads (spec.operate_as (spec.expr self.now.depth) left (follow.Postfix op) tokens.old.left) result tokens.old tokens.new }
     {
         let place = tokens.take_one()?;
         Ok(postfix(self.alloc, place, op, left)?)
@@ -278,7 +278,7 @@ impl<F: Fn(Global, &mut Cursor<'_>, usize, u8) -> Result<Expr, Stop>> Grammar<F>
 
     fn joined(&self, op: BinaryOp, left: Expr, tokens: &mut Cursor<'_>) -> Result<Expr, Stop>
         requires { Nests self.now.depth (F.pre self.now.expr) (F.post self.now.expr) }
-        ensures { Reads (spec.operate_as (spec.expr self.now.depth) left (follow.Binary op) tokens.old) result tokens.new }
+        ensures { Reads (spec.operate_as (spec.expr self.now.depth) left (follow.Binary op) tokens.old.left) result tokens.old tokens.new }
     {
         let place = tokens.take_one()?;
         let right = self.expr(tokens, level(op) + 1)?;
@@ -288,36 +288,37 @@ impl<F: Fn(Global, &mut Cursor<'_>, usize, u8) -> Result<Expr, Stop>> Grammar<F>
     #[tactic(auto, unfolding(crate::specs::Expressions::operate))]
     fn operate(&self, left: Expr, tokens: &mut Cursor<'_>) -> Result<Expr, Stop>
         requires { Nests self.now.depth (F.pre self.now.expr) (F.post self.now.expr) }
-        ensures { Reads (spec.operate (spec.expr self.now.depth) left tokens.old) result tokens.new }
+        ensures { Reads (spec.operate (spec.expr self.now.depth) left tokens.old.left) result tokens.old tokens.new }
     {
-        match next_follow(tokens.rest()) {
+        match next_follow(tokens) {
             Follow::Index => self.indexed(left, tokens),
             Follow::Member => self.member(left, tokens),
             Follow::Postfix(op) => self.stepped(op, left, tokens),
             Follow::Binary(op) => self.joined(op, left, tokens),
-            Follow::End => Err(Stop::At(tokens.left())),
+            Follow::End => Err(Stop::Bad),
         }
     }
 
     /// Operators that bind at least so tightly, with their operands.
     fn climb(&self, least: u8, first: Expr, tokens: &mut Cursor<'_>) -> Result<Expr, Stop>
-        requires { Nests self.now.depth (F.pre self.now.expr) (F.post self.now.expr) }
-        ensures { Reads (spec.climb (spec.expr self.now.depth) least (length tokens.old) first tokens.old) result tokens.new }
+        requires nested { Nests self.now.depth (F.pre self.now.expr) (F.post self.now.expr) }
+        requires some { 0 < least }
+        ensures { Reads (spec.climb (spec.expr self.now.depth) least (length tokens.old.left) first tokens.old.left) result tokens.old tokens.new }
     {
         let mut left = first;
-        for _turn in 0..tokens.left() {
-            if binds(next_follow(tokens.rest())) < least {
+        for _turn in 0..usize::MAX {
+            if binds(next_follow(tokens)) < least {
                 return Ok(left);
             }
             left = self.operate(left, tokens)?;
         }
-        Ok(left)
+        Err(Stop::Memory)
     }
 
     /// The rest of a condition, from its `?` on.
     fn chosen(&self, least: u8, left: Expr, tokens: &mut Cursor<'_>) -> Result<Expr, Stop>
         requires { Nests self.now.depth (F.pre self.now.expr) (F.post self.now.expr) }
-        ensures { Reads (spec.tailed_as (spec.expr self.now.depth) least left tail.Question tokens.old) result tokens.new }
+        ensures { Reads (spec.tailed_as (spec.expr self.now.depth) least left tail.Question tokens.old.left) result tokens.old tokens.new }
     {
         if least > 2 {
             return Ok(left);
@@ -338,7 +339,7 @@ impl<F: Fn(Global, &mut Cursor<'_>, usize, u8) -> Result<Expr, Stop>> Grammar<F>
         tokens: &mut Cursor<'_>,
     ) -> Result<Expr, Stop>
         requires { Nests self.now.depth (F.pre self.now.expr) (F.post self.now.expr) }
-        ensures { Reads (spec.tailed_as (spec.expr self.now.depth) least left (tail.Assign op) tokens.old) result tokens.new }
+        ensures { Reads (spec.tailed_as (spec.expr self.now.depth) least left (tail.Assign op) tokens.old.left) result tokens.old tokens.new }
     {
         if least > 1 || !is_tight(&left) {
             return Ok(left);
@@ -352,9 +353,9 @@ impl<F: Fn(Global, &mut Cursor<'_>, usize, u8) -> Result<Expr, Stop>> Grammar<F>
     #[tactic(auto, unfolding(crate::specs::Expressions::tailed))]
     fn tailed(&self, least: u8, left: Expr, tokens: &mut Cursor<'_>) -> Result<Expr, Stop>
         requires { Nests self.now.depth (F.pre self.now.expr) (F.post self.now.expr) }
-        ensures { Reads (spec.tailed (spec.expr self.now.depth) least left tokens.old) result tokens.new }
+        ensures { Reads (spec.tailed (spec.expr self.now.depth) least left tokens.old.left) result tokens.old tokens.new }
     {
-        match next_tail(tokens.rest()) {
+        match next_tail(tokens) {
             Tail::Question => self.chosen(least, left, tokens),
             Tail::Assign(op) => self.assigned(least, op, left, tokens),
             Tail::End => Ok(left),
@@ -364,10 +365,10 @@ impl<F: Fn(Global, &mut Cursor<'_>, usize, u8) -> Result<Expr, Stop>> Grammar<F>
     /// What stands behind commas.
     fn further(&self, tokens: &mut Cursor<'_>) -> Result<List<(Place, Expr)>, Stop>
         requires { Nests self.now.depth (F.pre self.now.expr) (F.post self.now.expr) }
-        ensures { Reads (spec.further (spec.expr self.now.depth) (length tokens.old) [] tokens.old) result tokens.new }
+        ensures { Reads (spec.further (spec.expr self.now.depth) (length tokens.old.left) [] tokens.old.left) result tokens.old tokens.new }
     {
         let mut found = List::new(self.alloc);
-        for _turn in 0..tokens.left() {
+        for _turn in 0..usize::MAX {
             if !tokens.sees(Punct::Comma) {
                 return Ok(found);
             }
@@ -375,14 +376,14 @@ impl<F: Fn(Global, &mut Cursor<'_>, usize, u8) -> Result<Expr, Stop>> Grammar<F>
             let item = self.expr(tokens, 1)?;
             found.push((place, item))?;
         }
-        Ok(found)
+        Err(Stop::Memory)
     }
 
     /// The expression that begins with this operand.
     #[tactic(auto, unfolding(crate::specs::Expressions::completed, crate::specs::Expressions::sequenced))]
     pub fn completed(&self, least: u8, first: Expr, tokens: &mut Cursor<'_>) -> Result<Expr, Stop>
         requires { Nests self.now.depth (F.pre self.now.expr) (F.post self.now.expr) }
-        ensures { Reads (spec.completed (spec.expr self.now.depth) least first tokens.old) result tokens.new }
+        ensures { Reads (spec.completed (spec.expr self.now.depth) least first tokens.old.left) result tokens.old tokens.new }
     {
         let tree = self.climb(least.max(3), first, tokens)?;
         let tree = self.tailed(least, tree, tokens)?;
@@ -396,7 +397,7 @@ impl<F: Fn(Global, &mut Cursor<'_>, usize, u8) -> Result<Expr, Stop>> Grammar<F>
     /// An expression, its first operand first.
     fn whole(&self, least: u8, tokens: &mut Cursor<'_>) -> Result<Expr, Stop>
         requires { Nests self.now.depth (F.pre self.now.expr) (F.post self.now.expr) }
-        ensures { Reads (spec.whole (spec.expr self.now.depth) least tokens.old) result tokens.new }
+        ensures { Reads (spec.whole (spec.expr self.now.depth) least tokens.old.left) result tokens.old tokens.new }
     {
         let first = self.operand(tokens)?;
         self.completed(least, first, tokens)
@@ -405,10 +406,10 @@ impl<F: Fn(Global, &mut Cursor<'_>, usize, u8) -> Result<Expr, Stop>> Grammar<F>
 
 /// An expression of a level that nests no deeper than `depth`.
 pub fn expr(alloc: Global, tokens: &mut Cursor<'_>, depth: usize, least: u8) -> Result<Expr, Stop>
-    ensures { Reads (spec.expr depth least tokens.old) result tokens.new }
+    ensures { Reads (spec.expr depth least tokens.old.left) result tokens.old tokens.new }
 {
     if depth == 0 {
-        return Err(Stop::At(tokens.left()));
+        return Err(Stop::Bad);
     }
     Grammar {
         alloc,

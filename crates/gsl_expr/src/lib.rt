@@ -17,6 +17,6 @@ pub use grammar::expr;
 pub use laws::read_is_derived;
 pub use nodes::{head_type, may_be_open, void_alone};
 pub use parts::{applied, basic_head, completed, dims, named_head};
-pub use reading::{Cursor, sees, sees_key};
+pub use reading::Cursor;
 pub use rule::{Base, Head, Mode, Start, next_start};
 pub use stop::Stop;

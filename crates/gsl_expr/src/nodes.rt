@@ -3,9 +3,9 @@
 ghost use Rattle.std.specs.Prelude.{◌≡◌, IfOk};
 ghost use Rattle.gsl_expr.specs.Expressions as spec;
 
-use crate::reading::{sees, sees_key};
+use crate::reading::Cursor;
 use crate::rule::{Base, Head, Mode};
-use gsl_base::{Boxed, Key, List, Memory, Place, Punct, Token};
+use gsl_base::{Boxed, Key, List, Memory, Place, Punct};
 use gsl_syntax::{AssignOp, Basic, BinaryOp, Dim, Dims, Expr, Name, PostfixOp, TypeSpec, UnaryOp};
 use std::alloc::Global;
 
@@ -171,14 +171,12 @@ pub(crate) fn sequence(
     Ok(Expr::Sequence(Boxed::new(alloc, first)?, further))
 }
 
-#[tactic(auto, unfolding(crate::specs::Expressions::void_alone))]
-pub fn void_alone(tokens: &[Token]) -> bool
-    ensures { result ≡ spec.void_alone tokens.now }
+/// Whether the word `void` and a closing parenthesis stand next.
+#[tactic(auto, unfolding(crate::specs::Expressions::void_alone), using(crate::proofs::Behind::closes))]
+pub fn void_alone(tokens: &Cursor<'_>) -> bool
+    ensures { result ≡ spec.void_alone tokens.now.left }
 {
-    match tokens {
-        [] => false,
-        [_, rest @ ..] => sees_key(Key::Void, tokens) && sees(Punct::RightParen, rest),
-    }
+    tokens.sees_key(Key::Void) && tokens.sees_behind(Punct::RightParen)
 }
 
 /// A name with its brackets, be they those of a type or indexes.

@@ -13,14 +13,14 @@ use std::alloc::Global;
 
 /// The brackets of a type, or of a declared name.
 pub fn dims(alloc: Global, tokens: &mut Cursor<'_>, depth: usize) -> Result<Dims, Stop>
-    ensures { Reads (spec.dims (spec.expr depth) tokens.old) result tokens.new }
+    ensures { Reads (spec.dims (spec.expr depth) tokens.old.left) result tokens.old tokens.new }
 {
     Grammar { alloc, depth, expr }.dims(tokens)
 }
 
 /// A name with its brackets, be they those of a type or indexes.
 pub fn named_head(alloc: Global, tokens: &mut Cursor<'_>, depth: usize) -> Result<Head, Stop>
-    ensures { Reads (spec.named_head (spec.expr depth) tokens.old) result tokens.new }
+    ensures { Reads (spec.named_head (spec.expr depth) tokens.old.left) result tokens.old tokens.new }
 {
     Grammar { alloc, depth, expr }.named_head(tokens)
 }
@@ -32,7 +32,7 @@ pub fn basic_head(
     tokens: &mut Cursor<'_>,
     depth: usize,
 ) -> Result<Head, Stop>
-    ensures { Reads (spec.basic_head (spec.expr depth) basic tokens.old) result tokens.new }
+    ensures { Reads (spec.basic_head (spec.expr depth) basic tokens.old.left) result tokens.old tokens.new }
 {
     Grammar { alloc, depth, expr }.basic_head(basic, tokens)
 }
@@ -44,7 +44,7 @@ pub fn applied(
     tokens: &mut Cursor<'_>,
     depth: usize,
 ) -> Result<Expr, Stop>
-    ensures { Reads (spec.applied (spec.expr depth) head tokens.old) result tokens.new }
+    ensures { Reads (spec.applied (spec.expr depth) head tokens.old.left) result tokens.old tokens.new }
 {
     Grammar { alloc, depth, expr }.applied(head, tokens)
 }
@@ -57,7 +57,7 @@ pub fn completed(
     tokens: &mut Cursor<'_>,
     depth: usize,
 ) -> Result<Expr, Stop>
-    ensures { Reads (spec.completed (spec.expr depth) least first tokens.old) result tokens.new }
+    ensures { Reads (spec.completed (spec.expr depth) least first tokens.old.left) result tokens.old tokens.new }
 {
     Grammar { alloc, depth, expr }.completed(least, first, tokens)
 }

@@ -4,7 +4,8 @@ ghost use Rattle.std.specs.Prelude.{◌≡◌, ◌≤◌};
 ghost use Rattle.gsl_syntax.specs.Operators as operators;
 ghost use Rattle.gsl_expr.specs.Rules as spec;
 
-use gsl_base::{Key, Kind, Place, Punct, Text, Token};
+use crate::reading::Cursor;
+use gsl_base::{Key, Kind, Place, Punct, Text};
 use gsl_syntax::{AssignOp, Basic, BinaryOp, Dims, PostfixOp, UnaryOp};
 
 /// How an operand begins.
@@ -191,20 +192,26 @@ fn start_key(key: Key) -> Start
     }
 }
 
+fn start_by(kind: &Kind) -> Start
+    ensures { result ≡ spec.start_by kind.now }
+{
+    match kind {
+        Kind::Name(_) => Start::Name,
+        Kind::Key(key) => start_key(*key),
+        Kind::Signed(word) => Start::Signed(*word),
+        Kind::Unsigned(word) => Start::Unsigned(*word),
+        Kind::Punct(punct) => start_punct(*punct),
+    }
+}
+
 /// How an operand begins here.
 #[tactic(auto, unfolding(crate::specs::Rules::start_at))]
-pub fn next_start(tokens: &[Token]) -> Start
-    ensures { result ≡ spec.start_at tokens.now }
+pub fn next_start(tokens: &Cursor<'_>) -> Start
+    ensures { result ≡ spec.start_at tokens.now.left }
 {
-    match tokens {
-        [] => Start::Bad,
-        [token, ..] => match &token.kind {
-            Kind::Name(_) => Start::Name,
-            Kind::Key(key) => start_key(*key),
-            Kind::Signed(word) => Start::Signed(*word),
-            Kind::Unsigned(word) => Start::Unsigned(*word),
-            Kind::Punct(punct) => start_punct(*punct),
-        },
+    match tokens.next() {
+        Some(token) => start_by(&token.kind),
+        None => Start::Bad,
     }
 }
 
@@ -223,17 +230,23 @@ fn follow_punct(punct: Punct) -> Follow
     }
 }
 
+fn follow_by(kind: &Kind) -> Follow
+    ensures { result ≡ spec.follow_by kind.now }
+{
+    match kind {
+        Kind::Punct(punct) => follow_punct(*punct),
+        _ => Follow::End,
+    }
+}
+
 /// How an operand goes on here.
 #[tactic(auto, unfolding(crate::specs::Rules::follow_at))]
-pub fn next_follow(tokens: &[Token]) -> Follow
-    ensures { result ≡ spec.follow_at tokens.now }
+pub fn next_follow(tokens: &Cursor<'_>) -> Follow
+    ensures { result ≡ spec.follow_at tokens.now.left }
 {
-    match tokens {
-        [] => Follow::End,
-        [token, ..] => match &token.kind {
-            Kind::Punct(punct) => follow_punct(*punct),
-            _ => Follow::End,
-        },
+    match tokens.next() {
+        Some(token) => follow_by(&token.kind),
+        None => Follow::End,
     }
 }
 
@@ -260,16 +273,22 @@ fn tail_punct(punct: Punct) -> Tail
     }
 }
 
+fn tail_by(kind: &Kind) -> Tail
+    ensures { result ≡ spec.tail_by kind.now }
+{
+    match kind {
+        Kind::Punct(punct) => tail_punct(*punct),
+        _ => Tail::End,
+    }
+}
+
 /// What stands behind operands and their operators here.
 #[tactic(auto, unfolding(crate::specs::Rules::tail_at))]
-pub fn next_tail(tokens: &[Token]) -> Tail
-    ensures { result ≡ spec.tail_at tokens.now }
+pub fn next_tail(tokens: &Cursor<'_>) -> Tail
+    ensures { result ≡ spec.tail_at tokens.now.left }
 {
-    match tokens {
-        [] => Tail::End,
-        [token, ..] => match &token.kind {
-            Kind::Punct(punct) => tail_punct(*punct),
-            _ => Tail::End,
-        },
+    match tokens.next() {
+        Some(token) => tail_by(&token.kind),
+        None => Tail::End,
     }
 }

@@ -11,8 +11,8 @@ use std::alloc::{AllocError, AllocFailed};
 pub enum Stop {
     /// Want of memory.
     Memory,
-    /// A bad token, with how many tokens are left from it on; none where the input ends too soon.
-    At(usize),
+    /// A bad token, before which the cursor stands; at the end where the input ends too soon.
+    Bad,
 }
 
 impl From<Memory> for Stop {

@@ -1,100 +1,93 @@
--- Which units are of the form, whatever the places in them are.
-use Rattle.std.specs.Prelude.{◌≡◌, ℕ, List, [], ◌∷◌, ◌++◌, Option, None, codes}
+-- Which lists of a typed unit or program are of the form, whatever the places in them are.
+use Rattle.std.specs.Prelude.{◌≡◌, ℕ, false, List, [], ◌∷◌, ◌++◌, None, codes}
 use Rattle.gsl_base.specs.declared.fault.Place.{Place}
-use Rattle.gsl_syntax.specs.declared.operator.BinaryOp.TheVariants.{Add}
-use Rattle.gsl_syntax.specs.declared.operator.AssignOp.TheVariants.{Set}
-use Rattle.gsl_syntax.specs.declared.expr.Basic.{Basic}
-use Rattle.gsl_syntax.specs.declared.expr.Basic.TheVariants as basic
-use Rattle.gsl_syntax.specs.declared.expr.Expr.{Expr}
-use Rattle.gsl_syntax.specs.declared.expr.Expr.TheVariants as expr
-use Rattle.gsl_syntax.specs.declared.expr.TypeSpec.{TypeSpec}
-use Rattle.gsl_syntax.specs.declared.expr.TypeSpec.TheVariants as type
-use Rattle.gsl_syntax.specs.declared.declaration.Name.{Name as Named}
-use Rattle.gsl_syntax.specs.declared.declaration.Lay.{Lay}
-use Rattle.gsl_syntax.specs.declared.declaration.Lay.TheVariants as lay
-use Rattle.gsl_syntax.specs.declared.declaration.Qual.{Qual}
-use Rattle.gsl_syntax.specs.declared.declaration.Qual.TheVariants as qual
-use Rattle.gsl_syntax.specs.declared.declaration.Member.{Member as Members}
-use Rattle.gsl_syntax.specs.declared.declaration.Decl.TheVariants as decl
-use Rattle.gsl_syntax.specs.declared.statement.Stmt.{Stmt}
-use Rattle.gsl_syntax.specs.declared.statement.Stmt.TheVariants as stmt
-use Rattle.gsl_syntax.specs.declared.statement.Params.TheVariants as params
-use Rattle.gsl_syntax.specs.declared.statement.Body.TheVariants as body
-use Rattle.gsl_syntax.specs.declared.statement.Global.{Global}
-use Rattle.gsl_syntax.specs.declared.statement.Global.TheVariants as global
+use Rattle.gsl_types.specs.declared.ty.Scalar.TheVariants.{Int}
+use Rattle.gsl_types.specs.declared.ty.Ty.{Ty}
+use Rattle.gsl_types.specs.declared.ty.Ty.TheVariants as ty
+use Rattle.gsl_values.specs.declared.op.BinaryOp.TheVariants.{Add}
+use Rattle.gsl_values.specs.declared.value.Value.TheVariants.{Word}
+use Rattle.gsl_tree.specs.declared.expr.Expr.{Expr}
+use Rattle.gsl_tree.specs.declared.expr.ExprKind.{ExprKind}
+use Rattle.gsl_tree.specs.declared.expr.ExprKind.TheVariants as kind
+use Rattle.gsl_tree.specs.declared.stmt.Stmt.{Stmt}
+use Rattle.gsl_tree.specs.declared.stmt.Stmt.TheVariants as stmt
+use Rattle.gsl_tree.specs.declared.unit.BlockKind.TheVariants.{Buffer}
+use Rattle.gsl_tree.specs.declared.unit.Block.{Block}
+use Rattle.gsl_tree.specs.declared.unit.BlockMember.{BlockMember}
+use Rattle.gsl_tree.specs.declared.unit.Prototype.{Prototype}
+use Rattle.gsl_tree.specs.declared.unit.Function.{Function}
+use Rattle.gsl_tree.specs.Trees.{typed}
+use Rattle.gsl_tree.specs.WellTyped.{Lists}
 use Rattle.gsl_form.specs.declared.program.Term.{Term}
 use Rattle.gsl_form.specs.declared.program.Term.TheVariants.{Member, Literal}
 use Rattle.gsl_form.specs.declared.program.Statement.{Statement}
 use Rattle.gsl_form.specs.declared.program.Program.{Program}
-use Rattle.gsl_form.specs.Form.{Name, name_of, IsProgram}
+use Rattle.gsl_form.specs.Form.{Name, IsProgram}
 
--- a name at a place
-abbrev pub named : Place → Name → Named
-named p name = record { place = p; text = name }
+abbrev pub int : Ty
+int = ty.One Int
 
--- a type without brackets
-abbrev pub typed : Place → Basic → TypeSpec
-typed p ty = type.Basic p ty []
+-- an expression of type `int` at a place
+abbrev pub int_at : Place → ExprKind → Expr
+int_at p k = typed p int k
 
--- a term: the name of a member, or a literal without suffix
-pub data IsTermOf (members : List Name) : Expr → Term → Type 0 where
-  member : (p : Place) (i : ℕ) → IsTermOf members (expr.Name p (name_of members i)) (Member i)
-  literal : (p : Place) (n : ℕ) → IsTermOf members (expr.Signed p n) (Literal n)
+-- a member of the block by its number
+abbrev pub member_at : Place → ℕ → Expr
+member_at p i = int_at p (kind.BlockMember 0 i)
+
+-- a term: a member of the block, or a literal
+pub data IsTermOf : Expr → Term → Type 0 where
+  member : (p : Place) (i : ℕ) → IsTermOf (member_at p i) (Member i)
+  literal : (p : Place) (n : ℕ) → IsTermOf (int_at p (kind.Const (Word n))) (Literal n)
 
 -- terms with `+` between them, from left to right
-pub data IsSumOf (members : List Name) : Expr → List Term → Type 0 where
-  one : {a : Expr} {t : Term} → IsTermOf members a t → IsSumOf members a (t ∷ [])
-  more : {a b : Expr} {ts : List Term} {t : Term} (p : Place) → IsSumOf members a ts → IsTermOf members b t
-      → IsSumOf members (expr.Binary p Add a b) (ts ++ t ∷ [])
+pub data IsSumOf : Expr → List Term → Type 0 where
+  one : {a : Expr} {t : Term} → IsTermOf a t → IsSumOf a (t ∷ [])
+  more : {a b : Expr} {ts : List Term} {t : Term} (p : Place) → IsSumOf a ts → IsTermOf b t → IsSumOf (int_at p (kind.Binary Add a b)) (ts ++ t ∷ [])
 
 -- `NAME = TERM + .. + TERM;`
-pub data IsStatementOf (members : List Name) : Stmt → Statement → Type 0 where
-  assigns : {a : Expr} {ts : List Term} (p q : Place) (i : ℕ) → IsSumOf members a ts
-      → IsStatementOf members (stmt.Expr (expr.Assign p Set (expr.Name q (name_of members i)) a)) (record { target = i; terms = ts })
+pub data IsStatementOf : Stmt → Statement → Type 0 where
+  assigns : {a : Expr} {ts : List Term} (p q : Place) (i : ℕ) → IsSumOf a ts
+      → IsStatementOf (stmt.Eval (int_at p (kind.Assign (member_at q i) a))) (record { target = i; terms = ts })
 
 -- `int NAME;`
-pub data IsMemberOf : Members → Name → Type 0 where
-  int : (p q : Place) (name : Name)
-      → IsMemberOf (record { quals = []; ty = typed p basic.Int; names = record { name = named q name; dims = [] } ∷ [] }) name
+pub data IsMemberOf : BlockMember → Name → Type 0 where
+  named : (p : Place) (name : Name)
+      → IsMemberOf (record { name = name; ty = int; readonly = false; writeonly = false; coherent = false; volatile = false; restrict = false; offset = None; align = None; place = p }) name
 
 -- as many trees as data, each of its own
 pub data Each {A B : Type 0} (Of : A → B → Type 0) : List A → List B → Type 0 where
   done : Each Of [] []
   next : {a : A} {b : B} {xs : List A} {ys : List B} → Of a b → Each Of xs ys → Each Of (a ∷ xs) (b ∷ ys)
 
--- `NAME = N` in a layout
-abbrev pub valued : Place → Place → Name → ℕ → Lay
-valued p q name n = lay.Value (named p name) (expr.Signed q n)
+-- `layout(set = 0, binding = 0, std430) buffer B { MEMBER .. };` with the bytes that its buffer must have
+abbrev pub block_at : Place → ℕ → List BlockMember → Block
+block_at p need members = record { name = codes "B"; instance = None; kind = Buffer; set = 0; binding = 0; std140 = false; members = members; need = need; place = p }
 
--- `layout(local_size_x = 1) in;`
-abbrev pub local_size_at : Place → Place → Place → Place → Global
-local_size_at a b c d = global.Decl (decl.Quals (qual.Layout a (valued b c (codes "local_size_x") 1 ∷ []) ∷ qual.In d ∷ []))
+pub data AreBlocksOf : List Block → List Name → Type 0 where
+  block : {members : List BlockMember} {names : List Name} (p : Place) (need : ℕ) → Each IsMemberOf members names → AreBlocksOf (block_at p need members ∷ []) names
 
--- the layout names `set = 0, binding = 0, std430`
-abbrev pub binding_at : Place → Place → Place → Place → Place → List Lay
-binding_at a b c d e = valued a b (codes "set") 0 ∷ valued c d (codes "binding") 0 ∷ lay.Flag (named e (codes "std430")) ∷ []
+-- `void main()`
+abbrev pub head_at : Place → Prototype
+head_at p = record { name = codes "main"; result = ty.Void; params = []; place = p }
 
--- `layout(set = 0, binding = 0, std430) buffer B { MEMBER .. };`
-abbrev pub block_at : Place → List Lay → Place → Place → List Members → Global
-block_at a lays b c members = global.Decl (decl.Block (qual.Layout a lays ∷ qual.Buffer b ∷ []) (named c (codes "B")) members None)
+pub data AreHeads : List Prototype → Type 0 where
+  main : (p : Place) → AreHeads (head_at p ∷ [])
 
--- `void main() { STATEMENT .. }`
-abbrev pub main_at : Place → Place → Place → List Stmt → Global
-main_at a b c statements = global.Function (record {
-  quals = [];
-  ty = typed a basic.Void;
-  name = named b (codes "main");
-  params = params.Items [];
-  body = body.Block c statements;
-})
+-- `{ STATEMENT .. }`, the body of the first head
+abbrev pub body_at : Place → List Stmt → Function
+body_at p statements = record { prototype = 0; locals = []; body = statements; place = p }
 
--- The unit is a local size of 1, a block of members at set 0 and binding 0, and the function `main`.
-pub data IsUnitOf : List Global → Program → Type 0 where
-  unit : {members : List Members} {statements : List Stmt} {p : Program} (a b c d e f g h i j k l m n o : Place)
-      → Each IsMemberOf members p.members → Each (IsStatementOf p.members) statements p.statements
-      → IsUnitOf (local_size_at a b c d ∷ block_at e (binding_at f g h i j) k l members ∷ main_at m n o statements ∷ []) p
+pub data AreFunctionsOf : List Function → List Statement → Type 0 where
+  main : {trees : List Stmt} {statements : List Statement} (p : Place) → Each IsStatementOf trees statements → AreFunctionsOf (body_at p trees ∷ []) statements
 
--- The unit spells the program.
-pub record Spells (unit : List Global) (p : Program) : Type 0 where
+-- The lists spell the program: a local size of 1, one block at set 0 and binding 0, the function `main`, and nothing else. The stage is not asked.
+pub record Spells (lists : Lists) (p : Program) : Type 0 where
   pub fits : IsProgram p
-  pub tree : IsUnitOf unit p
+  pub structs : lists.structs ≡ []
+  pub globals : lists.globals ≡ []
+  pub interfaces : lists.interfaces ≡ []
+  pub sizes : lists.sizes ≡ (1 ∷ 1 ∷ 1 ∷ []) ∷ []
+  pub blocks : AreBlocksOf lists.blocks p.members
+  pub prototypes : AreHeads lists.prototypes
+  pub functions : AreFunctionsOf lists.functions p.statements

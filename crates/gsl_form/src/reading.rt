@@ -1,9 +1,14 @@
-//! Reading the program of a unit: each function asks one part of the tree whether it is of the form.
+//! Reading the program of typed lists: each function asks one part of them whether it is of the form.
 
-ghost use Rattle.std.specs.Prelude.{◌≡◌, ◌≤◌, ◌<◌, [], ◌∷◌, codes, length, IfOk, IfSome, IfNone};
+ghost use Rattle.std.specs.Prelude.{◌≡◌, ◌≤◌, ◌<◌, [], ◌∷◌, codes, length, IfOk, IfSome, IfNone, map};
 ghost use Rattle.std.specs.Option.{option_map};
 ghost use Rattle.std.specs.List.{list_any};
 ghost use Rattle.std.specs.Str.{bytes_eq, all_ascii_digits};
+ghost use Rattle.gsl_base.specs.declared.stage.Stage.{Stage};
+ghost use Rattle.gsl_base.specs.declared.stage.Stage.TheVariants.{Compute};
+ghost use Rattle.gsl_tree.specs.declared.unit.LocalSize.{LocalSize as OneSize};
+ghost use Rattle.gsl_tree.specs.Around.{is_buffer as buffer};
+ghost use Rattle.gsl_tree.specs.WellTyped.{unit_lists, program_lists};
 ghost use Rattle.gsl_form.specs.declared.program.Program.{Program};
 ghost use Rattle.gsl_form.specs.Form.{differ as names_differ};
 ghost use Rattle.gsl_form.specs.Form.{is_name as has_form};
@@ -14,50 +19,85 @@ use crate::program::{
     MAX_MEMBERS, MAX_STATEMENTS, MAX_TERMS, Names, Program, Statement, Statements, Term, Terms,
 };
 use gsl_base::{Memory, Text};
-use gsl_syntax::{
-    AssignOp, Basic, BinaryOp, Body, Decl, Declared, Expr, Function, Global as Top, Lay, Member,
-    Name, Params, Qual, Stmt, TypeSpec, Unit,
+use gsl_tree::{
+    Block, BlockKind, BlockMember, Expr, ExprKind, Function, LocalSize, Program as Linked,
+    Prototype, Stmt, TypedUnit,
 };
+use gsl_types::{Scalar, Ty};
+use gsl_values::{BinaryOp, Value};
 use std::alloc::Global;
 
-/// The number of the member that has the name.
-fn number_of(members: &[Text], name: &Text) -> Option<u32>
-    requires { length members.now ≤ 64 }
-    ensures value { result ≡ spec.number_of members.now name.now }
-    ensures within { IfSome result (λ number. number < length members.now) }
+/// Whether a type is `int`.
+#[tactic(auto, unfolding(crate::specs::Reading::is_int))]
+fn is_int(ty: &Ty) -> bool
+    ensures { result ≡ spec.is_int ty.now }
 {
-    match members {
-        [] => None,
-        [member, more @ ..] => {
-            if member == name {
-                Some(0)
-            } else {
-                let number = number_of(more, name)?;
-                Some(number + 1)
-            }
-        }
+    match ty {
+        Ty::One(Scalar::Int) => true,
+        _ => false,
+    }
+}
+
+/// Whether a type is `void`.
+#[tactic(auto, unfolding(crate::specs::Reading::is_void))]
+fn is_void(ty: &Ty) -> bool
+    ensures { result ≡ spec.is_void ty.now }
+{
+    match ty {
+        Ty::Void => true,
+        _ => false,
+    }
+}
+
+/// The member of a number of the first block, which has so many.
+fn member(count: usize, block: u32, number: u32) -> Option<Term>
+    ensures { result ≡ spec.member count block number }
+{
+    if block == 0 && (number as usize) < count {
+        Some(Term::Member(number))
+    } else {
+        None
+    }
+}
+
+/// The literal of a value, if it is a word.
+#[tactic(auto, unfolding(crate::specs::Reading::literal))]
+fn literal(value: &Value) -> Option<Term>
+    ensures { result ≡ spec.literal value.now }
+{
+    match value {
+        Value::Word(word) => Some(Term::Literal(*word)),
+        Value::Many(_) => None,
     }
 }
 
 /// The term that an expression is, if it is one.
 #[tactic(auto, using(crate::proofs::Steps::steps))]
-fn term(members: &Names, tree: &Expr) -> Option<Term>
-    requires { length members.now ≤ 64 }
-    ensures { result ≡ (spec.parts_of members.now tree.now).term }
+fn term(count: usize, tree: &Expr) -> Option<Term>
+    ensures { result ≡ (spec.parts_of count tree.now).term }
 {
-    match tree {
-        Expr::Name(_, name) => Some(Term::Member(number_of(members.as_slice(), name)?)),
-        Expr::Signed(_, word) => Some(Term::Literal(*word)),
+    if !is_int(&tree.ty) {
+        return None;
+    }
+    kind_term(count, &tree.kind)
+}
+
+#[tactic(auto, using(crate::proofs::Steps::steps))]
+fn kind_term(count: usize, kind: &ExprKind) -> Option<Term>
+    ensures { result ≡ (spec.kind_parts count kind.now).term }
+{
+    match kind {
+        ExprKind::BlockMember(block, number) => member(count, *block, *number),
+        ExprKind::Const(value) => literal(value),
         _ => None,
     }
 }
 
 /// A sum of one term, if the expression is one.
-fn one_term(alloc: Global, members: &Names, tree: &Expr) -> Result<Option<Terms>, Memory>
-    requires { length members.now ≤ 64 }
-    ensures { IfOk result (λ found. found ≡ option_map (λ t. t ∷ []) (spec.parts_of members.now tree.now).term) }
+fn one_term(alloc: Global, count: usize, kind: &ExprKind) -> Result<Option<Terms>, Memory>
+    ensures { IfOk result (λ found. found ≡ option_map (λ t. t ∷ []) (spec.kind_parts count kind.now).term) }
 {
-    let Some(term) = term(members, tree) else {
+    let Some(term) = kind_term(count, kind) else {
         return Ok(None);
     };
     let mut terms = Terms::new(alloc);
@@ -86,20 +126,31 @@ fn is_add(op: BinaryOp) -> bool
 }
 
 /// The terms that an expression adds up, if it is a sum of terms.
+#[cycle(sum)]
 #[tactic(auto, using(crate::proofs::Steps::steps))]
-fn sum(alloc: Global, members: &Names, tree: &Expr) -> Result<Option<Terms>, Memory>
-    requires { length members.now ≤ 64 }
-    ensures { IfOk result (λ found. found ≡ (spec.parts_of members.now tree.now).sum) }
+fn sum(alloc: Global, count: usize, tree: &Expr) -> Result<Option<Terms>, Memory>
+    ensures { IfOk result (λ found. found ≡ (spec.parts_of count tree.now).sum) }
 {
-    match tree {
-        Expr::Binary(_, op, a, b) => {
+    if !is_int(&tree.ty) {
+        return Ok(None);
+    }
+    kind_sum(alloc, count, &tree.kind)
+}
+
+#[cycle(sum)]
+#[tactic(auto, using(crate::proofs::Steps::steps))]
+fn kind_sum(alloc: Global, count: usize, kind: &ExprKind) -> Result<Option<Terms>, Memory>
+    ensures { IfOk result (λ found. found ≡ (spec.kind_parts count kind.now).sum) }
+{
+    match kind {
+        ExprKind::Binary(op, a, b) => {
             if !is_add(*op) {
                 return Ok(None);
             }
-            let terms = sum(alloc, members, a.get())?;
-            with_term(terms, term(members, b.get()))
+            let terms = sum(alloc, count, a.get())?;
+            with_term(terms, term(count, b.get()))
         }
-        _ => one_term(alloc, members, tree),
+        _ => one_term(alloc, count, kind),
     }
 }
 
@@ -113,207 +164,73 @@ fn assigned(target: u32, terms: Terms) -> Option<Statement>
     Some(Statement { target, terms })
 }
 
-/// The number of the member that an expression names.
-#[tactic(auto, unfolding(crate::specs::Reading::target_of))]
-fn target(members: &Names, tree: &Expr) -> Option<u32>
-    requires { length members.now ≤ 64 }
-    ensures { result ≡ spec.target_of members.now tree.now }
+/// The number of the member that an expression is.
+fn target(count: usize, tree: &Expr) -> Option<u32>
+    ensures { result ≡ spec.target_of count tree.now }
 {
-    match tree {
-        Expr::Name(_, name) => number_of(members.as_slice(), name),
+    match term(count, tree) {
+        Some(Term::Member(number)) => Some(number),
         _ => None,
     }
 }
 
 /// The assignment of a sum to a member.
-fn assign_by(
-    alloc: Global,
-    members: &Names,
-    op: AssignOp,
-    a: &Expr,
-    b: &Expr,
-) -> Result<Option<Statement>, Memory>
-    requires { length members.now ≤ 64 }
-    ensures { IfOk result (λ found. found ≡ spec.assign_by members.now op a.now b.now) }
+fn assign_by(alloc: Global, count: usize, a: &Expr, b: &Expr) -> Result<Option<Statement>, Memory>
+    ensures { IfOk result (λ found. found ≡ spec.assign_by count a.now b.now) }
 {
-    if op != AssignOp::Set {
-        return Ok(None);
-    }
-    let Some(target) = target(members, a) else {
+    let Some(target) = target(count, a) else {
         return Ok(None);
     };
-    let Some(terms) = sum(alloc, members, b)? else {
+    let Some(terms) = sum(alloc, count, b)? else {
         return Ok(None);
     };
     Ok(assigned(target, terms))
 }
 
-/// The assignment that an expression is.
-#[tactic(auto, unfolding(crate::specs::Reading::assign_of))]
-fn assign(alloc: Global, members: &Names, tree: &Expr) -> Result<Option<Statement>, Memory>
-    requires { length members.now ≤ 64 }
-    ensures { IfOk result (λ found. found ≡ spec.assign_of members.now tree.now) }
+#[tactic(auto, unfolding(crate::specs::Reading::assign_kind))]
+fn assign_kind(alloc: Global, count: usize, kind: &ExprKind) -> Result<Option<Statement>, Memory>
+    ensures { IfOk result (λ found. found ≡ spec.assign_kind count kind.now) }
 {
-    match tree {
-        Expr::Assign(_, op, a, b) => assign_by(alloc, members, *op, a.get(), b.get()),
+    match kind {
+        ExprKind::Assign(a, b) => assign_by(alloc, count, a.get(), b.get()),
         _ => Ok(None),
     }
 }
 
+/// The assignment that an expression is.
+#[tactic(auto, unfolding(crate::specs::Reading::assign_of))]
+fn assign(alloc: Global, count: usize, tree: &Expr) -> Result<Option<Statement>, Memory>
+    ensures { IfOk result (λ found. found ≡ spec.assign_of count tree.now) }
+{
+    if !is_int(&tree.ty) {
+        return Ok(None);
+    }
+    assign_kind(alloc, count, &tree.kind)
+}
+
 /// The assignment that a statement is.
 #[tactic(auto, unfolding(crate::specs::Reading::statement_of))]
-fn statement(alloc: Global, members: &Names, tree: &Stmt) -> Result<Option<Statement>, Memory>
-    requires { length members.now ≤ 64 }
-    ensures { IfOk result (λ found. found ≡ spec.statement_of members.now tree.now) }
+fn statement(alloc: Global, count: usize, tree: &Stmt) -> Result<Option<Statement>, Memory>
+    ensures { IfOk result (λ found. found ≡ spec.statement_of count tree.now) }
 {
     match tree {
-        Stmt::Expr(tree) => assign(alloc, members, tree),
+        Stmt::Eval(tree) => assign(alloc, count, tree),
         _ => Ok(None),
     }
 }
 
 /// The statements of `main`, if each is of the form.
-fn statements(alloc: Global, members: &Names, trees: &[Stmt]) -> Result<Option<Statements>, Memory>
-    requires { length members.now ≤ 64 }
-    ensures { IfOk result (λ found. found ≡ spec.each (spec.statement_of members.now) trees.now) }
+fn statements(alloc: Global, count: usize, trees: &[Stmt]) -> Result<Option<Statements>, Memory>
+    ensures { IfOk result (λ found. found ≡ spec.each (spec.statement_of count) trees.now) }
 {
     let mut all = Statements::new(alloc);
     for tree in trees {
-        let Some(one) = statement(alloc, members, tree)? else {
+        let Some(one) = statement(alloc, count, tree)? else {
             return Ok(None);
         };
         all.push(one)?;
     }
     Ok(Some(all))
-}
-
-/// Whether an expression is this literal.
-#[tactic(auto, unfolding(crate::specs::Reading::is_word))]
-fn is_word(word: u32, tree: &Expr) -> bool
-    ensures { result ≡ spec.is_word word tree.now }
-{
-    match tree {
-        Expr::Signed(_, found) => *found == word,
-        _ => false,
-    }
-}
-
-/// Whether a layout name has this name and this value.
-fn is_valued(name: &str, word: u32, tree: &Lay) -> bool
-    ensures { result ≡ spec.is_valued name.now word tree.now }
-{
-    match tree {
-        Lay::Value(named, value) => named.text.as_str() == name && is_word(word, value),
-        Lay::Flag(_) => false,
-    }
-}
-
-/// Whether a layout name has this name and no value.
-fn is_flag(name: &str, tree: &Lay) -> bool
-    ensures { result ≡ spec.is_flag name.now tree.now }
-{
-    match tree {
-        Lay::Flag(named) => named.text.as_str() == name,
-        Lay::Value(_, _) => false,
-    }
-}
-
-fn are_local_size(trees: &[Lay]) -> bool
-    ensures { result ≡ spec.are_local_size trees.now }
-{
-    match trees {
-        [a] => is_valued("local_size_x", 1, a),
-        _ => false,
-    }
-}
-
-fn are_binding(trees: &[Lay]) -> bool
-    ensures { result ≡ spec.are_binding trees.now }
-{
-    match trees {
-        [a, b, c] => {
-            is_valued("set", 0, a) && is_valued("binding", 0, b) && is_flag("std430", c)
-        }
-        _ => false,
-    }
-}
-
-/// Whether the qualifiers are `layout(local_size_x = 1) in`.
-fn are_size_quals(trees: &[Qual]) -> bool
-    ensures { result ≡ spec.are_two (spec.is_layout spec.are_local_size) spec.is_in trees.now }
-{
-    match trees {
-        [a, b] => is_size_layout(a) && is_in(b),
-        _ => false,
-    }
-}
-
-fn is_size_layout(tree: &Qual) -> bool
-    ensures { result ≡ spec.is_layout spec.are_local_size tree.now }
-{
-    match tree {
-        Qual::Layout(_, lays) => are_local_size(lays.as_slice()),
-        _ => false,
-    }
-}
-
-fn is_in(tree: &Qual) -> bool
-    ensures { result ≡ spec.is_in tree.now }
-{
-    match tree {
-        Qual::In(_) => true,
-        _ => false,
-    }
-}
-
-/// Whether the qualifiers are `layout(set = 0, binding = 0, std430) buffer`.
-fn are_block_quals(trees: &[Qual]) -> bool
-    ensures { result ≡ spec.are_two (spec.is_layout spec.are_binding) spec.is_buffer trees.now }
-{
-    match trees {
-        [a, b] => is_block_layout(a) && is_buffer(b),
-        _ => false,
-    }
-}
-
-fn is_block_layout(tree: &Qual) -> bool
-    ensures { result ≡ spec.is_layout spec.are_binding tree.now }
-{
-    match tree {
-        Qual::Layout(_, lays) => are_binding(lays.as_slice()),
-        _ => false,
-    }
-}
-
-fn is_buffer(tree: &Qual) -> bool
-    ensures { result ≡ spec.is_buffer tree.now }
-{
-    match tree {
-        Qual::Buffer(_) => true,
-        _ => false,
-    }
-}
-
-/// Whether a type is `int` without brackets.
-#[tactic(auto, unfolding(crate::specs::Reading::is_int))]
-fn is_int(tree: &TypeSpec) -> bool
-    ensures { result ≡ spec.is_int tree.now }
-{
-    match tree {
-        TypeSpec::Basic(_, Basic::Int, dims) => dims.is_empty(),
-        _ => false,
-    }
-}
-
-/// Whether a type is `void` without brackets.
-#[tactic(auto, unfolding(crate::specs::Reading::is_void))]
-fn is_void(tree: &TypeSpec) -> bool
-    ensures { result ≡ spec.is_void tree.now }
-{
-    match tree {
-        TypeSpec::Basic(_, Basic::Void, dims) => dims.is_empty(),
-        _ => false,
-    }
 }
 
 /// Whether each byte is a decimal digit.
@@ -338,44 +255,34 @@ fn is_name(name: &[u8]) -> bool
     }
 }
 
-/// The one name that a member declares.
-fn declared_name(trees: &[Declared]) -> Option<&Text>
-    ensures { option_map (λ name. name.now) result ≡ spec.declared_name trees.now }
+/// Whether a member has no qualifier.
+fn is_bare(tree: &BlockMember) -> bool
+    ensures { result ≡ spec.is_bare tree.now }
 {
-    match trees {
-        [one] => plain_name(one),
-        _ => None,
+    if tree.readonly || tree.writeonly || tree.coherent || tree.volatile || tree.restrict {
+        return false;
     }
-}
-
-fn plain_name(tree: &Declared) -> Option<&Text>
-    ensures { option_map (λ name. name.now) result ≡ spec.plain_name tree.now }
-{
-    if tree.dims.is_empty() && is_name(tree.name.text.as_str().as_bytes()) {
-        Some(&tree.name.text)
-    } else {
-        None
-    }
+    tree.offset.is_none() && tree.align.is_none()
 }
 
 /// The name of a member that is of the form.
-fn member(tree: &Member) -> Option<&Text>
+fn member_name(tree: &BlockMember) -> Option<&Text>
     ensures { option_map (λ name. name.now) result ≡ spec.member_of tree.now }
 {
-    if tree.quals.is_empty() && is_int(&tree.ty) {
-        declared_name(tree.names.as_slice())
+    if is_bare(tree) && is_int(&tree.ty) && is_name(tree.name.as_str().as_bytes()) {
+        Some(&tree.name)
     } else {
         None
     }
 }
 
 /// The names of the members, if each is of the form.
-fn members(alloc: Global, trees: &[Member]) -> Result<Option<Names>, Memory>
+fn members(alloc: Global, trees: &[BlockMember]) -> Result<Option<Names>, Memory>
     ensures { IfOk result (λ found. found ≡ spec.each spec.member_of trees.now) }
 {
     let mut names = Names::new(alloc);
     for tree in trees {
-        let Some(name) = member(tree) else {
+        let Some(name) = member_name(tree) else {
             return Ok(None);
         };
         names.push(Text::from_str(alloc, name.as_str())?)?;
@@ -414,51 +321,62 @@ fn limited(names: Names) -> Option<Names>
     }
 }
 
-/// The names of the members of the block.
-fn block_by(
-    alloc: Global,
-    quals: &[Qual],
-    name: &Name,
-    trees: &[Member],
-) -> Result<Option<Names>, Memory>
-    ensures { IfOk result (λ found. found ≡ spec.block_by quals.now name.now trees.now) }
+fn is_buffer(kind: BlockKind) -> bool
+    ensures { result ≡ buffer kind }
 {
-    if !are_block_quals(quals) || name.text.as_str() != "B" {
+    match kind {
+        BlockKind::Buffer => true,
+        _ => false,
+    }
+}
+
+/// Whether a block is a buffer block `B` without instance at set 0 and binding 0, laid out by std430.
+fn is_b(tree: &Block) -> bool
+    ensures { result ≡ spec.is_b tree.now }
+{
+    tree.name.as_str() == "B"
+        && tree.instance.is_none()
+        && is_buffer(tree.kind)
+        && tree.set == 0
+        && tree.binding == 0
+        && !tree.std140
+}
+
+/// The names of the members of the block.
+fn block(alloc: Global, tree: &Block) -> Result<Option<Names>, Memory>
+    ensures { IfOk result (λ found. found ≡ spec.block_of tree.now) }
+{
+    if !is_b(tree) {
         return Ok(None);
     }
-    match members(alloc, trees)? {
+    match members(alloc, tree.members.as_slice())? {
         Some(names) => Ok(limited(names)),
         None => Ok(None),
     }
 }
 
-fn block(alloc: Global, tree: &Top) -> Result<Option<Names>, Memory>
-    ensures { IfOk result (λ found. found ≡ spec.block_of tree.now) }
+fn blocks(alloc: Global, trees: &[Block]) -> Result<Option<Names>, Memory>
+    ensures { IfOk result (λ found. found ≡ spec.blocks_of trees.now) }
 {
-    match tree {
-        Top::Decl(Decl::Block(quals, name, members, None)) => {
-            block_by(alloc, quals.as_slice(), name, members.as_slice())
-        }
+    match trees {
+        [tree] => block(alloc, tree),
         _ => Ok(None),
     }
 }
 
-/// Whether this is the declaration of the local size.
-fn is_local_size(tree: &Top) -> bool
-    ensures { result ≡ spec.is_local_size tree.now }
+/// Whether this is the head of `main`.
+fn is_head(tree: &Prototype) -> bool
+    ensures { result ≡ spec.is_head tree.now }
 {
-    match tree {
-        Top::Decl(Decl::Quals(quals)) => are_size_quals(quals.as_slice()),
-        _ => false,
-    }
+    tree.name.as_str() == "main" && is_void(&tree.result) && tree.params.is_empty()
 }
 
-fn no_params(tree: &Params) -> bool
-    ensures { result ≡ spec.no_params tree.now }
+fn are_heads(trees: &[Prototype]) -> bool
+    ensures { result ≡ spec.are_heads trees.now }
 {
-    match tree {
-        Params::Items(items) => items.is_empty(),
-        Params::Void(_) => false,
+    match trees {
+        [tree] => is_head(tree),
+        _ => false,
     }
 }
 
@@ -472,50 +390,37 @@ fn few(statements: Statements) -> Option<Statements>
     Some(statements)
 }
 
-fn body(alloc: Global, names: &Names, tree: &Body) -> Result<Option<Statements>, Memory>
-    requires { length names.now ≤ 64 }
-    ensures { IfOk result (λ found. found ≡ spec.body_of names.now tree.now) }
+/// The statements of `main`.
+fn function(alloc: Global, count: usize, tree: &Function) -> Result<Option<Statements>, Memory>
+    ensures { IfOk result (λ found. found ≡ spec.function_of count tree.now) }
 {
-    match tree {
-        Body::Block(_, trees) => match statements(alloc, names, trees.as_slice())? {
-            Some(statements) => Ok(few(statements)),
-            None => Ok(None),
-        },
-        Body::Prototype(_) => Ok(None),
-    }
-}
-
-/// The statements of the function, if it is `main`.
-fn main_by(alloc: Global, names: &Names, tree: &Function) -> Result<Option<Statements>, Memory>
-    requires { length names.now ≤ 64 }
-    ensures { IfOk result (λ found. found ≡ spec.main_by names.now tree.now) }
-{
-    let is_main = tree.quals.is_empty()
-        && is_void(&tree.ty)
-        && tree.name.text.as_str() == "main"
-        && no_params(&tree.params);
-    if !is_main {
+    if tree.prototype != 0 || !tree.locals.is_empty() {
         return Ok(None);
     }
-    body(alloc, names, &tree.body)
+    match statements(alloc, count, tree.body.as_slice())? {
+        Some(statements) => Ok(few(statements)),
+        None => Ok(None),
+    }
 }
 
-fn main(alloc: Global, names: &Names, tree: &Top) -> Result<Option<Statements>, Memory>
-    requires { length names.now ≤ 64 }
-    ensures { IfOk result (λ found. found ≡ spec.main_of names.now tree.now) }
+fn functions(alloc: Global, count: usize, trees: &[Function]) -> Result<Option<Statements>, Memory>
+    ensures { IfOk result (λ found. found ≡ spec.functions_of count trees.now) }
 {
-    match tree {
-        Top::Function(tree) => main_by(alloc, names, tree),
+    match trees {
+        [tree] => function(alloc, count, tree),
         _ => Ok(None),
     }
 }
 
-/// The program of the block's members and this `main`.
-fn with_main(alloc: Global, main_tree: &Top, members: Names) -> Result<Option<Program>, Memory>
-    requires { length members ≤ 64 }
-    ensures { IfOk result (λ found. found ≡ spec.with_main main_tree.now members) }
+/// The program of the block's members and these functions.
+fn with_functions(
+    alloc: Global,
+    trees: &[Function],
+    members: Names,
+) -> Result<Option<Program>, Memory>
+    ensures { IfOk result (λ found. found ≡ spec.with_functions trees.now members) }
 {
-    match main(alloc, &members, main_tree)? {
+    match functions(alloc, members.len(), trees)? {
         Some(statements) => Ok(Some(Program {
             members,
             statements,
@@ -524,38 +429,103 @@ fn with_main(alloc: Global, main_tree: &Top, members: Names) -> Result<Option<Pr
     }
 }
 
-/// The program of the three parts of a unit.
+/// The program of a block and a function.
 fn program(
     alloc: Global,
-    size: &Top,
-    block_tree: &Top,
-    main_tree: &Top,
+    block_trees: &[Block],
+    heads: &[Prototype],
+    function_trees: &[Function],
 ) -> Result<Option<Program>, Memory>
-    ensures { IfOk result (λ found. found ≡ spec.program_by size.now block_tree.now main_tree.now) }
+    ensures { IfOk result (λ found. found ≡ spec.program_by block_trees.now heads.now function_trees.now) }
 {
-    if !is_local_size(size) {
+    if !are_heads(heads) {
         return Ok(None);
     }
-    match block(alloc, block_tree)? {
-        Some(members) => with_main(alloc, main_tree, members),
+    match blocks(alloc, block_trees)? {
+        Some(members) => with_functions(alloc, function_trees, members),
         None => Ok(None),
     }
 }
 
-/// The program of a unit, if it has three parts of the form.
-fn program_of(alloc: Global, unit: &Unit) -> Result<Option<Program>, Memory>
-    ensures { IfOk result (λ found. found ≡ spec.program_of unit.now) }
+/// Whether a local size is 1 in each direction.
+fn is_one(size: &[u32; 3]) -> bool
+    ensures { result ≡ spec.is_one size.now }
 {
-    match unit.as_slice() {
-        [size, block_tree, main_tree] => program(alloc, size, block_tree, main_tree),
-        _ => Ok(None),
+    size[0] == 1 && size[1] == 1 && size[2] == 1
+}
+
+/// Whether the local size is said once, and is 1 in each direction.
+#[tactic(auto, unfolding(crate::specs::Reading::are_sizes))]
+fn are_sizes(trees: &[LocalSize]) -> bool
+    ensures { result ≡ spec.are_sizes (map (λ (size : OneSize). size.parts) trees.now) }
+{
+    match trees {
+        [tree] => is_one(&tree.parts),
+        _ => false,
     }
 }
 
-/// The program that a unit spells, or `None` where it is not of the form.
-pub fn read_program(alloc: Global, unit: &Unit) -> Result<Option<Program>, Memory>
-    ensures found { IfOk result (λ found. IfSome found (λ p. Spells unit.now p)) }
-    ensures none { IfOk result (λ found. IfNone found ((p : Program) → Spells unit.now p → ⊥)) }
+/// Whether the local size of a unit is 1 and it has no structs, globals, inputs and outputs.
+fn is_plain_unit(unit: &TypedUnit) -> bool
+    ensures { result ≡ spec.are_plain (unit_lists Compute unit.now) }
 {
-    program_of(alloc, unit)
+    are_sizes(unit.local_sizes.as_slice())
+        && unit.structs.is_empty()
+        && unit.globals.is_empty()
+        && unit.interfaces.is_empty()
+}
+
+fn unit_program(alloc: Global, unit: &TypedUnit) -> Result<Option<Program>, Memory>
+    ensures { IfOk result (λ found. found ≡ spec.program_of (unit_lists Compute unit.now)) }
+{
+    if !is_plain_unit(unit) {
+        return Ok(None);
+    }
+    program(
+        alloc,
+        unit.blocks.as_slice(),
+        unit.prototypes.as_slice(),
+        unit.functions.as_slice(),
+    )
+}
+
+/// Whether the local size of a linked program is 1 and it has no structs, globals, inputs and outputs.
+#[tactic(auto, unfolding(crate::specs::Reading::are_sizes))]
+fn is_plain_linked(linked: &Linked) -> bool
+    ensures { result ≡ spec.are_plain (program_lists linked.now) }
+{
+    is_one(&linked.local_size)
+        && linked.structs.is_empty()
+        && linked.globals.is_empty()
+        && linked.interfaces.is_empty()
+}
+
+fn linked_program(alloc: Global, linked: &Linked) -> Result<Option<Program>, Memory>
+    ensures { IfOk result (λ found. found ≡ spec.program_of (program_lists linked.now)) }
+{
+    if !is_plain_linked(linked) {
+        return Ok(None);
+    }
+    program(
+        alloc,
+        linked.blocks.as_slice(),
+        linked.prototypes.as_slice(),
+        linked.functions.as_slice(),
+    )
+}
+
+/// The program that a typed unit spells, or `None` where it is not of the form. The stage is not asked.
+pub fn read_unit(alloc: Global, unit: &TypedUnit) -> Result<Option<Program>, Memory>
+    ensures found { (stage : Stage) → IfOk result (λ found. IfSome found (λ p. Spells (unit_lists stage unit.now) p)) }
+    ensures none { (stage : Stage) → IfOk result (λ found. IfNone found ((p : Program) → Spells (unit_lists stage unit.now) p → ⊥)) }
+{
+    unit_program(alloc, unit)
+}
+
+/// The program that a linked program spells, or `None` where it is not of the form. The stage is not asked.
+pub fn read_linked(alloc: Global, linked: &Linked) -> Result<Option<Program>, Memory>
+    ensures found { IfOk result (λ found. IfSome found (λ p. Spells (program_lists linked.now) p)) }
+    ensures none { IfOk result (λ found. IfNone found ((p : Program) → Spells (program_lists linked.now) p → ⊥)) }
+{
+    linked_program(alloc, linked)
 }

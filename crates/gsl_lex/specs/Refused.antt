@@ -23,11 +23,11 @@ other_types =
     split (codes "float double vec2 vec3 vec4 dvec2 dvec3 dvec4 atomic_uint subpassInput isubpassInput usubpassInput") ++
     split (codes "subpassInputMS isubpassInputMS usubpassInputMS sampler samplerShadow")
 
--- other keywords in use (3.6); `discard` is one of the profile once its statement is built
+-- other keywords in use (3.6)
 unfoldable pub other_keywords : List (List ℕ)
 other_keywords =
     split (codes "attribute varying shared centroid smooth noperspective patch sample subroutine invariant precise lowp mediump") ++
-    split (codes "highp precision discard")
+    split (codes "highp precision")
 
 -- keywords that are reserved for later use (3.6)
 unfoldable pub reserved : List (List ℕ)

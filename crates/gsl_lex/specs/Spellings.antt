@@ -96,6 +96,7 @@ keywords =
     (codes "for", key.For) ∷
     (codes "break", key.Break) ∷
     (codes "continue", key.Continue) ∷
+    (codes "discard", key.Discard) ∷
     (codes "return", key.Return) ∷
     (codes "true", key.True) ∷
     (codes "false", key.False) ∷

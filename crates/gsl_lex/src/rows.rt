@@ -69,7 +69,11 @@ pub const KEYWORDS: [&[(&[u8], Key)]; 26] = [
         (b"case", Key::Case),
         (b"continue", Key::Continue),
     ],
-    &[(b"default", Key::Default), (b"do", Key::Do)],
+    &[
+        (b"default", Key::Default),
+        (b"do", Key::Do),
+        (b"discard", Key::Discard),
+    ],
     &[(b"else", Key::Else)],
     &[
         (b"flat", Key::Flat),
@@ -134,7 +138,7 @@ pub const REFUSED: [&[&[u8]]; 26] = [
     ],
     &[b"barrier"],
     &[b"centroid", b"common", b"class", b"cast"],
-    &[b"double", b"dvec2", b"dvec3", b"dvec4", b"discard"],
+    &[b"double", b"dvec2", b"dvec3", b"dvec4"],
     &[b"enum", b"extern", b"external"],
     &[b"float", b"fixed", b"fvec2", b"fvec3", b"fvec4", b"filter"],
     &[

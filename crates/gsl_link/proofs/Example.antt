@@ -36,13 +36,13 @@ use Rattle.gsl_tree.specs.declared.unit.Prototype.{Prototype}
 use Rattle.gsl_tree.specs.declared.unit.TypedUnit.{TypedUnit}
 use Rattle.gsl_tree.specs.Trees.{typed}
 use Rattle.gsl_tree.specs.Weights.{calls_of}
-use Rattle.gsl_link.proofs.Folds.{at-typed, type_folds, same_types, same_values}
-use Rattle.gsl_link.specs.Calls.{reaches_within, nest}
-use Rattle.gsl_link.specs.Declarations.{sides_of}
+use Rattle.gsl_link_units.proofs.Folds.{at-typed, type_folds, same_types, same_values}
+use Rattle.gsl_link_calls.specs.Calls.{reaches_within, nest}
+use Rattle.gsl_link_units.specs.Declarations.{sides_of}
 use Rattle.gsl_link.specs.Joined.{joined}
 use Rattle.gsl_link.specs.Rows.{deeper_than, disagreement, used_twice, recursion, large_function, large_globals, too_heavy}
-use Rattle.gsl_link.specs.Structs.{joined_structs, struct_numbers}
-use Rattle.gsl_link.specs.Whole.{whole}
+use Rattle.gsl_link_units.specs.Structs.{joined_structs, struct_numbers}
+use Rattle.gsl_link_whole.specs.Whole.{whole}
 
 ruleset computes = (folds, stmt_folds, at-typed, type_folds, same_types, same_values, over_void, over_one, over_vector, over_array, over_runtime, over_struct, outs-Word, outs-Many, outs-Void, outs-One, outs-Vector, outs-Array, outs-Runtime, outs-Struct)
 

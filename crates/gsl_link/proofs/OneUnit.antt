@@ -7,16 +7,16 @@ use Rattle.gsl_base.specs.declared.stage.Stage.{Stage}
 use Rattle.gsl_types.specs.declared.ty.StructType.{StructType}
 use Rattle.gsl_tree.specs.declared.program.Program.{Program}
 use Rattle.gsl_tree.specs.declared.unit.TypedUnit.{TypedUnit}
-use Rattle.gsl_link.specs.Agreement.{is_against_any}
-use Rattle.gsl_link.specs.Declarations.{Declaration, Side, declarations, declared_at, side_of}
-use Rattle.gsl_link.specs.Firsts.{again_behind, earliest, firsts, firsts_behind}
+use Rattle.gsl_link_units.specs.Agreement.{is_against_any}
+use Rattle.gsl_link_units.specs.Declarations.{Declaration, Side, declarations, declared_at, side_of}
+use Rattle.gsl_link_units.specs.Firsts.{again_behind, earliest, firsts, firsts_behind}
 use Rattle.gsl_link.specs.Joined.{joined, fault_of, unless_faulty}
-use Rattle.gsl_link.specs.Numbers.{in_order, numbering, same_block, same_interface}
-use Rattle.gsl_link.specs.Renumbering.{renumbered_function}
+use Rattle.gsl_link_whole.specs.Numbers.{in_order, numbering, same_block, same_interface}
+use Rattle.gsl_link_whole.specs.Renumbering.{renumbered_function}
 use Rattle.gsl_link.specs.Rows.{disagreement}
-use Rattle.gsl_link.specs.Structs.{with_structs}
+use Rattle.gsl_link_units.specs.Structs.{with_structs}
 use Rattle.gsl_link.specs.Units.{IsNamedOnce}
-use Rattle.gsl_link.specs.Whole.{whole}
+use Rattle.gsl_link_whole.specs.Whole.{whole}
 
 -- ---- a program that was joined
 

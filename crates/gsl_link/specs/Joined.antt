@@ -11,8 +11,8 @@ use Rattle.gsl_tree.specs.declared.program.Program.{Program}
 use Rattle.gsl_tree.specs.declared.unit.LocalSize.{LocalSize}
 use Rattle.gsl_tree.specs.declared.unit.TypedUnit.{TypedUnit}
 use Rattle.gsl_tree.specs.WellTyped.{IsProgram}
-use Rattle.gsl_link.specs.Declarations.{Side, sides_of}
-use Rattle.gsl_link.specs.Whole.{whole, all_sizes}
+use Rattle.gsl_link_units.specs.Declarations.{Side, sides_of}
+use Rattle.gsl_link_whole.specs.Whole.{whole, all_sizes}
 use Rattle.gsl_link.specs.Rows.{at_start, disagreement, second_definition, no_main, undefined_call, recursion, size_disagreement, used_twice, too_many_leaves, too_deep, too_heavy}
 
 -- a row of the table of faults: its code, and the first place where it applies

@@ -1,12 +1,4 @@
-pub mod Firsts
-pub mod Types
-pub mod Structs
-pub mod Declarations
-pub mod Agreement
-pub mod Numbers
-pub mod Renumbering
-pub mod Whole
-pub mod Calls
 pub mod Rows
 pub mod Joined
 pub mod Units
+pub mod Finding

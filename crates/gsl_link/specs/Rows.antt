@@ -13,12 +13,13 @@ use Rattle.gsl_tree.specs.declared.unit.Interface.{Interface}
 use Rattle.gsl_tree.specs.declared.unit.LocalSize.{LocalSize}
 use Rattle.gsl_tree.specs.WellTyped.{is_push}
 use Rattle.gsl_tree.specs.Weights.{program_weight, function_leaves}
-use Rattle.gsl_link.specs.Firsts.{firsts, again, earliest, first_place}
-use Rattle.gsl_link.specs.Declarations.{Side, Declaration, declarations, declared_at}
-use Rattle.gsl_link.specs.Agreement.{is_against_any, both_or_neither}
-use Rattle.gsl_link.specs.Numbers.{Sited, all_globals, same_variable, declared_blocks}
-use Rattle.gsl_link.specs.Whole.{is_main}
-use Rattle.gsl_link.specs.Calls.{Call, all_calls, reaches, any_nest}
+use Rattle.gsl_link_units.specs.Firsts.{firsts, again, earliest, first_place}
+use Rattle.gsl_link_units.specs.Declarations.{Side, Declaration, declarations, declared_at}
+use Rattle.gsl_link_units.specs.Agreement.{is_against_any, both_or_neither}
+use Rattle.gsl_link_whole.specs.Numbers.{Sited, all_globals, same_variable, declared_blocks}
+use Rattle.gsl_link_whole.specs.Whole.{is_main}
+use Rattle.gsl_link_calls.specs.declared.call.Call.{Call}
+use Rattle.gsl_link_calls.specs.Calls.{all_calls, reaches, any_nest}
 
 -- the place of what is said of all sources
 abbrev pub at_start : Place

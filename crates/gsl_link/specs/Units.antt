@@ -5,10 +5,10 @@ use Rattle.gsl_base.specs.declared.stage.Stage.{Stage}
 use Rattle.gsl_tree.specs.declared.unit.Prototype.{Prototype}
 use Rattle.gsl_tree.specs.declared.unit.TypedUnit.{TypedUnit}
 use Rattle.gsl_tree.specs.WellTyped.{IsUnit}
-use Rattle.gsl_link.specs.Firsts.{again}
-use Rattle.gsl_link.specs.Declarations.{Side, is_shared, sides_of}
-use Rattle.gsl_link.specs.Agreement.{agree_functions, same_function}
-use Rattle.gsl_link.specs.Numbers.{same_block, same_interface, same_shared}
+use Rattle.gsl_link_units.specs.Firsts.{again}
+use Rattle.gsl_link_units.specs.Declarations.{Side, is_shared, sides_of}
+use Rattle.gsl_link_units.specs.Agreement.{agree_functions, same_function}
+use Rattle.gsl_link_whole.specs.Numbers.{same_block, same_interface, same_shared}
 
 -- two heads of one function that do not agree
 abbrev pub is_other_head : Prototype → Prototype → Bool

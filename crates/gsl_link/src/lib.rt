@@ -1,17 +1,10 @@
 //! Which program typed units make together, or which is their first fault of linking (GLSL 4.50, 3.3, 4.1.8, 4.3 and 4.4).
 //!
-//! Read, in `specs/`: `Structs`, `Declarations`, `Agreement`, `Numbers`, `Renumbering`, `Whole`, `Calls`, `Rows`, `Joined`.
+//! Read, in `specs/`: `Rows`, `Units`, `Joined`, behind those of `gsl_link_units`, `gsl_link_whole` and `gsl_link_calls`.
 #![tactic(auto)]
 
-mod agreement;
-mod siding;
-mod structs;
-mod types;
+mod program_rows;
 
-pub use agreement::{
-    agree_functions, agree_interfaces, agree_members, agree_variables, same_function, same_kind,
-    same_params,
+pub use program_rows::{
+    large_function, no_main, recursion, second_definition, size_disagreement, too_deep, too_heavy,
 };
-pub use siding::retype_unit;
-pub use structs::join_structs;
-pub use types::{retyped, same_type};

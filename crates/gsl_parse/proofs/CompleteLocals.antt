@@ -58,9 +58,10 @@ struct_member_complete (struct_member_is {t = t} {ns = ns} {xs = xs} {ys = ys} q
     ap (struct_member d) same
     ∙ struct_member_reads d t ns q (xs ++ us) us rest (typed_complete x d us (omega (arith, ap length same)) (names_no_bracket y (sign q punct.Semicolon ∷ rest))) (names_complete y d q rest (omega (arith, ap length same)))
 
-open_by : (ts : Tokens) → sees punct.RightBrace ts ≡ false → open_brace ts ≡ true
+open_by : (ts : Tokens) → sees punct.RightBrace ts ≡ false → 1 ≤ length ts → open_brace ts ≡ true
 unfolding open_brace
-open_by ts h = ap not h
+open_by [] h some = absurd (omega arith)
+open_by (t ∷ ts) h some = ap not h
 
 pub closed_by : (p : Place) (ts : Tokens) → open_brace (sign p punct.RightBrace ∷ ts) ≡ false
 unfolding open_brace sees
@@ -72,7 +73,7 @@ filled_more xs ys h = omega (arith, length-append xs ys)
 struct_member_opens : {a : StructMember} {xs : Tokens} → IsStructMember a xs → (rest : Tokens) → open_brace (xs ++ rest) ≡ true
 struct_member_opens (struct_member_is {xs = xs} {ys = ys} q x y) rest =
     let us = ys ++ sign q punct.Semicolon ∷ rest in
-    ap open_brace (regroup_behind xs ys (sign q punct.Semicolon) [] rest) ∙ open_by (xs ++ us) (not_right_brace (xs ++ us) (type_good x us))
+    ap open_brace (regroup_behind xs ys (sign q punct.Semicolon) [] rest) ∙ open_by (xs ++ us) (not_right_brace (xs ++ us) (type_good x us)) (filled_more xs us (type_filled x))
 
 struct_member_filled : {a : StructMember} {xs : Tokens} → IsStructMember a xs → 1 ≤ length xs
 struct_member_filled (struct_member_is {xs = xs} {ys = ys} q x y) = filled_more xs (ys ++ sign q punct.Semicolon ∷ []) (type_filled x)
@@ -113,6 +114,7 @@ member_opens : {a : Member} {xs : Tokens} → IsMember a xs → (rest : Tokens) 
 member_opens (member_is {xs = xs} {ys = ys} {zs = zs} q w x y) rest =
     let vs = zs ++ sign q punct.Semicolon ∷ rest in
     ap open_brace (end_three xs ys zs (sign q punct.Semicolon) rest) ∙ open_by (xs ++ (ys ++ vs)) (quals_no_sign w punct.RightBrace (ys ++ vs) (not_right_brace (ys ++ vs) (type_good x vs)))
+    (let some = filled_more ys vs (type_filled x) in omega (arith, length-append xs (ys ++ vs)))
 
 member_filled : {a : Member} {xs : Tokens} → IsMember a xs → 1 ≤ length xs
 member_filled (member_is {xs = xs} {ys = ys} {zs = zs} q w x y) =

@@ -1,3 +1,5 @@
+pub mod Answered
+pub mod Behind
 pub mod CompleteBegins
 pub mod CompleteDeclarations
 pub mod CompleteForms
@@ -9,10 +11,12 @@ pub mod CompleteParams
 pub mod CompletePhrases
 pub mod CompleteStatements
 pub mod CompleteUnits
+pub mod Deciding
 pub mod LiveDeclarations
 pub mod LiveLists
 pub mod LiveStatements
 pub mod LiveUnits
+pub mod Loops
 pub mod NearDeclarations
 pub mod NearLists
 pub mod NearUnits
@@ -20,9 +24,11 @@ pub mod OnePlace
 pub mod OneTree
 pub mod Placed
 pub mod Settled
+pub mod Shrinking
 pub mod SoundDeclarations
 pub mod SoundDeclarators
 pub mod SoundLists
 pub mod SoundStatementParts
 pub mod SoundStatements
 pub mod SoundUnits
+pub mod Sourced

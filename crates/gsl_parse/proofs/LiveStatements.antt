@@ -39,7 +39,7 @@ live_expect_key {B = B} {F = F} {f = f} w next = record { starts = start; opened
     start : F.holds []
     start = F.closed [] (word no_place w ∷ []) (next no_place).starts
 
-    go : (ts : Tokens) (b : Bool) → sees_key w ts ≡ b → Opened F ts (and_then (cond b (take_one ts) (Err (length ts))) f)
+    go : (ts : Tokens) (b : Bool) → sees_key w ts ≡ b → Opened F ts (and_then (cond b (take_one ts) (Err ts)) f)
     go ts true h = opened_word F w ts f h (λ p rest split. (next p).opened rest)
     go ts false h = fails F ts start
 

@@ -1,5 +1,5 @@
 -- The readers of qualifiers, types and declarations do the same on two inputs up to the first token in which they differ.
-use Rattle.std.proofs.Common.{ℕ, zero, suc, ◌≤◌, Bool, true, false, not, cond, ◌&&◌, List, [], ◌∷◌, ◌++◌, length, Option, Some, None, refl, arith}
+use Rattle.std.proofs.Common.{ap, ℕ, zero, suc, ◌≤◌, Bool, true, false, not, cond, ◌&&◌, List, [], ◌∷◌, ◌++◌, length, Option, Some, None, refl, arith}
 use Rattle.gsl_base.specs.declared.token.Punct.TheVariants as punct
 use Rattle.gsl_base.specs.declared.token.Key.TheVariants as key
 use Rattle.gsl_base.specs.declared.token.Token.{Token}
@@ -37,18 +37,18 @@ looks_qual = record { alike = λ x xs ys. refl }
 
 pub looks_brace : Looks open_brace
 unfolding open_brace
-looks_brace = looks_map not (looks_sees punct.RightBrace)
+looks_brace = record { alike = λ x xs ys. ap not ((looks_sees punct.RightBrace).alike x xs ys) }
 
 module _ (b : Token) (p q : Tokens) {d c : ℕ} where
   -- ---- qualifiers and types
 
-  lay_item_near : Near b p q d c (lay_item d) (lay_item c)
+  pub lay_item_near : Near b p q d c (lay_item d) (lay_item c)
   unfolding lay_item
   lay_item_near =
       near_then b p q (near_name b p q) (λ n. near_if b p q (looks_sees punct.Equal)
       (near_then b p q (near_one b p q) (λ _. near_then b p q (expr_near b p q 2) (λ a. near_pure b p q (lay.Value n a)))) (near_pure b p q (lay.Flag n)))
 
-  qualifier_eats : Eats b p q d c (qualifier d) (qualifier c)
+  pub qualifier_eats : Eats b p q d c (qualifier d) (qualifier c)
   unfolding qualifier
   qualifier_eats = eats_if b p q (looks_key key.Layout) with_layout (eats_by b p q {f = plain} {g = plain} looks_plain go)
     where
@@ -78,7 +78,7 @@ module _ (b : Token) (p q : Tokens) {d c : ℕ} where
       go (start.Unary o) = eats_fail b p q
       go start.Bad = eats_fail b p q
 
-  declared_near : Near b p q d c (declared d) (declared c)
+  pub declared_near : Near b p q d c (declared d) (declared c)
   unfolding declared
   declared_near = near_then b p q (near_name b p q) (λ n. near_then b p q (dims_of_near b p q) (λ ds. near_pure b p q (record { name = n; dims = ds })))
 
@@ -118,7 +118,7 @@ module _ (b : Token) (p q : Tokens) (d c : ℕ) (f g : Parser Init) (item : Near
       (λ bs. near_pure b p q (init.Braces l bs)))
 
 module _ (b : Token) (p q : Tokens) (d c : ℕ) where
-  initialiser_within : (n : ℕ) (ts : Tokens) → Within ts (initialiser d n ts)
+  pub initialiser_within : (n : ℕ) (ts : Tokens) → Within ts (initialiser d n ts)
   unfolding initialiser
   initialiser_within zero ts = omega arith
   initialiser_within (suc n) ts = go (sees punct.LeftBrace ts) (initialiser_within n)
@@ -158,7 +158,7 @@ module _ (b : Token) (p q : Tokens) {d c : ℕ} where
   listed_near : Near b p q d c (commas_of (declared d)) (commas_of (declared c))
   listed_near = commas_of_near b p q d c (declared d) (declared c) (declared_near b p q)
 
-  struct_member_eats : Eats b p q d c (struct_member d) (struct_member c)
+  pub struct_member_eats : Eats b p q d c (struct_member d) (struct_member c)
   unfolding struct_member
   struct_member_eats = eats_then b p q (typed_eats b p q) (λ t. near_then b p q listed_near (λ ns. near_close b p q punct.Semicolon (record { ty = t; names = ns })))
 

@@ -21,7 +21,7 @@ takes_expect : (m : Punct) (ts : Tokens) → Takes ts (expect m ts)
 unfolding expect
 takes_expect m ts = go (sees m ts) (takes_one ts)
   where
-    go : (c : Bool) → Takes ts (take_one ts) → Takes ts (cond c (take_one ts) (Err (length ts)))
+    go : (c : Bool) → Takes ts (take_one ts) → Takes ts (cond c (take_one ts) (Err ts))
     go true h = h
     go false h = tt
 

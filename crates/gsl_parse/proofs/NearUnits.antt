@@ -140,7 +140,7 @@ module _ (b : Token) (p q : Tokens) where
     whole_eats : Eats b p q d c (statement_whole d f) (statement_whole c g)
     whole_eats = eats_by b p q {f = statement_as d f} {g = statement_as c g} looks_opening statement_by
 
-  statement_eats : (d c : ℕ) → Eats b p q (pred d) (pred c) (statement d) (statement c)
+  pub statement_eats : (d c : ℕ) → Eats b p q (pred d) (pred c) (statement d) (statement c)
   unfolding statement
   statement_eats zero c = eats_none b p q (λ ts. omega arith) (λ ts. tt)
   statement_eats (suc d) zero = go (statement_eats d d)
@@ -181,7 +181,7 @@ module _ (b : Token) (p q : Tokens) (d c : ℕ) where
   parameter_from_near qs t =
       near_if b p q looks_name (near_then b p q (near_name b p q) (λ n. near_then b p q (dims_of_near b p q) (λ ds. near_pure b p q (param.Named qs t n ds)))) (near_pure b p q (param.Unnamed qs t))
 
-  parameter_near : Near b p q d c (parameter d) (parameter c)
+  pub parameter_near : Near b p q d c (parameter d) (parameter c)
   unfolding parameter
   parameter_near = near_then b p q (qualifiers_near b p q) (λ qs. near_then b p q (typed_eats b p q).near (parameter_from_near qs))
 
@@ -312,7 +312,7 @@ module _ (b : Token) (p q : Tokens) (d c : ℕ) where
       go true h = inr (λ lt. named b.kind h)
       go false h = inl (no_block b p h ∙ sym (no_block b q h))
 
-  global_eats : Eats b p q d c (global_at d) (global_at c)
+  pub global_eats : Eats b p q d c (global_at d) (global_at c)
   unfolding global_at
   global_eats =
       eats_if b p q (looks_sees punct.Semicolon) (eats_then b p q (eats_one b p q) (λ l. near_pure b p q (global.Empty l))) (eats_behind b p q (qualifiers_near b p q) global_from_eats)

@@ -50,7 +50,7 @@ module _ {A : Type 0} (Stands : A → Tokens → Type 0) (ts : Tokens) where
   shallow : (o : Outcome A) (r : Result A Refusal) → Reads o → Tells o → first_deep ts ≡ None → Judges r (judged ts None o) → Parsed Stands ts r
   shallow (Ok (a, [])) r reads tells h j = found a r h (reads.0 a refl) j
   shallow (Ok (a, t ∷ more)) r reads tells h j = due (length (t ∷ more)) r h (λ b s. not_all a b t more (reads.1 b s)) (tells (bad ts (length (t ∷ more))) refl) j
-  shallow (Err n) r reads tells h j = due n r h (λ b s. let e = reads.1 b s in absurd cc) (tells (bad ts n) refl) j
+  shallow (Err us) r reads tells h j = due (length us) r h (λ b s. let e = reads.1 b s in absurd cc) (tells (bad ts (length us)) refl) j
 
   settled_by : (o : Outcome A) (r : Result A Refusal) (d : Option Token) → Reads o → Tells o → first_deep ts ≡ d → Judges r (judged ts (option_map place_of d) o) → Parsed Stands ts r
   settled_by o r (Some t) reads tells h j = deep t r h j

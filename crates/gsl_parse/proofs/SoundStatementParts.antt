@@ -130,7 +130,7 @@ pub good_key : {B : Type 0} (D : B → Tokens → Type 0) (w : Key) (ts : Tokens
 unfolding expect_key
 good_key D w ts f next = go (sees_key w ts) refl
   where
-    go : (b : Bool) → sees_key w ts ≡ b → Good D ts (and_then (cond b (take_one ts) (Err (length ts))) f)
+    go : (b : Bool) → sees_key w ts ≡ b → Good D ts (and_then (cond b (take_one ts) (Err ts)) f)
     go true h = good_word D w ts f h next
     go false h = tt
 

@@ -27,7 +27,7 @@ abbrev pub judged : {A : Type 0} → Tokens → Option Place → Outcome A → R
 judged ts (Some place) outcome = Err (record { place = place; code = code.E0902 })
 judged ts None (Ok (tree, [])) = Ok tree
 judged ts None (Ok (tree, t ∷ more)) = Err (bad ts (length (t ∷ more)))
-judged ts None (Err left) = Err (bad ts left)
+judged ts None (Err left) = Err (bad ts (length left))
 
 abbrev pub place_of : Token → Place
 place_of t = t.place

@@ -1,3 +1,4 @@
+pub mod Fed
 pub mod Judged
 pub mod Lists
 pub mod Openings

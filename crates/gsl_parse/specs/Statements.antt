@@ -21,7 +21,7 @@ use Rattle.gsl_parse.specs.Variables.{local_from, phrase, header}
 
 -- takes this keyword
 unfoldable pub expect_key : Key → Parser Place
-expect_key w ts = if sees_key w ts then take_one ts else Err (length ts)
+expect_key w ts = if sees_key w ts then take_one ts else Err ts
 
 -- an expression in parentheses
 unfoldable pub condition : ℕ → Parser Expr

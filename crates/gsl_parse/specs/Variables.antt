@@ -1,6 +1,6 @@
 -- How the code reads, and not the rule, which stands in `Declarations.antt` of `gsl_syntax`.
 -- Reading declared names, initialisers, structs and variables.
-use Rattle.std.specs.Prelude.{ℕ, zero, suc, Bool, not, ◌&&◌, List, [], ◌∷◌, ◌++◌, length, Ok, if◌then◌else◌}
+use Rattle.std.specs.Prelude.{ℕ, zero, suc, Bool, false, not, ◌&&◌, List, [], ◌∷◌, ◌++◌, length, Ok, if◌then◌else◌}
 use Rattle.gsl_base.specs.declared.token.Punct.TheVariants as punct
 use Rattle.gsl_base.specs.declared.token.Key.TheVariants as key
 use Rattle.gsl_syntax.specs.declared.expr.TypeSpec.{TypeSpec}
@@ -64,7 +64,8 @@ declarator_at d = name >>= declarator_from d
 
 -- whether something stands before the brace that closes
 unfoldable pub open_brace : Tokens → Bool
-open_brace ts = not (sees punct.RightBrace ts)
+open_brace [] = false
+open_brace (t ∷ ts) = not (sees punct.RightBrace (t ∷ ts))
 
 -- members of one type in a struct
 unfoldable pub struct_member : ℕ → Parser StructMember

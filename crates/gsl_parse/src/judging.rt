@@ -1,16 +1,20 @@
 //! The unit that all of the tokens are.
 
 ghost use Rattle.std.specs.Prelude.{◌≡◌, List};
+ghost use Rattle.gsl_base.specs.Checked.{Gives};
+ghost use Rattle.gsl_pp.specs.Feeding.{feeds};
+ghost use Rattle.gsl_supply.specs.Supplying.{comes};
 ghost use Rattle.gsl_syntax.specs.declared.statement.Global.{Global as Top};
 ghost use Rattle.gsl_syntax.specs.Sentences.{IsUnit};
+ghost use Rattle.gsl_parse.specs.Fed as fed;
 ghost use Rattle.gsl_parse.specs.Judged as spec;
 ghost use Rattle.gsl_parse.specs.Judged.{Judges, Parsed, Only};
-ghost use Rattle.gsl_base.specs.declared.fault.Refusal.TheVariants as refusal;
 
 use crate::unit::globals;
-use gsl_base::{Code, Fault, Place, Refusal, Token, Tokens};
+use gsl_base::{Code, Fault, Memory, Refusal, Token, Tokens};
 use gsl_expr::{Cursor, Stop};
-use gsl_nesting::first_deep;
+use gsl_pp::Feed;
+use gsl_supply::Supply;
 use gsl_syntax::Unit;
 use std::alloc::Global;
 
@@ -26,51 +30,80 @@ pub fn parse(alloc: Global, tokens: &Tokens) -> Result<Unit, Refusal>
     // A tree that the grammar derives is that one.
     ensures only { (tree : List Top) → IsUnit tree tokens.now → Only tree tokens.now result }
 {
-    unit(alloc, tokens.as_slice())
+    listed(alloc, tokens.as_slice())
 }
 
-fn unit(alloc: Global, tokens: &[Token]) -> Result<Unit, Refusal>
+fn listed(alloc: Global, tokens: &[Token]) -> Result<Unit, Refusal>
     ensures { Judges result (spec.unit_of tokens.now) }
 {
-    if let Some(place) = first_deep(alloc, tokens)? {
-        return Err(Refusal::Source(Fault {
-            place,
-            code: Code::E0902,
-        }));
-    }
-    let mut cursor = Cursor::new(tokens);
-    match globals(alloc, &mut cursor, tokens.len()) {
-        Ok(tree) => match cursor.rest() {
-            [] => Ok(tree),
-            [_, ..] => Err(bad(tokens, cursor.left())),
-        },
-        Err(Stop::At(left)) => Err(bad(tokens, left)),
+    let supply = Supply::of_list(alloc, tokens)?;
+    unit(alloc, supply)
+}
+
+/// The tree of the tokens that a feed gives, which are drawn as they are needed: what `parse` answers of all that
+/// `preprocess` gives, or the fault that is met in place of a token. Where a token is bad the rest is drawn too,
+/// since a fault of the preprocessor goes first.
+pub fn parse_feed(alloc: Global, feed: Feed<'_>) -> Result<Unit, Refusal>
+    ensures { Gives result (fed.unit_fed (feeds feed.entry)) }
+{
+    let supply = Supply::of_feed(alloc, feed)?;
+    unit(alloc, supply)
+}
+
+#[tactic(auto, using(crate::proofs::Answered::unit_over, crate::proofs::Answered::unit_refused))]
+fn unit(alloc: Global, supply: Supply<'_>) -> Result<Unit, Refusal>
+    requires { supply.count ≡ 0 }
+    ensures { Judges result (fed.answer (comes supply.entry)) }
+{
+    let mut tokens = Cursor::new(supply)?;
+    match globals(alloc, &mut tokens, usize::MAX) {
+        Ok(tree) => over(tree, tokens),
+        Err(Stop::Bad) => Err(refuse(tokens)),
         Err(Stop::Memory) => Err(Refusal::Memory),
     }
 }
 
-fn bad(tokens: &[Token], left: usize) -> Refusal
-    ensures { result ≡ refusal.Source (spec.bad tokens.now left) }
+/// What is answered where this tree was read.
+fn over(tree: Unit, tokens: Cursor<'_>) -> Result<Unit, Refusal>
+    ensures { fed.Over result tree tokens.entry }
 {
-    Refusal::Source(Fault {
-        place: place_at(tokens, left),
-        code: Code::E0301,
-    })
+    if is_over(&tokens) {
+        return accept(tree, tokens);
+    }
+    Err(refuse(tokens))
 }
 
-/// The place of the token with so many left from it on, or of the last token where there is none.
-#[tactic(auto, unfolding(crate::specs::Judged::place_from))]
-fn place_at(tokens: &[Token], left: usize) -> Place
-    ensures { result ≡ spec.place_from spec.first_line tokens.now left }
+fn is_over(tokens: &Cursor<'_>) -> bool
+    ensures { fed.Ends result tokens.now.left }
 {
-    let mut place = Place { unit: 0, line: 1 };
-    let mut rest = tokens;
-    while let [token, more @ ..] = rest {
-        if rest.len() == left {
-            return token.place;
-        }
-        place = token.place;
-        rest = more;
+    match tokens.next() {
+        Some(_) => false,
+        None => true,
     }
-    place
+}
+
+/// What is answered where all of the tokens were read.
+fn accept(tree: Unit, tokens: Cursor<'_>) -> Result<Unit, Refusal>
+    ensures { fed.Accepts result tree tokens.entry }
+{
+    match tokens.last_fault() {
+        Ok(Some(fault)) => Err(Refusal::Source(fault)),
+        Ok(None) => Ok(tree),
+        Err(Memory) => Err(Refusal::Memory),
+    }
+}
+
+/// What is answered where the next token is bad, or there is none too soon.
+fn refuse(tokens: Cursor<'_>) -> Refusal
+    ensures { fed.Refuses result tokens.entry }
+{
+    let place = tokens.place();
+    match tokens.last_fault() {
+        Ok(Some(fault)) => Refusal::Source(fault),
+        Ok(None) => Refusal::Source(Fault {
+            place,
+            code: Code::E0301,
+        }),
+        Err(Memory) => Refusal::Memory,
+    }
 }

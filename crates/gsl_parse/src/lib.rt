@@ -15,5 +15,5 @@ mod statement;
 mod unit;
 mod variable;
 
-pub use judging::parse;
+pub use judging::{parse, parse_feed};
 pub use laws::{one_first_bad, one_tree};

@@ -3,8 +3,9 @@
 ghost use Rattle.std.specs.Prelude.{◌≡◌, ℕ, Bool, [], ◌∷◌, length};
 ghost use Rattle.gsl_expr.specs.Reading.{Tokens, Parser, Reads};
 ghost use Rattle.gsl_parse.specs.Lists as spec;
+ghost use Rattle.gsl_parse.specs.Lists.{Shrinks, Takes};
 
-use gsl_base::{List, Punct, Token};
+use gsl_base::{List, Punct};
 use gsl_expr::{Cursor, Stop};
 use std::alloc::Global;
 
@@ -14,7 +15,7 @@ pub(crate) trait Item: Sized + Drop {
     ghost reader: { ℕ → Parser Self };
 
     fn read(alloc: Global, tokens: &mut Cursor<'_>, depth: usize) -> Result<Self, Stop>
-        ensures { Reads (reader depth tokens.old) result tokens.new };
+        ensures { Reads (reader depth tokens.old.left) result tokens.old tokens.new };
 }
 
 /// An item that stands behind others of its kind, with nothing between.
@@ -22,8 +23,8 @@ pub(crate) trait Repeated: Item {
     /// Where one begins.
     ghost starts: { Tokens → Bool };
 
-    fn begins(tokens: &[Token]) -> bool
-        ensures { result ≡ starts tokens.now };
+    fn begins(tokens: &Cursor<'_>) -> bool
+        ensures { result ≡ starts tokens.now.left };
 }
 
 /// As many as begin, behind those that were found.
@@ -33,17 +34,18 @@ pub(crate) fn row<T: Repeated>(
     tokens: &mut Cursor<'_>,
     depth: usize,
 ) -> Result<List<T>, Stop>
-    ensures { Reads (spec.row T.starts (T.reader depth) (length tokens.old) first tokens.old) result tokens.new }
+    requires { Takes T.starts (T.reader depth) }
+    ensures { Reads (spec.row T.starts (T.reader depth) (length tokens.old.left) first tokens.old.left) result tokens.old tokens.new }
 {
     let mut found = first;
-    for _turn in 0..tokens.left() {
-        if !T::begins(tokens.rest()) {
+    for _turn in 0..usize::MAX {
+        if !T::begins(tokens) {
             return Ok(found);
         }
         let item = T::read(alloc, tokens, depth)?;
         found.push(item)?;
     }
-    Ok(found)
+    Err(Stop::Memory)
 }
 
 /// As many as stand behind commas, behind those that were found.
@@ -53,10 +55,11 @@ pub(crate) fn further<T: Item>(
     tokens: &mut Cursor<'_>,
     depth: usize,
 ) -> Result<List<T>, Stop>
-    ensures { Reads (spec.further (T.reader depth) (length tokens.old) first tokens.old) result tokens.new }
+    requires { Shrinks (T.reader depth) }
+    ensures { Reads (spec.further (T.reader depth) (length tokens.old.left) first tokens.old.left) result tokens.old tokens.new }
 {
     let mut found = first;
-    for _turn in 0..tokens.left() {
+    for _turn in 0..usize::MAX {
         if !tokens.sees(Punct::Comma) {
             return Ok(found);
         }
@@ -64,7 +67,7 @@ pub(crate) fn further<T: Item>(
         let item = T::read(alloc, tokens, depth)?;
         found.push(item)?;
     }
-    Ok(found)
+    Err(Stop::Memory)
 }
 
 /// As many as begin.
@@ -73,7 +76,8 @@ pub(crate) fn row_of<T: Repeated>(
     tokens: &mut Cursor<'_>,
     depth: usize,
 ) -> Result<List<T>, Stop>
-    ensures { Reads (spec.row_of T.starts (T.reader depth) tokens.old) result tokens.new }
+    requires { Takes T.starts (T.reader depth) }
+    ensures { Reads (spec.row_of T.starts (T.reader depth) tokens.old.left) result tokens.old tokens.new }
 {
     row(alloc, List::new(alloc), tokens, depth)
 }
@@ -84,7 +88,8 @@ pub(crate) fn some_of<T: Repeated>(
     tokens: &mut Cursor<'_>,
     depth: usize,
 ) -> Result<List<T>, Stop>
-    ensures { Reads (spec.some_of T.starts (T.reader depth) tokens.old) result tokens.new }
+    requires { Takes T.starts (T.reader depth) }
+    ensures { Reads (spec.some_of T.starts (T.reader depth) tokens.old.left) result tokens.old tokens.new }
 {
     let item = T::read(alloc, tokens, depth)?;
     let mut found = List::new(alloc);
@@ -99,7 +104,8 @@ pub(crate) fn further_of<T: Item>(
     tokens: &mut Cursor<'_>,
     depth: usize,
 ) -> Result<List<T>, Stop>
-    ensures { Reads (spec.further_of (T.reader depth) item tokens.old) result tokens.new }
+    requires { Shrinks (T.reader depth) }
+    ensures { Reads (spec.further_of (T.reader depth) item tokens.old.left) result tokens.old tokens.new }
 {
     let mut found = List::new(alloc);
     found.push(item)?;
@@ -112,7 +118,8 @@ pub(crate) fn commas_of<T: Item>(
     tokens: &mut Cursor<'_>,
     depth: usize,
 ) -> Result<List<T>, Stop>
-    ensures { Reads (spec.commas_of (T.reader depth) tokens.old) result tokens.new }
+    requires { Shrinks (T.reader depth) }
+    ensures { Reads (spec.commas_of (T.reader depth) tokens.old.left) result tokens.old tokens.new }
 {
     let item = T::read(alloc, tokens, depth)?;
     further_of(alloc, item, tokens, depth)

@@ -3,7 +3,8 @@
 ghost use Rattle.std.specs.Prelude.{◌≡◌};
 ghost use Rattle.gsl_parse.specs.Openings as spec;
 
-use gsl_base::{Key, Kind, Punct, Token};
+use gsl_base::{Key, Kind, Punct};
+use gsl_expr::Cursor;
 
 /// What the first token of a statement opens.
 #[derive(Clone, Copy, Debug, PartialEq, Eq)]
@@ -70,17 +71,23 @@ fn opening_key(key: Key) -> Opening
     }
 }
 
+fn opening_by(kind: &Kind) -> Opening
+    ensures { result ≡ spec.opening_by kind.now }
+{
+    match kind {
+        Kind::Punct(punct) => opening_punct(*punct),
+        Kind::Key(key) => opening_key(*key),
+        _ => Opening::Phrase,
+    }
+}
+
 /// What the next token opens.
 #[tactic(auto, unfolding(crate::specs::Openings::opening_at))]
-pub(crate) fn next_opening(tokens: &[Token]) -> Opening
-    ensures { result ≡ spec.opening_at tokens.now }
+pub(crate) fn next_opening(tokens: &Cursor<'_>) -> Opening
+    ensures { result ≡ spec.opening_at tokens.now.left }
 {
-    match tokens {
-        [] => Opening::Phrase,
-        [token, ..] => match &token.kind {
-            Kind::Punct(punct) => opening_punct(*punct),
-            Kind::Key(key) => opening_key(*key),
-            _ => Opening::Phrase,
-        },
+    match tokens.next() {
+        Some(token) => opening_by(&token.kind),
+        None => Opening::Phrase,
     }
 }

@@ -1,27 +1,15 @@
 //! Qualifiers and types (GLSL 4.50, 4.1 and 4.3 to 4.10).
 
 ghost use Rattle.std.specs.Prelude.{◌≡◌};
-ghost use Rattle.gsl_expr.specs.Names as names;
 ghost use Rattle.gsl_expr.specs.Reading.{Reads};
 ghost use Rattle.gsl_syntax.specs.Declarations as grammar;
 ghost use Rattle.gsl_parse.specs.Qualifiers as spec;
 
 use crate::list::{Item, Repeated, commas_of, row_of};
-use gsl_base::{Key, Kind, Place, Punct, Token};
-use gsl_expr::{Cursor, Start, Stop, basic_head, dims, expr, head_type, next_start, sees_key};
+use gsl_base::{Key, Kind, Place, Punct};
+use gsl_expr::{Cursor, Start, Stop, basic_head, dims, expr, head_type, next_start};
 use gsl_syntax::{Lay, Name, Qual, Quals, TypeSpec};
 use std::alloc::Global;
-
-/// Whether the next token is a name.
-#[tactic(auto, unfolding(gsl_expr::specs::Names::sees_name))]
-pub(crate) fn sees_name(tokens: &[Token]) -> bool
-    ensures { result ≡ names.sees_name tokens.now }
-{
-    match tokens {
-        [] => false,
-        [token, ..] => matches!(&token.kind, Kind::Name(_)),
-    }
-}
 
 fn plain_qual(key: Key, place: Place) -> Option<Qual>
     ensures { result ≡ grammar.qual_of key place }
@@ -43,30 +31,36 @@ fn plain_qual(key: Key, place: Place) -> Option<Qual>
     }
 }
 
+fn plain_by(place: Place, kind: &Kind) -> Option<Qual>
+    ensures { result ≡ spec.plain_by place kind.now }
+{
+    match kind {
+        Kind::Key(key) => plain_qual(*key, place),
+        _ => None,
+    }
+}
+
 /// The qualifier that the next token is, other than one of a layout.
 #[tactic(auto, unfolding(crate::specs::Qualifiers::plain_at))]
-fn next_plain(tokens: &[Token]) -> Option<Qual>
-    ensures { result ≡ spec.plain_at tokens.now }
+fn next_plain(tokens: &Cursor<'_>) -> Option<Qual>
+    ensures { result ≡ spec.plain_at tokens.now.left }
 {
-    match tokens {
-        [] => None,
-        [token, ..] => match &token.kind {
-            Kind::Key(key) => plain_qual(*key, token.place),
-            _ => None,
-        },
+    match tokens.next() {
+        Some(token) => plain_by(token.place, &token.kind),
+        None => None,
     }
 }
 
 /// Whether a qualifier begins here.
 #[tactic(auto, unfolding(crate::specs::Qualifiers::begins_qual))]
-pub(crate) fn begins_qual(tokens: &[Token]) -> bool
-    ensures { result ≡ spec.begins_qual tokens.now }
+pub(crate) fn begins_qual(tokens: &Cursor<'_>) -> bool
+    ensures { result ≡ spec.begins_qual tokens.now.left }
 {
-    sees_key(Key::Layout, tokens) || next_plain(tokens).is_some()
+    tokens.sees_key(Key::Layout) || next_plain(tokens).is_some()
 }
 
 fn lay_from(alloc: Global, name: Name, tokens: &mut Cursor<'_>, depth: usize) -> Result<Lay, Stop>
-    ensures { Reads (spec.lay_from depth name tokens.old) result tokens.new }
+    ensures { Reads (spec.lay_from depth name tokens.old.left) result tokens.old tokens.new }
 {
     if !tokens.sees(Punct::Equal) {
         return Ok(Lay::Flag(name));
@@ -81,13 +75,14 @@ impl Item for Lay {
 
     #[tactic(auto, unfolding(crate::specs::Qualifiers::lay_item))]
     fn read(alloc: Global, tokens: &mut Cursor<'_>, depth: usize) -> Result<Lay, Stop> {
-        let name = tokens.name(alloc)?;
+        let name = tokens.name()?;
         lay_from(alloc, name, tokens, depth)
     }
 }
 
+#[tactic(auto, using(crate::proofs::Shrinking::lay_shrinks))]
 fn layout(alloc: Global, tokens: &mut Cursor<'_>, depth: usize) -> Result<Qual, Stop>
-    ensures { Reads (spec.layout depth tokens.old) result tokens.new }
+    ensures { Reads (spec.layout depth tokens.old.left) result tokens.old tokens.new }
 {
     let place = tokens.take_one()?;
     tokens.expect(Punct::LeftParen)?;
@@ -101,15 +96,15 @@ impl Item for Qual {
 
     #[tactic(auto, unfolding(crate::specs::Qualifiers::qualifier))]
     fn read(alloc: Global, tokens: &mut Cursor<'_>, depth: usize) -> Result<Qual, Stop> {
-        if sees_key(Key::Layout, tokens.rest()) {
+        if tokens.sees_key(Key::Layout) {
             return layout(alloc, tokens, depth);
         }
-        match next_plain(tokens.rest()) {
+        match next_plain(tokens) {
             Some(qual) => {
                 tokens.take_one()?;
                 Ok(qual)
             }
-            None => Err(Stop::At(tokens.left())),
+            None => Err(Stop::Bad),
         }
     }
 }
@@ -117,18 +112,19 @@ impl Item for Qual {
 impl Repeated for Qual {
     ghost starts = { spec.begins_qual };
 
-    fn begins(tokens: &[Token]) -> bool {
+    fn begins(tokens: &Cursor<'_>) -> bool {
         begins_qual(tokens)
     }
 }
 
 /// Any number of qualifiers.
+#[tactic(auto, using(crate::proofs::Shrinking::qual_takes))]
 pub(crate) fn qualifiers(
     alloc: Global,
     tokens: &mut Cursor<'_>,
     depth: usize,
 ) -> Result<Quals, Stop>
-    ensures { Reads (spec.qualifiers depth tokens.old) result tokens.new }
+    ensures { Reads (spec.qualifiers depth tokens.old.left) result tokens.old tokens.new }
 {
     row_of::<Qual>(alloc, tokens, depth)
 }
@@ -136,14 +132,14 @@ pub(crate) fn qualifiers(
 /// A type with its brackets.
 #[tactic(auto, unfolding(crate::specs::Qualifiers::typed))]
 pub(crate) fn typed(alloc: Global, tokens: &mut Cursor<'_>, depth: usize) -> Result<TypeSpec, Stop>
-    ensures { Reads (spec.typed depth tokens.old) result tokens.new }
+    ensures { Reads (spec.typed depth tokens.old.left) result tokens.old tokens.new }
 {
-    match next_start(tokens.rest()) {
+    match next_start(tokens) {
         Start::Name => {
-            let Name { place, text } = tokens.name(alloc)?;
+            let Name { place, text } = tokens.name()?;
             Ok(TypeSpec::Named(place, text, dims(alloc, tokens, depth)?))
         }
         Start::Basic(basic) => Ok(head_type(basic_head(alloc, basic, tokens, depth)?)),
-        _ => Err(Stop::At(tokens.left())),
+        _ => Err(Stop::Bad),
     }
 }

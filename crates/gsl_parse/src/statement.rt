@@ -11,17 +11,17 @@ use crate::opening::{Opening, next_opening};
 use crate::qualifier::qualifiers;
 use crate::variable::{header, local_from, phrase};
 use gsl_base::{Boxed, Key, List, Place, Punct};
-use gsl_expr::{Cursor, Stop, expr, sees_key};
+use gsl_expr::{Cursor, Stop, expr};
 use gsl_syntax::{Expr, ForInit, Stmt, Stmts};
 use std::alloc::Global;
 
 /// Takes this keyword.
 #[tactic(auto, unfolding(crate::specs::Statements::expect_key))]
 fn expect_key(tokens: &mut Cursor<'_>, key: Key) -> Result<Place, Stop>
-    ensures { Reads (spec.expect_key key tokens.old) result tokens.new }
+    ensures { Reads (spec.expect_key key tokens.old.left) result tokens.old tokens.new }
 {
-    if !sees_key(key, tokens.rest()) {
-        return Err(Stop::At(tokens.left()));
+    if !tokens.sees_key(key) {
+        return Err(Stop::Bad);
     }
     tokens.take_one()
 }
@@ -29,7 +29,7 @@ fn expect_key(tokens: &mut Cursor<'_>, key: Key) -> Result<Place, Stop>
 /// An expression in parentheses.
 #[tactic(auto, unfolding(crate::specs::Statements::condition))]
 fn test(alloc: Global, tokens: &mut Cursor<'_>, depth: usize) -> Result<Expr, Stop>
-    ensures { Reads (spec.condition depth tokens.old) result tokens.new }
+    ensures { Reads (spec.condition depth tokens.old.left) result tokens.old tokens.new }
 {
     tokens.expect(Punct::LeftParen)?;
     let tree = expr(alloc, tokens, depth, 0)?;
@@ -45,7 +45,7 @@ fn optional(
     depth: usize,
     end: Punct,
 ) -> Result<Option<Expr>, Stop>
-    ensures { Reads (spec.optional depth end tokens.old) result tokens.new }
+    ensures { Reads (spec.optional depth end tokens.old.left) result tokens.old tokens.new }
 {
     if tokens.sees(end) {
         tokens.take_one()?;
@@ -64,7 +64,7 @@ fn returned(
     tokens: &mut Cursor<'_>,
     depth: usize,
 ) -> Result<Stmt, Stop>
-    ensures { Reads (spec.returned depth place tokens.old) result tokens.new }
+    ensures { Reads (spec.returned depth place tokens.old.left) result tokens.old tokens.new }
 {
     if tokens.sees(Punct::Semicolon) {
         tokens.take_one()?;
@@ -97,7 +97,7 @@ impl<F: Fn(Global, &mut Cursor<'_>, usize) -> Result<Stmt, Stop>> Rules<F> {
     /// A nested statement.
     fn nested(&self, tokens: &mut Cursor<'_>) -> Result<Stmt, Stop>
         requires { Within self.now.depth (F.pre self.now.statement) (F.post self.now.statement) }
-        ensures { Reads (spec.statement self.now.depth tokens.old) result tokens.new }
+        ensures { Reads (spec.statement self.now.depth tokens.old.left) result tokens.old tokens.new }
     {
         (self.statement)(self.alloc, tokens, self.depth)
     }
@@ -105,7 +105,7 @@ impl<F: Fn(Global, &mut Cursor<'_>, usize) -> Result<Stmt, Stop>> Rules<F> {
     /// A nested statement, in a box of its own.
     fn boxed(&self, tokens: &mut Cursor<'_>) -> Result<Boxed<Stmt>, Stop>
         requires { Within self.now.depth (F.pre self.now.statement) (F.post self.now.statement) }
-        ensures { Reads (spec.statement self.now.depth tokens.old) result tokens.new }
+        ensures { Reads (spec.statement self.now.depth tokens.old.left) result tokens.old tokens.new }
     {
         let tree = self.nested(tokens)?;
         Ok(Boxed::new(self.alloc, tree)?)
@@ -114,10 +114,10 @@ impl<F: Fn(Global, &mut Cursor<'_>, usize) -> Result<Stmt, Stop>> Rules<F> {
     /// Statements, with the brace that closes them.
     fn statements(&self, tokens: &mut Cursor<'_>) -> Result<Stmts, Stop>
         requires { Within self.now.depth (F.pre self.now.statement) (F.post self.now.statement) }
-        ensures { Reads (spec.statements_of (spec.statement self.now.depth) tokens.old) result tokens.new }
+        ensures { Reads (spec.statements_of (spec.statement self.now.depth) tokens.old.left) result tokens.old tokens.new }
     {
         let mut found = List::new(self.alloc);
-        for _turn in 0..tokens.left() {
+        for _turn in 0..usize::MAX {
             if tokens.sees(Punct::RightBrace) {
                 tokens.take_one()?;
                 return Ok(found);
@@ -125,18 +125,18 @@ impl<F: Fn(Global, &mut Cursor<'_>, usize) -> Result<Stmt, Stop>> Rules<F> {
             let item = self.nested(tokens)?;
             found.push(item)?;
         }
-        Err(Stop::At(tokens.left()))
+        Err(Stop::Memory)
     }
 
     fn empty(&self, tokens: &mut Cursor<'_>) -> Result<Stmt, Stop>
-        ensures { Reads (spec.statement_as self.now.depth (spec.statement self.now.depth) opening.Empty tokens.old) result tokens.new }
+        ensures { Reads (spec.statement_as self.now.depth (spec.statement self.now.depth) opening.Empty tokens.old.left) result tokens.old tokens.new }
     {
         Ok(Stmt::Empty(tokens.take_one()?))
     }
 
     fn block(&self, tokens: &mut Cursor<'_>) -> Result<Stmt, Stop>
         requires { Within self.now.depth (F.pre self.now.statement) (F.post self.now.statement) }
-        ensures { Reads (spec.statement_as self.now.depth (spec.statement self.now.depth) opening.Block tokens.old) result tokens.new }
+        ensures { Reads (spec.statement_as self.now.depth (spec.statement self.now.depth) opening.Block tokens.old.left) result tokens.old tokens.new }
     {
         let place = tokens.take_one()?;
         Ok(Stmt::Block(place, self.statements(tokens)?))
@@ -152,9 +152,9 @@ impl<F: Fn(Global, &mut Cursor<'_>, usize) -> Result<Stmt, Stop>> Rules<F> {
         tokens: &mut Cursor<'_>,
     ) -> Result<Stmt, Stop>
         requires { Within self.now.depth (F.pre self.now.statement) (F.post self.now.statement) }
-        ensures { Reads (spec.alternative self.now.depth (spec.statement self.now.depth) place test then tokens.old) result tokens.new }
+        ensures { Reads (spec.alternative self.now.depth (spec.statement self.now.depth) place test then tokens.old.left) result tokens.old tokens.new }
     {
-        if !sees_key(Key::Else, tokens.rest()) {
+        if !tokens.sees_key(Key::Else) {
             return Ok(Stmt::If(place, test, then));
         }
         tokens.take_one()?;
@@ -164,7 +164,7 @@ impl<F: Fn(Global, &mut Cursor<'_>, usize) -> Result<Stmt, Stop>> Rules<F> {
 
     fn branch(&self, tokens: &mut Cursor<'_>) -> Result<Stmt, Stop>
         requires { Within self.now.depth (F.pre self.now.statement) (F.post self.now.statement) }
-        ensures { Reads (spec.statement_as self.now.depth (spec.statement self.now.depth) opening.If tokens.old) result tokens.new }
+        ensures { Reads (spec.statement_as self.now.depth (spec.statement self.now.depth) opening.If tokens.old.left) result tokens.old tokens.new }
     {
         let place = tokens.take_one()?;
         let test = test(self.alloc, tokens, self.depth)?;
@@ -174,7 +174,7 @@ impl<F: Fn(Global, &mut Cursor<'_>, usize) -> Result<Stmt, Stop>> Rules<F> {
 
     fn switch(&self, tokens: &mut Cursor<'_>) -> Result<Stmt, Stop>
         requires { Within self.now.depth (F.pre self.now.statement) (F.post self.now.statement) }
-        ensures { Reads (spec.statement_as self.now.depth (spec.statement self.now.depth) opening.Switch tokens.old) result tokens.new }
+        ensures { Reads (spec.statement_as self.now.depth (spec.statement self.now.depth) opening.Switch tokens.old.left) result tokens.old tokens.new }
     {
         let place = tokens.take_one()?;
         let test = test(self.alloc, tokens, self.depth)?;
@@ -184,7 +184,7 @@ impl<F: Fn(Global, &mut Cursor<'_>, usize) -> Result<Stmt, Stop>> Rules<F> {
     }
 
     fn case(&self, tokens: &mut Cursor<'_>) -> Result<Stmt, Stop>
-        ensures { Reads (spec.statement_as self.now.depth (spec.statement self.now.depth) opening.Case tokens.old) result tokens.new }
+        ensures { Reads (spec.statement_as self.now.depth (spec.statement self.now.depth) opening.Case tokens.old.left) result tokens.old tokens.new }
     {
         let place = tokens.take_one()?;
         let label = expr(self.alloc, tokens, self.depth, 2)?;
@@ -193,7 +193,7 @@ impl<F: Fn(Global, &mut Cursor<'_>, usize) -> Result<Stmt, Stop>> Rules<F> {
     }
 
     fn default(&self, tokens: &mut Cursor<'_>) -> Result<Stmt, Stop>
-        ensures { Reads (spec.statement_as self.now.depth (spec.statement self.now.depth) opening.Default tokens.old) result tokens.new }
+        ensures { Reads (spec.statement_as self.now.depth (spec.statement self.now.depth) opening.Default tokens.old.left) result tokens.old tokens.new }
     {
         let place = tokens.take_one()?;
         tokens.expect(Punct::Colon)?;
@@ -202,7 +202,7 @@ impl<F: Fn(Global, &mut Cursor<'_>, usize) -> Result<Stmt, Stop>> Rules<F> {
 
     fn while_loop(&self, tokens: &mut Cursor<'_>) -> Result<Stmt, Stop>
         requires { Within self.now.depth (F.pre self.now.statement) (F.post self.now.statement) }
-        ensures { Reads (spec.statement_as self.now.depth (spec.statement self.now.depth) opening.While tokens.old) result tokens.new }
+        ensures { Reads (spec.statement_as self.now.depth (spec.statement self.now.depth) opening.While tokens.old.left) result tokens.old tokens.new }
     {
         let place = tokens.take_one()?;
         let test = test(self.alloc, tokens, self.depth)?;
@@ -212,7 +212,7 @@ impl<F: Fn(Global, &mut Cursor<'_>, usize) -> Result<Stmt, Stop>> Rules<F> {
 
     fn do_loop(&self, tokens: &mut Cursor<'_>) -> Result<Stmt, Stop>
         requires { Within self.now.depth (F.pre self.now.statement) (F.post self.now.statement) }
-        ensures { Reads (spec.statement_as self.now.depth (spec.statement self.now.depth) opening.Do tokens.old) result tokens.new }
+        ensures { Reads (spec.statement_as self.now.depth (spec.statement self.now.depth) opening.Do tokens.old.left) result tokens.old tokens.new }
     {
         let place = tokens.take_one()?;
         let body = self.boxed(tokens)?;
@@ -224,7 +224,7 @@ impl<F: Fn(Global, &mut Cursor<'_>, usize) -> Result<Stmt, Stop>> Rules<F> {
 
     fn for_loop(&self, tokens: &mut Cursor<'_>) -> Result<Stmt, Stop>
         requires { Within self.now.depth (F.pre self.now.statement) (F.post self.now.statement) }
-        ensures { Reads (spec.statement_as self.now.depth (spec.statement self.now.depth) opening.For tokens.old) result tokens.new }
+        ensures { Reads (spec.statement_as self.now.depth (spec.statement self.now.depth) opening.For tokens.old.left) result tokens.old tokens.new }
     {
         let place = tokens.take_one()?;
         tokens.expect(Punct::LeftParen)?;
@@ -234,7 +234,7 @@ impl<F: Fn(Global, &mut Cursor<'_>, usize) -> Result<Stmt, Stop>> Rules<F> {
 
     fn for_test(&self, place: Place, init: ForInit, tokens: &mut Cursor<'_>) -> Result<Stmt, Stop>
         requires { Within self.now.depth (F.pre self.now.statement) (F.post self.now.statement) }
-        ensures { Reads (spec.for_test self.now.depth (spec.statement self.now.depth) place init tokens.old) result tokens.new }
+        ensures { Reads (spec.for_test self.now.depth (spec.statement self.now.depth) place init tokens.old.left) result tokens.old tokens.new }
     {
         let test = optional(self.alloc, tokens, self.depth, Punct::Semicolon)?;
         self.for_step(place, init, test, tokens)
@@ -248,7 +248,7 @@ impl<F: Fn(Global, &mut Cursor<'_>, usize) -> Result<Stmt, Stop>> Rules<F> {
         tokens: &mut Cursor<'_>,
     ) -> Result<Stmt, Stop>
         requires { Within self.now.depth (F.pre self.now.statement) (F.post self.now.statement) }
-        ensures { Reads (spec.for_step self.now.depth (spec.statement self.now.depth) place init test tokens.old) result tokens.new }
+        ensures { Reads (spec.for_step self.now.depth (spec.statement self.now.depth) place init test tokens.old.left) result tokens.old tokens.new }
     {
         let step = optional(self.alloc, tokens, self.depth, Punct::RightParen)?;
         self.for_body(place, init, test, step, tokens)
@@ -263,55 +263,55 @@ impl<F: Fn(Global, &mut Cursor<'_>, usize) -> Result<Stmt, Stop>> Rules<F> {
         tokens: &mut Cursor<'_>,
     ) -> Result<Stmt, Stop>
         requires { Within self.now.depth (F.pre self.now.statement) (F.post self.now.statement) }
-        ensures { Reads (spec.for_body self.now.depth (spec.statement self.now.depth) place init test step tokens.old) result tokens.new }
+        ensures { Reads (spec.for_body self.now.depth (spec.statement self.now.depth) place init test step tokens.old.left) result tokens.old tokens.new }
     {
         let body = self.boxed(tokens)?;
         Ok(Stmt::For(place, init, test, step, body))
     }
 
     fn break_out(&self, tokens: &mut Cursor<'_>) -> Result<Stmt, Stop>
-        ensures { Reads (spec.statement_as self.now.depth (spec.statement self.now.depth) opening.Break tokens.old) result tokens.new }
+        ensures { Reads (spec.statement_as self.now.depth (spec.statement self.now.depth) opening.Break tokens.old.left) result tokens.old tokens.new }
     {
         Ok(Stmt::Break(word(tokens)?))
     }
 
     fn continue_on(&self, tokens: &mut Cursor<'_>) -> Result<Stmt, Stop>
-        ensures { Reads (spec.statement_as self.now.depth (spec.statement self.now.depth) opening.Continue tokens.old) result tokens.new }
+        ensures { Reads (spec.statement_as self.now.depth (spec.statement self.now.depth) opening.Continue tokens.old.left) result tokens.old tokens.new }
     {
         Ok(Stmt::Continue(word(tokens)?))
     }
 
     fn discard(&self, tokens: &mut Cursor<'_>) -> Result<Stmt, Stop>
-        ensures { Reads (spec.statement_as self.now.depth (spec.statement self.now.depth) opening.Discard tokens.old) result tokens.new }
+        ensures { Reads (spec.statement_as self.now.depth (spec.statement self.now.depth) opening.Discard tokens.old.left) result tokens.old tokens.new }
     {
         Ok(Stmt::Discard(word(tokens)?))
     }
 
     fn return_out(&self, tokens: &mut Cursor<'_>) -> Result<Stmt, Stop>
-        ensures { Reads (spec.statement_as self.now.depth (spec.statement self.now.depth) opening.Return tokens.old) result tokens.new }
+        ensures { Reads (spec.statement_as self.now.depth (spec.statement self.now.depth) opening.Return tokens.old.left) result tokens.old tokens.new }
     {
         let place = tokens.take_one()?;
         returned(self.alloc, place, tokens, self.depth)
     }
 
     fn local(&self, tokens: &mut Cursor<'_>) -> Result<Stmt, Stop>
-        ensures { Reads (spec.statement_as self.now.depth (spec.statement self.now.depth) opening.Local tokens.old) result tokens.new }
+        ensures { Reads (spec.statement_as self.now.depth (spec.statement self.now.depth) opening.Local tokens.old.left) result tokens.old tokens.new }
     {
         let quals = qualifiers(self.alloc, tokens, self.depth)?;
         Ok(Stmt::Decl(local_from(self.alloc, quals, tokens, self.depth)?))
     }
 
     fn phrase(&self, tokens: &mut Cursor<'_>) -> Result<Stmt, Stop>
-        ensures { Reads (spec.statement_as self.now.depth (spec.statement self.now.depth) opening.Phrase tokens.old) result tokens.new }
+        ensures { Reads (spec.statement_as self.now.depth (spec.statement self.now.depth) opening.Phrase tokens.old.left) result tokens.old tokens.new }
     {
         Ok(stmt_of(phrase(self.alloc, tokens, self.depth)?))
     }
 
     fn whole(&self, tokens: &mut Cursor<'_>) -> Result<Stmt, Stop>
         requires { Within self.now.depth (F.pre self.now.statement) (F.post self.now.statement) }
-        ensures { Reads (spec.statement_whole self.now.depth (spec.statement self.now.depth) tokens.old) result tokens.new }
+        ensures { Reads (spec.statement_whole self.now.depth (spec.statement self.now.depth) tokens.old.left) result tokens.old tokens.new }
     {
-        match next_opening(tokens.rest()) {
+        match next_opening(tokens) {
             Opening::Empty => self.empty(tokens),
             Opening::Block => self.block(tokens),
             Opening::If => self.branch(tokens),
@@ -333,7 +333,7 @@ impl<F: Fn(Global, &mut Cursor<'_>, usize) -> Result<Stmt, Stop>> Rules<F> {
 
 /// A word with its semicolon.
 fn word(tokens: &mut Cursor<'_>) -> Result<Place, Stop>
-    ensures { Reads (spec.word tokens.old) result tokens.new }
+    ensures { Reads (spec.word tokens.old.left) result tokens.old tokens.new }
 {
     let place = tokens.take_one()?;
     tokens.expect(Punct::Semicolon)?;
@@ -342,10 +342,10 @@ fn word(tokens: &mut Cursor<'_>) -> Result<Place, Stop>
 
 /// A statement that nests no deeper than `depth`.
 pub(crate) fn statement(alloc: Global, tokens: &mut Cursor<'_>, depth: usize) -> Result<Stmt, Stop>
-    ensures { Reads (spec.statement depth tokens.old) result tokens.new }
+    ensures { Reads (spec.statement depth tokens.old.left) result tokens.old tokens.new }
 {
     if depth == 0 {
-        return Err(Stop::At(tokens.left()));
+        return Err(Stop::Bad);
     }
     Rules {
         alloc,
@@ -361,7 +361,7 @@ pub(crate) fn statements(
     tokens: &mut Cursor<'_>,
     depth: usize,
 ) -> Result<Stmts, Stop>
-    ensures { Reads (spec.statements_of (spec.statement depth) tokens.old) result tokens.new }
+    ensures { Reads (spec.statements_of (spec.statement depth) tokens.old.left) result tokens.old tokens.new }
 {
     Rules {
         alloc,

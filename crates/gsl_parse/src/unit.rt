@@ -5,11 +5,11 @@ ghost use Rattle.gsl_expr.specs.Reading.{Reads};
 ghost use Rattle.gsl_parse.specs.Units as spec;
 
 use crate::list::{Item, Repeated, commas_of, further_of, row_of, some_of};
-use crate::qualifier::{qualifiers, sees_name, typed};
+use crate::qualifier::{qualifiers, typed};
 use crate::statement::statements;
 use crate::variable::{declarator_from, struct_variables};
-use gsl_base::{Key, List, Punct, Token};
-use gsl_expr::{Cursor, Stop, dims, sees, sees_key, void_alone};
+use gsl_base::{Key, List, Punct};
+use gsl_expr::{Cursor, Stop, dims, void_alone};
 use gsl_syntax::{
     Body, Decl, Declarator, Function, Global as Top, Member, Name, Param, Params, Qual, Quals,
     TypeSpec, Unit,
@@ -25,12 +25,12 @@ fn parameter_from(
     tokens: &mut Cursor<'_>,
     depth: usize,
 ) -> Result<Param, Stop>
-    ensures { Reads (spec.parameter_from depth quals ty tokens.old) result tokens.new }
+    ensures { Reads (spec.parameter_from depth quals ty tokens.old.left) result tokens.old tokens.new }
 {
-    if !sees_name(tokens.rest()) {
+    if !tokens.sees_name() {
         return Ok(Param::Unnamed(quals, ty));
     }
-    let name = tokens.name(alloc)?;
+    let name = tokens.name()?;
     let dims = dims(alloc, tokens, depth)?;
     Ok(Param::Named(quals, ty, name, dims))
 }
@@ -46,8 +46,9 @@ impl Item for Param {
     }
 }
 
+#[tactic(auto, using(crate::proofs::Shrinking::parameter_shrinks))]
 fn listed_parameters(alloc: Global, tokens: &mut Cursor<'_>, depth: usize) -> Result<Params, Stop>
-    ensures { Reads (spec.listed_parameters depth tokens.old) result tokens.new }
+    ensures { Reads (spec.listed_parameters depth tokens.old.left) result tokens.old tokens.new }
 {
     let found = commas_of::<Param>(alloc, tokens, depth)?;
     tokens.expect(Punct::RightParen)?;
@@ -57,13 +58,13 @@ fn listed_parameters(alloc: Global, tokens: &mut Cursor<'_>, depth: usize) -> Re
 /// Parameters, with the parenthesis that closes them.
 #[tactic(auto, unfolding(crate::specs::Units::parameters))]
 fn parameters(alloc: Global, tokens: &mut Cursor<'_>, depth: usize) -> Result<Params, Stop>
-    ensures { Reads (spec.parameters depth tokens.old) result tokens.new }
+    ensures { Reads (spec.parameters depth tokens.old.left) result tokens.old tokens.new }
 {
     if tokens.sees(Punct::RightParen) {
         tokens.take_one()?;
         return Ok(Params::Items(List::new(alloc)));
     }
-    if void_alone(tokens.rest()) {
+    if void_alone(tokens) {
         let place = tokens.take_one()?;
         tokens.take_one()?;
         return Ok(Params::Void(place));
@@ -74,7 +75,7 @@ fn parameters(alloc: Global, tokens: &mut Cursor<'_>, depth: usize) -> Result<Pa
 /// What follows the parameters of a function.
 #[tactic(auto, unfolding(crate::specs::Units::function_body))]
 fn function_body(alloc: Global, tokens: &mut Cursor<'_>, depth: usize) -> Result<Body, Stop>
-    ensures { Reads (spec.function_body depth tokens.old) result tokens.new }
+    ensures { Reads (spec.function_body depth tokens.old.left) result tokens.old tokens.new }
 {
     if tokens.sees(Punct::Semicolon) {
         return Ok(Body::Prototype(tokens.take_one()?));
@@ -93,7 +94,7 @@ fn function_end(
     tokens: &mut Cursor<'_>,
     depth: usize,
 ) -> Result<Function, Stop>
-    ensures { Reads (spec.function_end depth quals ty name params tokens.old) result tokens.new }
+    ensures { Reads (spec.function_end depth quals ty name params tokens.old.left) result tokens.old tokens.new }
 {
     let body = function_body(alloc, tokens, depth)?;
     Ok(Function {
@@ -115,7 +116,7 @@ fn function_from(
     tokens: &mut Cursor<'_>,
     depth: usize,
 ) -> Result<Function, Stop>
-    ensures { Reads (spec.function_from depth quals ty name tokens.old) result tokens.new }
+    ensures { Reads (spec.function_from depth quals ty name tokens.old.left) result tokens.old tokens.new }
 {
     tokens.take_one()?;
     let params = parameters(alloc, tokens, depth)?;
@@ -123,7 +124,7 @@ fn function_from(
 }
 
 /// Variables, behind the first name.
-#[tactic(auto, unfolding(crate::specs::Units::variables_from))]
+#[tactic(auto, unfolding(crate::specs::Units::variables_from), using(crate::proofs::Shrinking::declarator_shrinks))]
 fn variables_from(
     alloc: Global,
     quals: Quals,
@@ -132,7 +133,7 @@ fn variables_from(
     tokens: &mut Cursor<'_>,
     depth: usize,
 ) -> Result<Decl, Stop>
-    ensures { Reads (spec.variables_from depth quals ty name tokens.old) result tokens.new }
+    ensures { Reads (spec.variables_from depth quals ty name tokens.old.left) result tokens.old tokens.new }
 {
     let first = declarator_from(alloc, name, tokens, depth)?;
     let found = further_of::<Declarator>(alloc, first, tokens, depth)?;
@@ -150,7 +151,7 @@ fn named_from(
     tokens: &mut Cursor<'_>,
     depth: usize,
 ) -> Result<Top, Stop>
-    ensures { Reads (spec.named_from depth quals ty name tokens.old) result tokens.new }
+    ensures { Reads (spec.named_from depth quals ty name tokens.old.left) result tokens.old tokens.new }
 {
     if tokens.sees(Punct::LeftParen) {
         let tree = function_from(alloc, quals, ty, name, tokens, depth)?;
@@ -162,13 +163,13 @@ fn named_from(
 
 /// The name of a block's instance, or none.
 #[tactic(auto, unfolding(crate::specs::Units::instance))]
-fn instance(alloc: Global, tokens: &mut Cursor<'_>) -> Result<Option<Name>, Stop>
-    ensures { Reads (spec.instance tokens.old) result tokens.new }
+fn instance(tokens: &mut Cursor<'_>) -> Result<Option<Name>, Stop>
+    ensures { Reads (spec.instance tokens.old.left) result tokens.old tokens.new }
 {
-    if !sees_name(tokens.rest()) {
+    if !tokens.sees_name() {
         return Ok(None);
     }
-    Ok(Some(tokens.name(alloc)?))
+    Ok(Some(tokens.name()?))
 }
 
 /// A block, behind the name of its instance.
@@ -179,7 +180,7 @@ fn block_close(
     instance: Option<Name>,
     tokens: &mut Cursor<'_>,
 ) -> Result<Decl, Stop>
-    ensures { Reads (spec.block_close quals name members instance tokens.old) result tokens.new }
+    ensures { Reads (spec.block_close quals name members instance tokens.old.left) result tokens.old tokens.new }
 {
     tokens.expect(Punct::Semicolon)?;
     Ok(Decl::Block(quals, name, members, instance))
@@ -187,39 +188,35 @@ fn block_close(
 
 /// A block, behind its members.
 fn block_end(
-    alloc: Global,
     quals: Quals,
     name: Name,
     members: List<Member>,
     tokens: &mut Cursor<'_>,
 ) -> Result<Decl, Stop>
-    ensures { Reads (spec.block_end quals name members tokens.old) result tokens.new }
+    ensures { Reads (spec.block_end quals name members tokens.old.left) result tokens.old tokens.new }
 {
     tokens.expect(Punct::RightBrace)?;
-    let instance = instance(alloc, tokens)?;
+    let instance = instance(tokens)?;
     block_close(quals, name, members, instance, tokens)
 }
 
 /// A block, behind its qualifiers.
-#[tactic(auto, unfolding(crate::specs::Units::block))]
+#[tactic(auto, unfolding(crate::specs::Units::block), using(crate::proofs::Shrinking::member_takes))]
 fn block(alloc: Global, quals: Quals, tokens: &mut Cursor<'_>, depth: usize) -> Result<Decl, Stop>
-    ensures { Reads (spec.block depth quals tokens.old) result tokens.new }
+    ensures { Reads (spec.block depth quals tokens.old.left) result tokens.old tokens.new }
 {
-    let name = tokens.name(alloc)?;
+    let name = tokens.name()?;
     tokens.expect(Punct::LeftBrace)?;
     let members = some_of::<Member>(alloc, tokens, depth)?;
-    block_end(alloc, quals, name, members, tokens)
+    block_end(quals, name, members, tokens)
 }
 
 /// Whether a name and a brace stand next.
-#[tactic(auto, unfolding(crate::specs::Units::opens_block))]
-fn opens_block(tokens: &[Token]) -> bool
-    ensures { result ≡ spec.opens_block tokens.now }
+#[tactic(auto, unfolding(crate::specs::Units::opens_block), using(crate::proofs::Behind::braces))]
+fn opens_block(tokens: &Cursor<'_>) -> bool
+    ensures { result ≡ spec.opens_block tokens.now.left }
 {
-    match tokens {
-        [] => false,
-        [_, rest @ ..] => sees_name(tokens) && sees(Punct::LeftBrace, rest),
-    }
+    tokens.sees_name() && tokens.sees_behind(Punct::LeftBrace)
 }
 
 fn any_qual(quals: &[Qual]) -> bool
@@ -234,14 +231,14 @@ fn struct_at_top(
     tokens: &mut Cursor<'_>,
     depth: usize,
 ) -> Result<Top, Stop>
-    ensures { Reads (spec.struct_at_top depth quals tokens.old) result tokens.new }
+    ensures { Reads (spec.struct_at_top depth quals tokens.old.left) result tokens.old tokens.new }
 {
     let tree = struct_variables(alloc, quals, tokens, depth)?;
     Ok(Top::Decl(tree))
 }
 
 fn quals_alone(quals: Quals, tokens: &mut Cursor<'_>) -> Result<Top, Stop>
-    ensures { Reads (spec.quals_alone quals tokens.old) result tokens.new }
+    ensures { Reads (spec.quals_alone quals tokens.old.left) result tokens.old tokens.new }
 {
     tokens.take_one()?;
     Ok(Top::Decl(Decl::Quals(quals)))
@@ -253,7 +250,7 @@ fn block_at_top(
     tokens: &mut Cursor<'_>,
     depth: usize,
 ) -> Result<Top, Stop>
-    ensures { Reads (spec.block_at_top depth quals tokens.old) result tokens.new }
+    ensures { Reads (spec.block_at_top depth quals tokens.old.left) result tokens.old tokens.new }
 {
     let tree = block(alloc, quals, tokens, depth)?;
     Ok(Top::Decl(tree))
@@ -265,10 +262,10 @@ fn typed_at_top(
     tokens: &mut Cursor<'_>,
     depth: usize,
 ) -> Result<Top, Stop>
-    ensures { Reads (spec.typed_at_top depth quals tokens.old) result tokens.new }
+    ensures { Reads (spec.typed_at_top depth quals tokens.old.left) result tokens.old tokens.new }
 {
     let ty = typed(alloc, tokens, depth)?;
-    let name = tokens.name(alloc)?;
+    let name = tokens.name()?;
     named_from(alloc, quals, ty, name, tokens, depth)
 }
 
@@ -280,15 +277,15 @@ fn global_from(
     tokens: &mut Cursor<'_>,
     depth: usize,
 ) -> Result<Top, Stop>
-    ensures { Reads (spec.global_from depth quals tokens.old) result tokens.new }
+    ensures { Reads (spec.global_from depth quals tokens.old.left) result tokens.old tokens.new }
 {
-    if sees_key(Key::Struct, tokens.rest()) {
+    if tokens.sees_key(Key::Struct) {
         return struct_at_top(alloc, quals, tokens, depth);
     }
     if any_qual(quals.as_slice()) && tokens.sees(Punct::Semicolon) {
         return quals_alone(quals, tokens);
     }
-    if any_qual(quals.as_slice()) && opens_block(tokens.rest()) {
+    if any_qual(quals.as_slice()) && opens_block(tokens) {
         return block_at_top(alloc, quals, tokens, depth);
     }
     typed_at_top(alloc, quals, tokens, depth)
@@ -310,15 +307,15 @@ impl Item for Top {
 impl Repeated for Top {
     ghost starts = { spec.some_left };
 
-    fn begins(tokens: &[Token]) -> bool {
-        !tokens.is_empty()
+    fn begins(tokens: &Cursor<'_>) -> bool {
+        tokens.next().is_some()
     }
 }
 
 /// All of the tokens.
-#[tactic(auto, unfolding(crate::specs::Units::globals))]
+#[tactic(auto, unfolding(crate::specs::Units::globals), using(crate::proofs::Shrinking::global_takes))]
 pub(crate) fn globals(alloc: Global, tokens: &mut Cursor<'_>, depth: usize) -> Result<Unit, Stop>
-    ensures { Reads (spec.globals depth tokens.old) result tokens.new }
+    ensures { Reads (spec.globals depth tokens.old.left) result tokens.old tokens.new }
 {
     row_of::<Top>(alloc, tokens, depth)
 }

@@ -6,11 +6,11 @@ ghost use Rattle.gsl_expr.specs.declared.rule.Start.TheVariants as start;
 ghost use Rattle.gsl_parse.specs.Variables as spec;
 
 use crate::list::{Item, Repeated, commas_of, some_of};
-use crate::qualifier::{begins_qual, qualifiers, sees_name, typed};
-use gsl_base::{Key, List, Punct, Token};
+use crate::qualifier::{begins_qual, qualifiers, typed};
+use gsl_base::{Key, List, Punct};
 use gsl_expr::{
     Cursor, Head, Start, Stop, applied, basic_head, completed, dims, expr, head_type, may_be_open,
-    named_head, next_start, sees, sees_key,
+    named_head, next_start,
 };
 use gsl_syntax::{
     Basic, Decl, Declarator, Declared, Dims, ForInit, Init, Member, Name, Quals, Struct,
@@ -23,7 +23,7 @@ impl Item for Declared {
 
     #[tactic(auto, unfolding(crate::specs::Variables::declared))]
     fn read(alloc: Global, tokens: &mut Cursor<'_>, depth: usize) -> Result<Declared, Stop> {
-        let name = tokens.name(alloc)?;
+        let name = tokens.name()?;
         let dims = dims(alloc, tokens, depth)?;
         Ok(Declared { name, dims })
     }
@@ -33,7 +33,7 @@ impl Item for Declared {
 impl Item for StructMember {
     ghost reader = { spec.struct_member };
 
-    #[tactic(auto, unfolding(crate::specs::Variables::struct_member))]
+    #[tactic(auto, unfolding(crate::specs::Variables::struct_member), using(crate::proofs::Shrinking::declared_shrinks))]
     fn read(alloc: Global, tokens: &mut Cursor<'_>, depth: usize) -> Result<StructMember, Stop> {
         let ty = typed(alloc, tokens, depth)?;
         let names = commas_of::<Declared>(alloc, tokens, depth)?;
@@ -45,7 +45,7 @@ impl Item for StructMember {
 impl Repeated for StructMember {
     ghost starts = { spec.open_brace };
 
-    fn begins(tokens: &[Token]) -> bool {
+    fn begins(tokens: &Cursor<'_>) -> bool {
         open_brace(tokens)
     }
 }
@@ -54,7 +54,7 @@ impl Repeated for StructMember {
 impl Item for Member {
     ghost reader = { spec.member };
 
-    #[tactic(auto, unfolding(crate::specs::Variables::member))]
+    #[tactic(auto, unfolding(crate::specs::Variables::member), using(crate::proofs::Shrinking::declared_shrinks))]
     fn read(alloc: Global, tokens: &mut Cursor<'_>, depth: usize) -> Result<Member, Stop> {
         let quals = qualifiers(alloc, tokens, depth)?;
         let ty = typed(alloc, tokens, depth)?;
@@ -67,7 +67,7 @@ impl Item for Member {
 impl Repeated for Member {
     ghost starts = { spec.open_brace };
 
-    fn begins(tokens: &[Token]) -> bool {
+    fn begins(tokens: &Cursor<'_>) -> bool {
         open_brace(tokens)
     }
 }
@@ -77,17 +77,20 @@ impl Item for Declarator {
 
     #[tactic(auto, unfolding(crate::specs::Variables::declarator_at))]
     fn read(alloc: Global, tokens: &mut Cursor<'_>, depth: usize) -> Result<Declarator, Stop> {
-        let name = tokens.name(alloc)?;
+        let name = tokens.name()?;
         declarator_from(alloc, name, tokens, depth)
     }
 }
 
 /// Whether something stands before the brace that closes.
 #[tactic(auto, unfolding(crate::specs::Variables::open_brace))]
-fn open_brace(tokens: &[Token]) -> bool
-    ensures { result ≡ spec.open_brace tokens.now }
+fn open_brace(tokens: &Cursor<'_>) -> bool
+    ensures { result ≡ spec.open_brace tokens.now.left }
 {
-    !sees(Punct::RightBrace, tokens)
+    match tokens.next() {
+        Some(_) => !tokens.sees(Punct::RightBrace),
+        None => false,
+    }
 }
 
 /// Initialisers, with the brace that closes them.
@@ -98,10 +101,10 @@ fn initialisers(
     depth: usize,
     nested: usize,
 ) -> Result<List<Init>, Stop>
-    ensures { Reads (spec.initialisers (spec.initialiser depth nested) (length tokens.old) [] tokens.old) result tokens.new }
+    ensures { Reads (spec.initialisers (spec.initialiser depth nested) (length tokens.old.left) [] tokens.old.left) result tokens.old tokens.new }
 {
     let mut found = List::new(alloc);
-    for _turn in 0..tokens.left() {
+    for _turn in 0..usize::MAX {
         let item = initialiser(alloc, tokens, depth, nested)?;
         found.push(item)?;
         if !tokens.sees(Punct::Comma) {
@@ -114,7 +117,7 @@ fn initialisers(
             return Ok(found);
         }
     }
-    Err(Stop::At(tokens.left()))
+    Err(Stop::Memory)
 }
 
 /// An initialiser, with braces that nest no deeper than `nested`.
@@ -126,10 +129,10 @@ fn initialiser(
     depth: usize,
     nested: usize,
 ) -> Result<Init, Stop>
-    ensures { Reads (spec.initialiser depth nested tokens.old) result tokens.new }
+    ensures { Reads (spec.initialiser depth nested tokens.old.left) result tokens.old tokens.new }
 {
     if nested == 0 {
-        return Err(Stop::At(tokens.left()));
+        return Err(Stop::Bad);
     }
     if !tokens.sees(Punct::LeftBrace) {
         return Ok(Init::Expr(expr(alloc, tokens, depth, 1)?));
@@ -146,7 +149,7 @@ fn initialised(
     tokens: &mut Cursor<'_>,
     depth: usize,
 ) -> Result<Declarator, Stop>
-    ensures { Reads (spec.initialised depth name dims tokens.old) result tokens.new }
+    ensures { Reads (spec.initialised depth name dims tokens.old.left) result tokens.old tokens.new }
 {
     if !tokens.sees(Punct::Equal) {
         return Ok(Declarator::Plain(name, dims));
@@ -164,19 +167,19 @@ pub(crate) fn declarator_from(
     tokens: &mut Cursor<'_>,
     depth: usize,
 ) -> Result<Declarator, Stop>
-    ensures { Reads (spec.declarator_from depth name tokens.old) result tokens.new }
+    ensures { Reads (spec.declarator_from depth name tokens.old.left) result tokens.old tokens.new }
 {
     let dims = dims(alloc, tokens, depth)?;
     initialised(alloc, name, dims, tokens, depth)
 }
 
 /// A struct, with its word.
-#[tactic(auto, unfolding(crate::specs::Variables::structure))]
+#[tactic(auto, unfolding(crate::specs::Variables::structure), using(crate::proofs::Shrinking::struct_member_takes))]
 fn structure(alloc: Global, tokens: &mut Cursor<'_>, depth: usize) -> Result<Struct, Stop>
-    ensures { Reads (spec.structure depth tokens.old) result tokens.new }
+    ensures { Reads (spec.structure depth tokens.old.left) result tokens.old tokens.new }
 {
     let place = tokens.take_one()?;
-    let name = tokens.name(alloc)?;
+    let name = tokens.name()?;
     tokens.expect(Punct::LeftBrace)?;
     let members = some_of::<StructMember>(alloc, tokens, depth)?;
     tokens.expect(Punct::RightBrace)?;
@@ -188,13 +191,13 @@ fn structure(alloc: Global, tokens: &mut Cursor<'_>, depth: usize) -> Result<Str
 }
 
 /// None up to a semicolon, or one or more.
-#[tactic(auto, unfolding(crate::specs::Variables::declarators))]
+#[tactic(auto, unfolding(crate::specs::Variables::declarators), using(crate::proofs::Shrinking::declarator_shrinks))]
 fn declarators(
     alloc: Global,
     tokens: &mut Cursor<'_>,
     depth: usize,
 ) -> Result<List<Declarator>, Stop>
-    ensures { Reads (spec.declarators depth tokens.old) result tokens.new }
+    ensures { Reads (spec.declarators depth tokens.old.left) result tokens.old tokens.new }
 {
     if tokens.sees(Punct::Semicolon) {
         return Ok(List::new(alloc));
@@ -203,7 +206,7 @@ fn declarators(
 }
 
 /// Variables, behind their type.
-#[tactic(auto, unfolding(crate::specs::Variables::variables_of))]
+#[tactic(auto, unfolding(crate::specs::Variables::variables_of), using(crate::proofs::Shrinking::declarator_shrinks))]
 fn variables_of(
     alloc: Global,
     quals: Quals,
@@ -211,7 +214,7 @@ fn variables_of(
     tokens: &mut Cursor<'_>,
     depth: usize,
 ) -> Result<Decl, Stop>
-    ensures { Reads (spec.variables_of depth quals ty tokens.old) result tokens.new }
+    ensures { Reads (spec.variables_of depth quals ty tokens.old.left) result tokens.old tokens.new }
 {
     let found = commas_of::<Declarator>(alloc, tokens, depth)?;
     tokens.expect(Punct::Semicolon)?;
@@ -226,7 +229,7 @@ fn variables(
     tokens: &mut Cursor<'_>,
     depth: usize,
 ) -> Result<Decl, Stop>
-    ensures { Reads (spec.variables depth quals tokens.old) result tokens.new }
+    ensures { Reads (spec.variables depth quals tokens.old.left) result tokens.old tokens.new }
 {
     let ty = typed(alloc, tokens, depth)?;
     variables_of(alloc, quals, ty, tokens, depth)
@@ -240,7 +243,7 @@ pub(crate) fn struct_variables(
     tokens: &mut Cursor<'_>,
     depth: usize,
 ) -> Result<Decl, Stop>
-    ensures { Reads (spec.struct_variables depth quals tokens.old) result tokens.new }
+    ensures { Reads (spec.struct_variables depth quals tokens.old.left) result tokens.old tokens.new }
 {
     let structure = structure(alloc, tokens, depth)?;
     let found = declarators(alloc, tokens, depth)?;
@@ -256,9 +259,9 @@ pub(crate) fn local_from(
     tokens: &mut Cursor<'_>,
     depth: usize,
 ) -> Result<Decl, Stop>
-    ensures { Reads (spec.local_from depth quals tokens.old) result tokens.new }
+    ensures { Reads (spec.local_from depth quals tokens.old.left) result tokens.old tokens.new }
 {
-    if sees_key(Key::Struct, tokens.rest()) {
+    if tokens.sees_key(Key::Struct) {
         return struct_variables(alloc, quals, tokens, depth);
     }
     variables(alloc, quals, tokens, depth)
@@ -271,7 +274,7 @@ fn expr_from(
     tokens: &mut Cursor<'_>,
     depth: usize,
 ) -> Result<ForInit, Stop>
-    ensures { Reads (spec.expr_from depth head tokens.old) result tokens.new }
+    ensures { Reads (spec.expr_from depth head tokens.old.left) result tokens.old tokens.new }
 {
     let first = applied(alloc, head, tokens, depth)?;
     let tree = completed(alloc, 0, first, tokens, depth)?;
@@ -287,9 +290,9 @@ fn phrase_from(
     tokens: &mut Cursor<'_>,
     depth: usize,
 ) -> Result<ForInit, Stop>
-    ensures { Reads (spec.phrase_from depth head tokens.old) result tokens.new }
+    ensures { Reads (spec.phrase_from depth head tokens.old.left) result tokens.old tokens.new }
 {
-    if sees_name(tokens.rest()) && may_be_open(head.mode) {
+    if tokens.sees_name() && may_be_open(head.mode) {
         let quals = List::new(alloc);
         let found = variables_of(alloc, quals, head_type(head), tokens, depth)?;
         return Ok(ForInit::Decl(found));
@@ -298,7 +301,7 @@ fn phrase_from(
 }
 
 fn named_phrase(alloc: Global, tokens: &mut Cursor<'_>, depth: usize) -> Result<ForInit, Stop>
-    ensures { Reads (spec.phrase_as depth start.Name tokens.old) result tokens.new }
+    ensures { Reads (spec.phrase_as depth start.Name tokens.old.left) result tokens.old tokens.new }
 {
     let head = named_head(alloc, tokens, depth)?;
     phrase_from(alloc, head, tokens, depth)
@@ -310,7 +313,7 @@ fn basic_phrase(
     tokens: &mut Cursor<'_>,
     depth: usize,
 ) -> Result<ForInit, Stop>
-    ensures { Reads (spec.phrase_as depth (start.Basic basic) tokens.old) result tokens.new }
+    ensures { Reads (spec.phrase_as depth (start.Basic basic) tokens.old.left) result tokens.old tokens.new }
 {
     let head = basic_head(alloc, basic, tokens, depth)?;
     phrase_from(alloc, head, tokens, depth)
@@ -319,9 +322,9 @@ fn basic_phrase(
 /// An expression, or variables without qualifiers, with the semicolon.
 #[tactic(auto, unfolding(crate::specs::Variables::phrase))]
 pub(crate) fn phrase(alloc: Global, tokens: &mut Cursor<'_>, depth: usize) -> Result<ForInit, Stop>
-    ensures { Reads (spec.phrase depth tokens.old) result tokens.new }
+    ensures { Reads (spec.phrase depth tokens.old.left) result tokens.old tokens.new }
 {
-    match next_start(tokens.rest()) {
+    match next_start(tokens) {
         Start::Name => named_phrase(alloc, tokens, depth),
         Start::Basic(basic) => basic_phrase(alloc, basic, tokens, depth),
         _ => {
@@ -335,12 +338,12 @@ pub(crate) fn phrase(alloc: Global, tokens: &mut Cursor<'_>, depth: usize) -> Re
 /// What stands first in the header of a `for`.
 #[tactic(auto, unfolding(crate::specs::Variables::header))]
 pub(crate) fn header(alloc: Global, tokens: &mut Cursor<'_>, depth: usize) -> Result<ForInit, Stop>
-    ensures { Reads (spec.header depth tokens.old) result tokens.new }
+    ensures { Reads (spec.header depth tokens.old.left) result tokens.old tokens.new }
 {
     if tokens.sees(Punct::Semicolon) {
         return Ok(ForInit::Empty(tokens.take_one()?));
     }
-    if begins_qual(tokens.rest()) {
+    if begins_qual(tokens) {
         let quals = qualifiers(alloc, tokens, depth)?;
         return Ok(ForInit::Decl(variables(alloc, quals, tokens, depth)?));
     }

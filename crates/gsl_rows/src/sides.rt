@@ -6,12 +6,14 @@ ghost use Rattle.gsl_form.specs.Form.{IsProgram};
 use crate::running::dump;
 use crate::sources::source_tree;
 use gsl_base::{
-    Buffer, Buffers, Bytes, Choices32, Input, InputRefusal, Ins, Memory, Output, Refusal,
+    Buffer, Buffers, Bytes, Choices32, Input, InputRefusal, Ins, Memory, Output, Refusal, Stage,
 };
+use gsl_check::check;
 use gsl_cmd::lower;
-use gsl_form::{Program, read_program};
+use gsl_form::{Program, read_unit};
 use gsl_outline::{Done, Outline};
 use gsl_slow::{SlowRun, fits_shader, run_module, run_shader};
+use gsl_tree::TypedUnit;
 use std::alloc::Global;
 
 /// More instructions than any of these shaders' modules takes.
@@ -42,12 +44,18 @@ fn input(alloc: Global, buffer: &Option<(u32, Bytes)>) -> Result<Input, Memory>
     })
 }
 
+/// The typed unit of a compute shader's source.
+fn typed(alloc: Global, source: &[u8]) -> Result<TypedUnit, Refusal> {
+    let tree = source_tree(alloc, source)?;
+    check(alloc, Stage::Compute, tree.as_slice())
+}
+
 /// The program of a source, if it has one.
 fn program(alloc: Global, source: &[u8]) -> Result<Option<Program>, Memory>
     ensures { IfOk result (λ found. IfSome found IsProgram) }
 {
-    match source_tree(alloc, source) {
-        Ok(tree) => read_program(alloc, &tree),
+    match typed(alloc, source) {
+        Ok(unit) => read_unit(alloc, &unit),
         Err(Refusal::Source(_)) => Ok(None),
         Err(Refusal::Memory) => Err(Memory),
     }

@@ -94,8 +94,8 @@ fn other_numbers_and_stray_bytes_are_faults(rt: HostRuntime) -> Result<(), std::
 /// Refused words of each table, and how many a row has.
 const REFUSED: [(&[u8], usize); 3] = [
     (
-        b"float sampler hvec2 discard precision using atomicAdd gl_FragCoord",
-        8,
+        b"float sampler hvec2 precision using atomicAdd gl_FragCoord",
+        7,
     ),
     (
         b"mat2 dmat4x3 sampler1D isampler2DMSArray utextureCubeArray image2DRect",
@@ -139,6 +139,7 @@ fn key(alloc: Global, source: &[u8]) -> Result<Option<Key>, Refusal> {
 fn keywords_are_told(rt: HostRuntime) -> Result<(), std::test::Fail> {
     assert_eq!(rt; key(rt.alloc(), b"buffer"), Ok(Some(Key::Buffer)));
     assert_eq!(rt; key(rt.alloc(), b"while"), Ok(Some(Key::While)));
+    assert_eq!(rt; key(rt.alloc(), b"discard"), Ok(Some(Key::Discard)));
     assert_eq!(rt; key(rt.alloc(), b"name"), Ok(None));
     Ok(())
 }

@@ -1,5 +1,5 @@
 use gsl_base::{List, Memory, Text};
-use gsl_link::join_structs;
+use gsl_link_units::join_structs;
 use gsl_types::{Member, Scalar, StructType, Structs, Ty};
 use std::alloc::Global;
 use std::test::Fail;

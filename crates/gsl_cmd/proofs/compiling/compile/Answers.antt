@@ -11,10 +11,10 @@ returns-then-source-gt-MAX_SOURCE_BYTES c =
 pub returns-in-Ok : goal.returns-in-Ok
 returns-in-Ok c =
     let one = one_source _ _ c.requires c.index.ensures ∙ ap (λ (s : List ℕ). s ∷ []) (sym c.as_slice-source.ensures) in
-    compiled c.args.stage c.args.sources.now c.as_slice-source.result.now one (omega arith) c.in-Ok.tree c.compile_tree.result
-    (rw c.in-Ok.is at c.tree.ensures) c.compile_tree.ensures
+    compiled c.args.stage c.args.sources.now c.as_slice-source.result.now one (omega arith) c.in-Ok.unit c.compile_unit.result
+    (rw c.in-Ok.is at c.typed.ensures) c.compile_unit.ensures
 
 pub returns-in-Err : goal.returns-in-Err
 returns-in-Err c =
     let one = one_source _ _ c.requires c.index.ensures ∙ ap (λ (s : List ℕ). s ∷ []) (sym c.as_slice-source.ensures) in
-    refused c.args.stage c.args.sources.now c.as_slice-source.result.now one (omega arith) c.in-Err.refusal (rw c.in-Err.is at c.tree.ensures)
+    refused c.args.stage c.args.sources.now c.as_slice-source.result.now one (omega arith) c.in-Err.refusal (rw c.in-Err.is at c.typed.ensures)

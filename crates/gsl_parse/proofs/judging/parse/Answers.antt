@@ -7,9 +7,9 @@ use Rattle.gsl_parse.proofs.OneTree.{parsed, one_unit}
 use Rattle.gsl_parse.proofs.judging.parse.Goals as goal
 
 pub returns-clause-derived : goal.returns-clause-derived
-returns-clause-derived c = parsed c.args.tokens.now c.unit.result (subst (λ (ts : Tokens). Judges c.unit.result (unit_of ts)) c.as_slice.ensures c.unit.ensures)
+returns-clause-derived c = parsed c.args.tokens.now c.listed.result (subst (λ (ts : Tokens). Judges c.listed.result (unit_of ts)) c.as_slice.ensures c.listed.ensures)
 
 pub returns-clause-only : goal.returns-clause-only
 returns-clause-only c =
-    let p = parsed c.args.tokens.now c.unit.result (subst (λ (ts : Tokens). Judges c.unit.result (unit_of ts)) c.as_slice.ensures c.unit.ensures) in
-    only_answer IsUnit c.args.tokens.now c.unit.result p (one_unit c.args.tokens.now)
+    let p = parsed c.args.tokens.now c.listed.result (subst (λ (ts : Tokens). Judges c.listed.result (unit_of ts)) c.as_slice.ensures c.listed.ensures) in
+    only_answer IsUnit c.args.tokens.now c.listed.result p (one_unit c.args.tokens.now)

@@ -1,29 +1,17 @@
-use Rattle.std.proofs.Common.{rules, arith}
-use Rattle.std.proofs.lemmas.Grind.{common_steps}
-use Rattle.gsl_parse.specs.Lists.{row}
-use Rattle.gsl_expr.proofs.Turns.{one_more, no_more}
+use Rattle.std.proofs.Common.{sym, ◌∙◌}
+use Rattle.std.proofs.lemmas.Result.{err_from_is_err_and}
+use Rattle.gsl_expr.proofs.Turns.{refused}
+use Rattle.gsl_parse.proofs.Loops.{row_end, row_bad, row_turn}
 use Rattle.gsl_parse.proofs.list.row.Goals as goal
 
 pub returns-then-not-begins : goal.returns-then-not-begins
-unfolding row
-returns-then-not-begins g c =
-    let e = one_more (λ n. row g.T.Repeated.starts (g.T.Item.reader c.args.depth) n c.loop-turn.found c.loop-turn.tokens) _ c.loop-turn._turn c.loop-turn-test.true c.loop-turn.invariant in
-    first_of (search rules, grind (arith, common_steps))
+returns-then-not-begins g c = (row_end _ _ _ _ _ _ _ c.loop-turn.invariant.0 (sym c.begins.ensures ∙ c.if-not-begins.true), c.loop-turn.invariant.1)
 
 pub returns-in_err-item : goal.returns-in_err-item
-unfolding row
 returns-in_err-item g c =
-    let e = one_more (λ n. row g.T.Repeated.starts (g.T.Item.reader c.args.depth) n c.loop-turn.found c.loop-turn.tokens) _ c.loop-turn._turn c.loop-turn-test.true c.loop-turn.invariant in
-    first_of (search rules, grind (arith, common_steps))
+    let p = err_from_is_err_and c.from_residual.result c.from_residual.ensures.1 in
+    rw (p.1, p.2) (refused _ _ _ _ _ _ c.in_err-item.ensures c.loop-turn.invariant.1 (λ bad e. row_bad _ _ _ _ _ _ _ c.loop-turn.invariant.0 bad c.requires.none (sym c.begins.ensures ∙ c.if-not-begins.false) e))
 
 pub loop-turn-preserved : goal.loop-turn-preserved
-unfolding row
 loop-turn-preserved g c =
-    let e = one_more (λ n. row g.T.Repeated.starts (g.T.Item.reader c.args.depth) n c.loop-turn.found c.loop-turn.tokens) _ c.loop-turn._turn c.loop-turn-test.true c.loop-turn.invariant in
-    first_of (search rules, grind (arith, common_steps))
-
-pub returns : goal.returns
-unfolding row
-returns g c =
-    let e = no_more (λ n. row g.T.Repeated.starts (g.T.Item.reader c.args.depth) n c.loop-turn.found c.loop-turn.tokens) _ c.loop-turn._turn c.loop-turn-test.false c.loop-turn.invariant in
-    first_of (search rules, grind (arith, common_steps))
+    (row_turn _ _ _ _ _ _ _ c.loop-turn.invariant.0 _ _ _ (sym c.begins.ensures ∙ c.if-not-begins.false) c.in_ok-item.ensures.0 (c.requires.takes _ _ _ c.in_ok-item.ensures.0) c.in_ok-push.ensures.ok, c.in_ok-item.ensures.1 ∙ c.loop-turn.invariant.1)

@@ -1,4 +1,5 @@
-use Rattle.std.proofs.Common.{◌≡◌, ◌+◌, ◌*◌, ◌-◌, [], length}
+use Rattle.std.proofs.Common.{◌≡◌, ◌+◌, ◌*◌, [], length}
+use Rattle.gsl_expr.proofs.Turns.{Here}
 use Rattle.gsl_parse.specs.Variables.{initialiser, initialisers}
 use Rattle.gsl_parse.proofs.variable.+initialiser.Given as goal
 
@@ -9,4 +10,6 @@ abbrev pub decreases-initialisers : goal.decreases-initialisers
 decreases-initialisers l = 2 * l.nested + 1
 
 abbrev pub invariant-initialisers-loop-turn : goal.invariant-initialisers-loop-turn
-invariant-initialisers-loop-turn l = initialisers (initialiser l.depth l.nested) (length l.fn.tokens) [] l.fn.tokens ≡ initialisers (initialiser l.depth l.nested) (l._turn-end - l._turn) l.found l.tokens
+invariant-initialisers-loop-turn l =
+    Here (initialisers (initialiser l.depth l.nested) (length l.fn.tokens.left) [] l.fn.tokens.left) (λ n. initialisers (initialiser l.depth l.nested) n l.found) (length l.fn.tokens.left) l._turn l.tokens.left
+    × (l.tokens.kept ≡ l.fn.tokens.kept)

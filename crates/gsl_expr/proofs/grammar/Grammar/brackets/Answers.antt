@@ -1,35 +1,23 @@
-use Rattle.std.proofs.Common.{rules, arith}
-use Rattle.std.proofs.lemmas.Grind.{common_steps}
-use Rattle.gsl_expr.specs.Expressions.{brackets, expr}
-use Rattle.gsl_expr.proofs.Turns.{one_more, no_more}
+use Rattle.std.proofs.Common.{sym, ◌∙◌}
+use Rattle.std.proofs.lemmas.Result.{err_from_is_err_and}
+use Rattle.gsl_expr.proofs.Turns.{refused, brackets_end, brackets_bad_one, brackets_bad, brackets_turn}
 use Rattle.gsl_expr.proofs.grammar.Grammar.brackets.Goals as goal
 
 pub returns-then-not-sees : goal.returns-then-not-sees
-unfolding brackets
-returns-then-not-sees g c =
-    let e = one_more (λ n. brackets (expr c.args.self.now.depth) n c.loop-turn.mode c.loop-turn.found c.loop-turn.tokens) _ c.loop-turn._turn c.loop-turn-test.true c.loop-turn.invariant in
-    first_of (search rules, grind (arith, common_steps))
+returns-then-not-sees g c = (brackets_end _ _ _ _ _ _ _ c.loop-turn.invariant.0 (sym c.sees.ensures ∙ c.if-not-sees.true), c.loop-turn.invariant.1)
 
 pub returns-in_err-place : goal.returns-in_err-place
-unfolding brackets
 returns-in_err-place g c =
-    let e = one_more (λ n. brackets (expr c.args.self.now.depth) n c.loop-turn.mode c.loop-turn.found c.loop-turn.tokens) _ c.loop-turn._turn c.loop-turn-test.true c.loop-turn.invariant in
-    first_of (search rules, grind (arith, common_steps))
+    let p = err_from_is_err_and c.from_residual.result c.from_residual.ensures.1 in
+    rw (p.1, p.2) (refused _ _ _ _ _ _ c.in_err-place.ensures c.loop-turn.invariant.1 (λ bad e. brackets_bad_one _ _ _ _ _ _ _ c.loop-turn.invariant.0 bad (sym c.sees.ensures ∙ c.if-not-sees.false) e))
 
 pub returns-in_err-dim : goal.returns-in_err-dim
-unfolding brackets
 returns-in_err-dim g c =
-    let e = one_more (λ n. brackets (expr c.args.self.now.depth) n c.loop-turn.mode c.loop-turn.found c.loop-turn.tokens) _ c.loop-turn._turn c.loop-turn-test.true c.loop-turn.invariant in
-    first_of (search rules, grind (arith, common_steps))
+    let p = err_from_is_err_and c.from_residual-in_err-dim.result c.from_residual-in_err-dim.ensures.1 in
+    rw (p.1, p.2) (refused _ _ _ _ _ _ c.in_err-dim.ensures (c.in_ok-place.ensures.1 ∙ c.loop-turn.invariant.1) (λ bad e. brackets_bad _ _ _ _ _ _ _ c.loop-turn.invariant.0 _ _ bad (sym c.sees.ensures ∙ c.if-not-sees.false) c.in_ok-place.ensures.0 e))
 
 pub loop-turn-preserved : goal.loop-turn-preserved
-unfolding brackets
-loop-turn-preserved g c =
-    let e = one_more (λ n. brackets (expr c.args.self.now.depth) n c.loop-turn.mode c.loop-turn.found c.loop-turn.tokens) _ c.loop-turn._turn c.loop-turn-test.true c.loop-turn.invariant in
-    first_of (search rules, grind (arith, common_steps))
-
-pub returns : goal.returns
-unfolding brackets
-returns g c =
-    let e = no_more (λ n. brackets (expr c.args.self.now.depth) n c.loop-turn.mode c.loop-turn.found c.loop-turn.tokens) _ c.loop-turn._turn c.loop-turn-test.false c.loop-turn.invariant in
-    first_of (search rules, grind (arith, common_steps))
+loop-turn-preserved g c = (
+  brackets_turn _ _ _ _ _ _ _ c.loop-turn.invariant.0 _ _ _ (c.in_ok-dim.dim, c.in_ok-dim.next) _ (sym c.sees.ensures ∙ c.if-not-sees.false) c.in_ok-place.ensures.0 c.in_ok-dim.ensures.0 c.in_ok-push.ensures.ok,
+  c.in_ok-dim.ensures.1 ∙ c.in_ok-place.ensures.1 ∙ c.loop-turn.invariant.1,
+)

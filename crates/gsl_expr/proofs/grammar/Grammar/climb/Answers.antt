@@ -1,29 +1,15 @@
-use Rattle.std.proofs.Common.{rules, arith}
-use Rattle.std.proofs.lemmas.Grind.{common_steps}
-use Rattle.gsl_expr.specs.Expressions.{climb, expr}
-use Rattle.gsl_expr.proofs.Turns.{one_more, no_more}
+use Rattle.std.proofs.Common.{sym, ◌∙◌}
+use Rattle.std.proofs.lemmas.Result.{err_from_is_err_and}
+use Rattle.gsl_expr.proofs.Turns.{refused, binds_less, binds_enough, climb_end, climb_bad, climb_turn}
 use Rattle.gsl_expr.proofs.grammar.Grammar.climb.Goals as goal
 
 pub returns-then-binds-least : goal.returns-then-binds-least
-unfolding climb
-returns-then-binds-least g c =
-    let e = one_more (λ n. climb (expr c.args.self.now.depth) c.args.least n c.loop-turn.left c.loop-turn.tokens) _ c.loop-turn._turn c.loop-turn-test.true c.loop-turn.invariant in
-    first_of (search rules, grind (arith, common_steps))
+returns-then-binds-least g c = (climb_end _ _ _ _ _ _ _ c.loop-turn.invariant.0 (binds_less _ _ _ _ c.binds.ensures c.next_follow.ensures c.if-binds-least.true), c.loop-turn.invariant.1)
 
 pub returns-in_err-left : goal.returns-in_err-left
-unfolding climb
 returns-in_err-left g c =
-    let e = one_more (λ n. climb (expr c.args.self.now.depth) c.args.least n c.loop-turn.left c.loop-turn.tokens) _ c.loop-turn._turn c.loop-turn-test.true c.loop-turn.invariant in
-    first_of (search rules, grind (arith, common_steps))
+    let p = err_from_is_err_and c.from_residual.result c.from_residual.ensures.1 in
+    rw (p.1, p.2) (refused _ _ _ _ _ _ c.in_err-left.ensures c.loop-turn.invariant.1 (λ bad e. climb_bad _ _ _ _ _ _ _ c.loop-turn.invariant.0 bad c.requires.some (binds_enough _ _ _ _ c.binds.ensures c.next_follow.ensures c.if-binds-least.false) e))
 
 pub loop-turn-preserved : goal.loop-turn-preserved
-unfolding climb
-loop-turn-preserved g c =
-    let e = one_more (λ n. climb (expr c.args.self.now.depth) c.args.least n c.loop-turn.left c.loop-turn.tokens) _ c.loop-turn._turn c.loop-turn-test.true c.loop-turn.invariant in
-    first_of (search rules, grind (arith, common_steps))
-
-pub returns : goal.returns
-unfolding climb
-returns g c =
-    let e = no_more (λ n. climb (expr c.args.self.now.depth) c.args.least n c.loop-turn.left c.loop-turn.tokens) _ c.loop-turn._turn c.loop-turn-test.false c.loop-turn.invariant in
-    first_of (search rules, grind (arith, common_steps))
+loop-turn-preserved g c = (climb_turn _ _ _ _ _ _ _ c.loop-turn.invariant.0 _ _ (binds_enough _ _ _ _ c.binds.ensures c.next_follow.ensures c.if-binds-least.false) c.in_ok-left.ensures.0, c.in_ok-left.ensures.1 ∙ c.loop-turn.invariant.1)

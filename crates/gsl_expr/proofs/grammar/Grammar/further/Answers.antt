@@ -1,35 +1,23 @@
-use Rattle.std.proofs.Common.{rules, arith}
-use Rattle.std.proofs.lemmas.Grind.{common_steps}
-use Rattle.gsl_expr.specs.Expressions.{further, expr}
-use Rattle.gsl_expr.proofs.Turns.{one_more, no_more}
+use Rattle.std.proofs.Common.{sym, ◌∙◌}
+use Rattle.std.proofs.lemmas.Result.{err_from_is_err_and}
+use Rattle.gsl_expr.proofs.Turns.{refused, further_end, further_bad_one, further_bad, further_turn}
 use Rattle.gsl_expr.proofs.grammar.Grammar.further.Goals as goal
 
 pub returns-then-not-sees : goal.returns-then-not-sees
-unfolding further
-returns-then-not-sees g c =
-    let e = one_more (λ n. further (expr c.args.self.now.depth) n c.loop-turn.found c.loop-turn.tokens) _ c.loop-turn._turn c.loop-turn-test.true c.loop-turn.invariant in
-    first_of (search rules, grind (arith, common_steps))
+returns-then-not-sees g c = (further_end _ _ _ _ _ _ c.loop-turn.invariant.0 (sym c.sees.ensures ∙ c.if-not-sees.true), c.loop-turn.invariant.1)
 
 pub returns-in_err-place : goal.returns-in_err-place
-unfolding further
 returns-in_err-place g c =
-    let e = one_more (λ n. further (expr c.args.self.now.depth) n c.loop-turn.found c.loop-turn.tokens) _ c.loop-turn._turn c.loop-turn-test.true c.loop-turn.invariant in
-    first_of (search rules, grind (arith, common_steps))
+    let p = err_from_is_err_and c.from_residual.result c.from_residual.ensures.1 in
+    rw (p.1, p.2) (refused _ _ _ _ _ _ c.in_err-place.ensures c.loop-turn.invariant.1 (λ bad e. further_bad_one _ _ _ _ _ _ c.loop-turn.invariant.0 bad (sym c.sees.ensures ∙ c.if-not-sees.false) e))
 
 pub returns-in_err-item : goal.returns-in_err-item
-unfolding further
 returns-in_err-item g c =
-    let e = one_more (λ n. further (expr c.args.self.now.depth) n c.loop-turn.found c.loop-turn.tokens) _ c.loop-turn._turn c.loop-turn-test.true c.loop-turn.invariant in
-    first_of (search rules, grind (arith, common_steps))
+    let p = err_from_is_err_and c.from_residual-in_err-item.result c.from_residual-in_err-item.ensures.1 in
+    rw (p.1, p.2) (refused _ _ _ _ _ _ c.in_err-item.ensures (c.in_ok-place.ensures.1 ∙ c.loop-turn.invariant.1) (λ bad e. further_bad _ _ _ _ _ _ c.loop-turn.invariant.0 _ _ bad (sym c.sees.ensures ∙ c.if-not-sees.false) c.in_ok-place.ensures.0 e))
 
 pub loop-turn-preserved : goal.loop-turn-preserved
-unfolding further
-loop-turn-preserved g c =
-    let e = one_more (λ n. further (expr c.args.self.now.depth) n c.loop-turn.found c.loop-turn.tokens) _ c.loop-turn._turn c.loop-turn-test.true c.loop-turn.invariant in
-    first_of (search rules, grind (arith, common_steps))
-
-pub returns : goal.returns
-unfolding further
-returns g c =
-    let e = no_more (λ n. further (expr c.args.self.now.depth) n c.loop-turn.found c.loop-turn.tokens) _ c.loop-turn._turn c.loop-turn-test.false c.loop-turn.invariant in
-    first_of (search rules, grind (arith, common_steps))
+loop-turn-preserved g c = (
+  further_turn _ _ _ _ _ _ c.loop-turn.invariant.0 _ _ _ _ _ (sym c.sees.ensures ∙ c.if-not-sees.false) c.in_ok-place.ensures.0 c.in_ok-item.ensures.0 c.in_ok-push.ensures.ok,
+  c.in_ok-item.ensures.1 ∙ c.in_ok-place.ensures.1 ∙ c.loop-turn.invariant.1,
+)

@@ -1,0 +1,290 @@
+-- What declarations among statements declare is well typed.
+use Rattle.std.proofs.Common.{min, ◌≡◌, refl, ap, ◌∙◌, ℕ, ◌≤◌, ◌<◌, List, [], ◌∷◌, ◌++◌, map, length, Option, Some, None, Bool, false, not, Ok, arith, length-append}
+use Rattle.std.specs.List.{AllByRecursion}
+use Rattle.std.proofs.lemmas.Bool.{leb-true, lt-ltb}
+use Rattle.gsl_base.specs.Checked.{◌>>=◌}
+use Rattle.gsl_base.specs.declared.fault.Place.{Place}
+use Rattle.gsl_base.specs.declared.fault.Code.TheVariants.{E0403, E0404, E0510, E0908}
+use Rattle.gsl_syntax.specs.declared.expr.Dim.{Dim}
+use Rattle.gsl_syntax.specs.declared.expr.TypeSpec.{TypeSpec}
+use Rattle.gsl_syntax.specs.declared.declaration.Name.{Name}
+use Rattle.gsl_syntax.specs.declared.declaration.Declared.{Declared}
+use Rattle.gsl_syntax.specs.declared.declaration.StructMember.{StructMember}
+use Rattle.gsl_syntax.specs.declared.declaration.Struct.{Struct}
+use Rattle.gsl_types.specs.Known.{IsSound, sound}
+use Rattle.gsl_types.specs.Leaves.{counting, most_leaves}
+use Rattle.gsl_types.proofs.Layers.{sound_stays, sound_struct}
+use Rattle.gsl_types.specs.declared.ty.Member.{Member}
+use Rattle.gsl_types.specs.declared.ty.StructType.{StructType}
+use Rattle.gsl_types.specs.declared.ty.Direction.{Direction}
+use Rattle.gsl_types.specs.declared.ty.Ty.{Ty}
+use Rattle.gsl_names.specs.declared.entry.Entry.{Entry}
+use Rattle.gsl_names.specs.declared.entry.Entry.TheVariants as entry
+use Rattle.gsl_names.specs.Scopes.{find}
+use Rattle.gsl_tree.specs.declared.folded.Folded.{Folded}
+use Rattle.gsl_tree.specs.declared.unit.Block.{Block}
+use Rattle.gsl_tree.specs.declared.unit.BlockMember.{BlockMember}
+use Rattle.gsl_tree.specs.declared.unit.GlobalVar.{GlobalVar}
+use Rattle.gsl_tree.specs.declared.unit.Interface.{Interface}
+use Rattle.gsl_tree.specs.Values.{value_meaning}
+use Rattle.gsl_values.specs.declared.value.Value.{Value}
+use Rattle.gsl_tree.specs.Weights.{height_of, height_meaning, most_high}
+use Rattle.gsl_tree.specs.WellTyped.{IsVariableType, is_plain}
+use Rattle.gsl_typing.specs.declared.scene.Scene.{Scene}
+use Rattle.gsl_check_expr.specs.declared.env.Env.{Env}
+use Rattle.gsl_check_expr.specs.declared.brackets.Dimensions.{Dimensions}
+use Rattle.gsl_check_expr.specs.declared.brackets.Dimensions.TheVariants.{Plain, Sized}
+use Rattle.gsl_check_expr.specs.declared.writing.Written.{Written}
+use Rattle.gsl_check_expr.specs.declared.writing.Written.TheVariants.{Whole, Open}
+use Rattle.gsl_check_expr.specs.Sizes.{dimensions, arrayed}
+use Rattle.gsl_check_expr.specs.Callees.{Base, Keyword, Callee, basic_type}
+use Rattle.gsl_check_expr.specs.Callees as callees
+use Rattle.gsl_check_expr.specs.Expressions.{bracket, callee}
+use Rattle.gsl_check_expr.specs.Written.{struct_named, base_type, bracketed, written_by, written_type, named_by, declared, whole_type}
+use Rattle.gsl_check_decl.specs.Declaring.{is_reserved, may_be_had, is_high}
+use Rattle.gsl_check_decl.specs.Locals.{with_local}
+use Rattle.gsl_check_decl.specs.Structs.{has_member, may_be_member, with_member, with_names, with_line, with_lines, struct_of, height_over, with_struct, may_be_struct, structured}
+use Rattle.gsl_check_decl.specs.Structs as structs
+use Rattle.gsl_check_decl.proofs.Gathering.{Holds, holds_after, holds_then}
+use Rattle.gsl_check_law.specs.Scenes.{IsHead, HasVariables, IsEnv}
+use Rattle.gsl_check_law.proofs.Rows.{row, not_false, both, there}
+use Rattle.gsl_check_law.proofs.Found.{all_append, all_map}
+use Rattle.gsl_check_law.proofs.Sizing.{GoodBracket, GoodDimensions, dimensions_good, arrayed_sound, array_sound, basic_sound}
+use Rattle.gsl_check_law.proofs.Naming.{find_there, IsThereOr}
+use Rattle.gsl_check_law.proofs.Phrases.{bracket_good, callee_good}
+use Rattle.gsl_check_law.proofs.Lists.{GoodAt}
+use Rattle.gsl_check_law.proofs.Growing.{Grows, front_append}
+use Rattle.gsl_check_law.proofs.Standing.{variable_grows, result_grows, names_grow, with_name, meaning_stays}
+
+-- ---- types as they are written
+
+pub at_more : (few many : ℕ) (w : Written) → few ≤ many → GoodAt few w → GoodAt many w
+at_more few many (Whole t) le is = sound_stays few many le t is
+at_more few many (Open place e) le is = sound_stays few many le e is
+
+bracketed_good : (count : ℕ) (dims : Dimensions) (t : Ty) → GoodDimensions dims → IsSound count t → GoodAt count (bracketed dims t)
+bracketed_good count Plain t good is = is
+bracketed_good count (Sized place (Some n) rest) t good is = array_sound count (arrayed rest t) n good.0 (arrayed_sound count rest t good.1 is)
+bracketed_good count (Sized place None rest) t good is = arrayed_sound count rest t good.1 is
+
+pub whole_good : (count : ℕ) (w : Written) → GoodAt count w → Holds (IsSound count) (whole_type w)
+unfolding whole_type
+whole_good count (Whole t) is = is
+whole_good count (Open place e) is = tt
+
+named_good : (count : ℕ) (dims : Dimensions) (base : Written) → GoodDimensions dims → GoodAt count base → Holds (GoodAt count) (named_by dims base)
+named_good count Plain base good is = is
+named_good count (Sized place size rest) (Whole t) good is = bracketed_good count (Sized place size rest) t good is
+named_good count (Sized place size rest) (Open missing e) good is = tt
+
+module _ (env : Env) (fine : IsEnv env) where
+  abbrev scene : Scene
+  scene = env.scene
+
+  abbrev count : ℕ
+  count = length scene.structs
+
+  struct_good : (place : Place) (o : Option Entry) → IsThereOr scene o → Holds (IsSound count) (struct_named place o)
+  struct_good place None there = tt
+  struct_good place (Some (entry.Struct n)) there = sound_struct count n ∙ lt-ltb n count there
+  struct_good place (Some (entry.Local n fixed)) there = tt
+  struct_good place (Some (entry.Param n fixed)) there = tt
+  struct_good place (Some (entry.Global n)) there = tt
+  struct_good place (Some (entry.Member b n)) there = tt
+  struct_good place (Some (entry.Instance n)) there = tt
+  struct_good place (Some (entry.Block n)) there = tt
+  struct_good place (Some (entry.Interface n)) there = tt
+  struct_good place (Some (entry.Function n)) there = tt
+  struct_good place (Some (entry.Builtin which)) there = tt
+  struct_good place (Some (entry.Stage var)) there = tt
+  struct_good place (Some entry.Size) there = tt
+
+  base_good : (place : Place) (base : Base) → Holds (IsSound count) (base_type env place base)
+  unfolding base_type
+  base_good place (Keyword b) = basic_sound count b
+  base_good place (callees.Name name) = struct_good place (find env.names name) (find_there scene env.names name fine.names)
+
+  pub written_good : (t : TypeSpec) → Holds (GoodAt count) (written_type env t)
+  unfolding written_by
+  written_good t =
+      let c = callee env t in
+      holds_after GoodDimensions (GoodAt count) (dimensions c.brackets) (λ dims. base_type env c.place c.base >>= (λ t. Ok (bracketed dims t))) (dimensions_good c.brackets (callee_good env fine t))
+      (λ dims good. holds_after (IsSound count) (GoodAt count) (base_type env c.place c.base) (λ t. Ok (bracketed dims t)) (base_good c.place c.base) (λ t is. bracketed_good count dims t good is))
+
+  all_brackets : (dims : List Dim) → AllByRecursion GoodBracket (map (bracket env) dims)
+  all_brackets [] = tt
+  all_brackets (d ∷ dims) = (bracket_good env fine d, all_brackets dims)
+
+  pub declared_good : (dims : List Dim) (base : Written) → GoodAt count base → Holds (GoodAt count) (declared (map (bracket env) dims) base)
+  unfolding declared
+  declared_good dims base is =
+      holds_after GoodDimensions (GoodAt count) (dimensions (map (bracket env) dims)) (λ d. named_by d base) (dimensions_good (map (bracket env) dims) (all_brackets dims)) (λ d good. named_good count d base good is)
+
+  -- ---- types that may be had
+
+  pub variable_is : (t : Ty) → not (may_be_had scene t) ≡ false → is_high scene t ≡ false → IsVariableType scene.structs t
+  unfolding may_be_had is_high
+  variable_is t had low =
+      let parts = both (is_plain t) (sound count t) had in
+      record { known = parts.1; plain = parts.0; low = leb-true (height_of scene.structs t) most_high (not_false _ low) }
+
+  -- ---- one more local variable
+
+  abbrev pub Grown : Env → Type 0
+  Grown after = IsEnv after × Grows scene after.scene
+
+  pub local_grown : (fixed : Bool) (name : List ℕ) (t : Ty) (folded : Folded) → IsVariableType scene.structs t → Grown (with_local fixed name t folded env)
+  unfolding with_local
+  local_grown fixed name t folded is =
+      let after : Scene = record scene { locals = scene.locals ++ t ∷ []; consts = record scene.consts { locals = scene.consts.locals ++ folded ∷ [] } } in
+      let grows : Grows scene after = record {
+        stage = refl;
+        structs = λ k x is. is;
+        count = omega arith;
+        leaves = λ u known. refl;
+        heights = λ u known. refl;
+        values = λ u v known. refl;
+        globals = λ k x is. is;
+        blocks = λ k x is. is;
+        interfaces = λ k x is. is;
+        prototypes = λ k x is. is;
+        sizes = λ k x is. is;
+        params = refl;
+        locals = front_append scene.locals (t ∷ []);
+      } in (
+        record {
+          names = with_name after name (entry.Local (length scene.locals) fixed) env.names tt (names_grow scene after grows env.names fine.names);
+          scene = record {
+            structs = fine.scene.structs;
+            globals = fine.scene.globals;
+            blocks = fine.scene.blocks;
+            interfaces = fine.scene.interfaces;
+            prototypes = fine.scene.prototypes;
+            sizes = fine.scene.sizes;
+            params = fine.scene.params;
+            locals = all_append (IsVariableType scene.structs) scene.locals (t ∷ []) fine.scene.locals (is, tt);
+            known = fine.scene.known;
+          };
+        },
+        grows,
+      )
+
+  -- ---- one more struct
+
+  struct_grows : (s : StructType) → Grows scene (record scene { structs = scene.structs ++ s ∷ [] })
+  struct_grows s = record {
+    stage = refl;
+    structs = front_append scene.structs (s ∷ []);
+    count = omega (arith, length-append scene.structs (s ∷ []));
+    leaves = λ u known. ap (λ n. min n most_leaves) (meaning_stays scene.structs s counting u known);
+    heights = λ u known. meaning_stays scene.structs s height_meaning u known;
+    values = λ u v known. ap (λ (test : Value → Bool). test v) (meaning_stays scene.structs s value_meaning u known);
+    globals = λ k x is. is;
+    blocks = λ k x is. is;
+    interfaces = λ k x is. is;
+    prototypes = λ k x is. is;
+    sizes = λ k x is. is;
+    params = refl;
+    locals = λ k x is. is;
+  }
+
+  module _ (after : Scene) (grows : Grows scene after) where
+    grown_variables : (s : StructType) → HasVariables scene.structs s → HasVariables after.structs s
+    grown_variables s all = all_map (λ (m : Member). IsVariableType scene.structs m.ty) (λ (m : Member). IsVariableType after.structs m.ty) s.members (λ m is. variable_grows scene after grows m.ty is) all
+
+    grown_structs : AllByRecursion (HasVariables after.structs) scene.structs
+    grown_structs = all_map (HasVariables scene.structs) (HasVariables after.structs) scene.structs grown_variables fine.scene.structs
+
+    grown_globals : AllByRecursion (λ (g : GlobalVar). IsVariableType after.structs g.ty) scene.globals
+    grown_globals = all_map (λ (g : GlobalVar). IsVariableType scene.structs g.ty) (λ (g : GlobalVar). IsVariableType after.structs g.ty) scene.globals (λ g is. variable_grows scene after grows g.ty is) fine.scene.globals
+
+    sound_grows : (t : Ty) → IsSound count t → IsSound (length after.structs) t
+    sound_grows t is = sound_stays count (length after.structs) grows.count t is
+
+    grown_blocks : AllByRecursion (λ (b : Block). AllByRecursion (λ (m : BlockMember). IsSound (length after.structs) m.ty) b.members) scene.blocks
+    grown_blocks = all_map (λ (b : Block). AllByRecursion (λ (m : BlockMember). IsSound count m.ty) b.members) (λ (b : Block). AllByRecursion (λ (m : BlockMember). IsSound (length after.structs) m.ty) b.members) scene.blocks
+        (λ b all. all_map (λ (m : BlockMember). IsSound count m.ty) (λ (m : BlockMember). IsSound (length after.structs) m.ty) b.members (λ m is. sound_grows m.ty is) all) fine.scene.blocks
+
+    grown_interfaces : AllByRecursion (λ (i : Interface). IsSound (length after.structs) i.ty) scene.interfaces
+    grown_interfaces = all_map (λ (i : Interface). IsSound count i.ty) (λ (i : Interface). IsSound (length after.structs) i.ty) scene.interfaces (λ i is. sound_grows i.ty is) fine.scene.interfaces
+
+    grown_params : (params : List (Direction × Ty)) → AllByRecursion (λ (p : Direction × Ty). IsVariableType scene.structs p.1) params → AllByRecursion (λ (p : Direction × Ty). IsVariableType after.structs p.1) params
+    grown_params params all = all_map (λ (p : Direction × Ty). IsVariableType scene.structs p.1) (λ (p : Direction × Ty). IsVariableType after.structs p.1) params (λ p is. variable_grows scene after grows p.1 is) all
+
+    grown_prototypes : AllByRecursion (IsHead after.structs) scene.prototypes
+    grown_prototypes = all_map (IsHead scene.structs) (IsHead after.structs) scene.prototypes (λ p is. (result_grows scene after grows p.result is.0, grown_params p.params is.1)) fine.scene.prototypes
+
+    grown_locals : AllByRecursion (IsVariableType after.structs) scene.locals
+    grown_locals = all_map (IsVariableType scene.structs) (IsVariableType after.structs) scene.locals (variable_grows scene after grows) fine.scene.locals
+
+  pub struct_grown : (name : List ℕ) (members : List Member) → AllByRecursion (λ (m : Member). IsVariableType scene.structs m.ty) members → Grown (with_struct name members env)
+  unfolding with_struct
+  struct_grown name members all =
+      let s = struct_of scene.structs name members in
+      let after : Scene = record scene { structs = scene.structs ++ s ∷ [] } in
+      let grows : Grows scene after = struct_grows s in (
+        record {
+          names = with_name after name (entry.Struct count) env.names (omega (arith, length-append scene.structs (s ∷ []))) (names_grow scene after grows env.names fine.names);
+          scene = record {
+            structs = all_append (HasVariables after.structs) scene.structs (s ∷ []) (grown_structs after grows) (grown_variables after grows s all, tt);
+            globals = grown_globals after grows;
+            blocks = grown_blocks after grows;
+            interfaces = grown_interfaces after grows;
+            prototypes = grown_prototypes after grows;
+            sizes = fine.scene.sizes;
+            params = grown_params after grows scene.params fine.scene.params;
+            locals = grown_locals after grows;
+            known = fine.scene.known;
+          };
+        },
+        grows,
+      )
+
+  -- ---- the members of a struct
+
+  abbrev Variables : List Member → Type 0
+  Variables members = AllByRecursion (λ (m : Member). IsVariableType scene.structs m.ty) members
+
+  member_had : (name : Name) (t : Ty) (members : List Member) → Variables members → Holds Variables (with_member scene name t members)
+  unfolding may_be_member
+  member_had name t members all =
+      holds_after (λ _. IsVariableType scene.structs t) Variables (may_be_member scene name t members) (λ _. Ok (members ++ record { name = name.text; ty = t } ∷ []))
+      (row (λ _. IsVariableType scene.structs t) name.place E0403 (has_member members name.text) ((E0404, is_reserved name.text) ∷ (E0510, not (may_be_had scene t)) ∷ (E0908, is_high scene t) ∷ []) (Ok tt)
+      (λ _. row (λ _. IsVariableType scene.structs t) name.place E0404 (is_reserved name.text) ((E0510, not (may_be_had scene t)) ∷ (E0908, is_high scene t) ∷ []) (Ok tt)
+      (λ _. row (λ _. IsVariableType scene.structs t) name.place E0510 (not (may_be_had scene t)) ((E0908, is_high scene t) ∷ []) (Ok tt)
+      (λ had. row (λ _. IsVariableType scene.structs t) name.place E0908 (is_high scene t) [] (Ok tt)
+      (λ low. variable_is t had low)))))
+      (λ _ is. all_append (λ (m : Member). IsVariableType scene.structs m.ty) members (record { name = name.text; ty = t } ∷ []) all (is, tt))
+
+  name_had : (base : Written) (one : Declared) (members : List Member) → Variables members → Holds Variables (structs.with_name env base one members)
+  unfolding structs.with_name
+  name_had base one members all =
+      holds_then Variables (declared (map (bracket env) one.dims) base) (λ t. whole_type t >>= (λ whole. with_member scene one.name whole members))
+      (λ t. holds_then Variables (whole_type t) (λ whole. with_member scene one.name whole members) (λ whole. member_had one.name whole members all))
+
+  names_had : (base : Written) (names : List Declared) (members : List Member) → Variables members → Holds Variables (with_names env base names members)
+  names_had base [] members all = all
+  names_had base (one ∷ more) members all = holds_after Variables Variables (structs.with_name env base one members) (with_names env base more) (name_had base one members all) (names_had base more)
+
+  line_had : (line : StructMember) (members : List Member) → Variables members → Holds Variables (with_line env line members)
+  unfolding with_line
+  line_had line members all = holds_then Variables (written_type env line.ty) (λ base. with_names env base line.names members) (λ base. names_had base line.names members all)
+
+  lines_had : (lines : List StructMember) (members : List Member) → Variables members → Holds Variables (with_lines env lines members)
+  lines_had [] members all = all
+  lines_had (line ∷ lines) members all = holds_after Variables Variables (with_line env line members) (with_lines env lines) (line_had line members all) (lines_had lines)
+
+  number_there : (name : List ℕ) (members : List Member) → length scene.structs < length (with_struct name members env).scene.structs
+  unfolding with_struct
+  number_there name members = omega (arith, length-append scene.structs (struct_of scene.structs name members ∷ []))
+
+  -- a struct is declared, and its number is there
+  abbrev pub StructDone : ℕ × Env → Type 0
+  StructDone done = Grown done.1 × (done.0 < length done.1.scene.structs)
+
+  pub structured_is : (s : Struct) → Holds StructDone (structured s env)
+  unfolding structured
+  structured_is s =
+      holds_after Variables StructDone (with_lines env s.members []) (λ members. may_be_struct s.name members env >>= (λ _. Ok (length scene.structs, with_struct s.name.text members env))) (lines_had s.members [] tt)
+      (λ members all. holds_then StructDone (may_be_struct s.name members env) (λ _. Ok (length scene.structs, with_struct s.name.text members env))
+      (λ _. (struct_grown s.name.text members all, number_there s.name.text members)))

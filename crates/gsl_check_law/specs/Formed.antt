@@ -1,0 +1,117 @@
+-- Which expressions and statements are as the grammar and the lexer give them: literals are words, and commas join two at least.
+use Rattle.std.specs.Prelude.{◌^◌, Bool, true, false, ◌&&◌, nat_lt, List, [], ◌∷◌, Option, Some, None, IsTrue}
+use Rattle.gsl_base.specs.declared.fault.Place.{Place}
+use Rattle.gsl_syntax.specs.declared.expr.Expr.{Expr}
+use Rattle.gsl_syntax.specs.declared.declaration.Declarator.{Declarator}
+use Rattle.gsl_syntax.specs.declared.declaration.Declarator.TheVariants as declarator
+use Rattle.gsl_syntax.specs.declared.declaration.Decl.{Decl}
+use Rattle.gsl_syntax.specs.declared.declaration.Decl.TheVariants as decl
+use Rattle.gsl_syntax.specs.declared.statement.ForInit.{ForInit}
+use Rattle.gsl_syntax.specs.declared.statement.ForInit.TheVariants as for_init
+use Rattle.gsl_syntax.specs.declared.statement.Stmt.{Stmt}
+use Rattle.gsl_syntax.specs.declared.statement.Stmt.TheOpen.{Stmt-F}
+use Rattle.gsl_syntax.specs.declared.statement.Stmt.TheFolds.{fold-Stmt}
+use Rattle.gsl_syntax.specs.declared.expr.Dim.TheOpen.{Expr-F}
+use Rattle.gsl_syntax.specs.declared.expr.Dim.TheFolds.{fold-Expr}
+use Rattle.gsl_syntax.specs.declared.declaration.Init.{Init}
+use Rattle.gsl_syntax.specs.declared.declaration.Init.TheOpen.{Init-F}
+use Rattle.gsl_syntax.specs.declared.declaration.Init.TheFolds.{fold-Init}
+
+abbrev pub all_formed : List Bool → Bool
+all_formed [] = true
+all_formed (b ∷ bs) = b && all_formed bs
+
+abbrev pub rest_formed : List (Place × Bool) → Bool
+rest_formed [] = true
+rest_formed (b ∷ bs) = b.1 && rest_formed bs
+
+abbrev pub some_formed : List (Place × Bool) → Bool
+some_formed [] = false
+some_formed (b ∷ bs) = b.1 && rest_formed bs
+
+-- The sizes in brackets are no parts of a typed tree.
+abbrev pub formed_by : Expr-F (Unit {0}) Bool (Unit {0}) → Bool
+formed_by (Expr-F.Name place name) = true
+formed_by (Expr-F.Signed place word) = nat_lt word (2 ^ 32)
+formed_by (Expr-F.Unsigned place word) = nat_lt word (2 ^ 32)
+formed_by (Expr-F.Bool place value) = true
+formed_by (Expr-F.Paren place inner) = inner
+formed_by (Expr-F.CallVoid callee) = true
+formed_by (Expr-F.Call callee args) = all_formed args
+formed_by (Expr-F.Index place a i) = a && i
+formed_by (Expr-F.Member place a name) = a
+formed_by (Expr-F.Method place a name) = a
+formed_by (Expr-F.Postfix place op a) = a
+formed_by (Expr-F.Unary place op a) = a
+formed_by (Expr-F.Binary place op a b) = a && b
+formed_by (Expr-F.Conditional place test a b) = test && (a && b)
+formed_by (Expr-F.Assign place op a b) = a && b
+formed_by (Expr-F.Sequence first rest) = first && some_formed rest
+
+unfoldable pub is_formed : Expr → Bool
+is_formed = fold-Expr (Unit {0}) Bool (Unit {0}) (λ _. tt) formed_by (λ _. tt)
+
+abbrev pub IsFormed : Expr → Type 0
+IsFormed e = IsTrue (is_formed e)
+
+-- ---- initialisers
+
+abbrev pub init_formed_by : Init-F Bool → Bool
+init_formed_by (Init-F.Expr e) = is_formed e
+init_formed_by (Init-F.Braces place items) = all_formed items
+
+unfoldable pub init_formed : Init → Bool
+init_formed = fold-Init Bool init_formed_by
+
+abbrev pub IsFormedInit : Init → Type 0
+IsFormedInit init = IsTrue (init_formed init)
+
+-- ---- statements
+
+abbrev pub declarator_formed : Declarator → Bool
+declarator_formed (declarator.Plain name dims) = true
+declarator_formed (declarator.Initialised name dims init) = init_formed init
+
+abbrev pub declarators_formed : List Declarator → Bool
+declarators_formed [] = true
+declarators_formed (d ∷ all) = declarator_formed d && declarators_formed all
+
+abbrev pub decl_formed : Decl → Bool
+decl_formed (decl.Variables quals t all) = declarators_formed all
+decl_formed (decl.Struct quals s all) = declarators_formed all
+decl_formed (decl.Block quals name members instance) = true
+decl_formed (decl.Quals quals) = true
+
+abbrev pub init_part_formed : ForInit → Bool
+init_part_formed (for_init.Empty place) = true
+init_part_formed (for_init.Expr e) = is_formed e
+init_part_formed (for_init.Decl d) = decl_formed d
+
+abbrev pub formed_if : Option Expr → Bool
+formed_if None = true
+formed_if (Some e) = is_formed e
+
+abbrev pub stmt_formed_by : Stmt-F Bool → Bool
+stmt_formed_by (Stmt-F.Empty place) = true
+stmt_formed_by (Stmt-F.Block place all) = all_formed all
+stmt_formed_by (Stmt-F.Decl d) = decl_formed d
+stmt_formed_by (Stmt-F.Expr e) = is_formed e
+stmt_formed_by (Stmt-F.If place test body) = is_formed test && body
+stmt_formed_by (Stmt-F.IfElse place test body other) = is_formed test && (body && other)
+stmt_formed_by (Stmt-F.Switch place e all) = is_formed e && all_formed all
+stmt_formed_by (Stmt-F.Case place e) = is_formed e
+stmt_formed_by (Stmt-F.Default place) = true
+stmt_formed_by (Stmt-F.While place test body) = is_formed test && body
+stmt_formed_by (Stmt-F.Do place body test) = body && is_formed test
+stmt_formed_by (Stmt-F.For place init test step body) = init_part_formed init && (formed_if test && (formed_if step && body))
+stmt_formed_by (Stmt-F.Break place) = true
+stmt_formed_by (Stmt-F.Continue place) = true
+stmt_formed_by (Stmt-F.Discard place) = true
+stmt_formed_by (Stmt-F.Return place) = true
+stmt_formed_by (Stmt-F.ReturnValue place e) = is_formed e
+
+unfoldable pub stmt_formed : Stmt → Bool
+stmt_formed = fold-Stmt Bool stmt_formed_by
+
+abbrev pub IsFormedStmt : Stmt → Type 0
+IsFormedStmt s = IsTrue (stmt_formed s)

@@ -1,0 +1,4 @@
+pub mod Scenes
+pub mod Formed
+pub mod Parts
+pub mod Labels

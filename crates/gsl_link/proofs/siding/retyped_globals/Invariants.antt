@@ -1,6 +1,0 @@
-use Rattle.std.proofs.Common.{◌≡◌, ◌++◌, drop, map, take}
-use Rattle.gsl_link.specs.Declarations as spec
-use Rattle.gsl_link.proofs.siding.retyped_globals.Given as goal
-
-abbrev pub invariant-loop-k : goal.invariant-loop-k
-invariant-loop-k l = l.all.items ≡ map (spec.retyped_global l.fn.numbers) (take l.k l.fn.globals) ++ drop l.k l.fn.globals

@@ -1,0 +1,9 @@
+pub mod Reached
+pub mod Settled
+pub mod Lists
+pub mod Steps
+pub mod HeadSteps
+pub mod Tabled
+pub mod Searched
+pub mod Deep
+pub mod Ranked

@@ -1,0 +1,7 @@
+use Rattle.gsl_link_calls.proofs.ranks.walk_from.Given as goal
+
+abbrev pub invariant-loop-left : goal.invariant-loop-left
+invariant-loop-left l = Unit {0}
+
+abbrev pub decreases-loop-left : goal.decreases-loop-left
+decreases-loop-left l = l.left

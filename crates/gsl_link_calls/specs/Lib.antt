@@ -1,0 +1,5 @@
+pub mod Calls
+pub mod Gathering
+pub mod Table
+pub mod Ranks
+pub mod Depths

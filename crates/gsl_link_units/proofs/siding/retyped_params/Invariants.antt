@@ -1,0 +1,6 @@
+use Rattle.std.proofs.Common.{◌≡◌, ◌++◌, drop, map, take}
+use Rattle.gsl_link_units.specs.Declarations as spec
+use Rattle.gsl_link_units.proofs.siding.retyped_params.Given as goal
+
+abbrev pub invariant-loop-k : goal.invariant-loop-k
+invariant-loop-k l = l.all.items ≡ map (spec.retyped_param l.fn.numbers) (take l.k l.fn.params) ++ drop l.k l.fn.params

@@ -1,0 +1,7 @@
+use Rattle.std.proofs.Common.{◌≡◌, drop}
+use Rattle.gsl_weights.specs.Telling.{in_turn}
+use Rattle.gsl_weights.specs.Weighing.{declared_weighed}
+use Rattle.gsl_weights.proofs.declarations.types_weighed.Given as goal
+
+abbrev pub invariant-loop-k : goal.invariant-loop-k
+invariant-loop-k l = in_turn declared_weighed l.total (drop l.k l.types) ≡ in_turn declared_weighed l.fn.so_far l.types
