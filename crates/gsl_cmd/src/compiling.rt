@@ -60,19 +60,20 @@ fn typed(alloc: Global, stage: Stage, number: u32, source: &[u8]) -> Result<Type
     check(alloc, stage, tree.as_slice())
 }
 
-/// The tree of the source file of this number, or its first fault. No list of its live tokens is made; the raw ones end here.
+/// The tree of the source file of this number, or its first fault. No list of its live tokens is made, and each raw one is given up as
+/// it is drawn.
 #[tactic(auto, unfolding(crate::specs::Verdict::tree_of, crate::specs::Verdict::tokens_of, gsl_pp::specs::Unit::preprocessed, gsl_parse::specs::Fed::unit_fed))]
 fn tree(alloc: Global, number: u32, source: &[u8]) -> Result<Unit, Refusal>
     requires { length source.now < 2 ^ 32 }
     ensures { Gives result (tree_of number source.now) }
 {
     let raws = lex(alloc, number, source)?;
-    tree_from(alloc, number, &raws)
+    tree_from(alloc, number, raws)
 }
 
 /// The tree of a file's raw tokens, or the first fault of the preprocessor or the parser.
-fn tree_from(alloc: Global, number: u32, raws: &Raws) -> Result<Unit, Refusal>
-    ensures { Gives result (unit_fed (given_out number raws.now)) }
+fn tree_from(alloc: Global, number: u32, raws: Raws) -> Result<Unit, Refusal>
+    ensures { Gives result (unit_fed (given_out number raws)) }
 {
     let feed = Feed::new(alloc, number, raws)?;
     parse_feed(alloc, feed)

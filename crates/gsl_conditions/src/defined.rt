@@ -8,7 +8,7 @@ ghost use Rattle.gsl_macros.specs.Spelling.{word_of};
 
 use crate::reader::is_defined;
 use gsl_base::{List, Memory, Place, Raw, RawKind, Text};
-use gsl_macros::{Hid, Hides, Mark, Spelled, Table};
+use gsl_macros::{Hid, Hides, Mark, Spelled, Table, mark_of};
 use std::alloc::Global;
 
 fn word(raw: &Raw) -> Option<&Text>
@@ -31,7 +31,7 @@ fn asked(raws: &[Raw]) -> Option<(&Text, usize)>
     if let Some(name) = word(first) {
         return Some((name, 1));
     }
-    match Spelled::of(&first.kind).mark() {
+    match mark_of(&first.kind) {
         Mark::Opens => asked_within(more),
         _ => None,
     }
@@ -45,7 +45,7 @@ fn asked_within(raws: &[Raw]) -> Option<(&Text, usize)>
         return None;
     };
     let name = word(first)?;
-    match Spelled::of(&second.kind).mark() {
+    match mark_of(&second.kind) {
         Mark::Closes => Some((name, 3)),
         _ => None,
     }
@@ -60,8 +60,8 @@ fn is_defined_at(raw: &Raw) -> bool
     }
 }
 
-fn plain<'a>(place: Place, spelled: Spelled<'a>) -> Hid<'a>
-    ensures { result ≡ plain_as place spelled.entry }
+fn plain(place: Place, spelled: Spelled) -> Hid
+    ensures { result ≡ plain_as place spelled }
 {
     Hid {
         spelled,
@@ -79,11 +79,7 @@ fn answer(table: &Table, name: &Text) -> u32
 
 /// The tokens of a condition once `defined` is replaced.
 #[tactic(auto, using(crate::proofs::Skips::unasked_skips), unfolding(crate::specs::Conditions::unasked))]
-pub(crate) fn unasked<'a>(
-    alloc: Global,
-    table: &Table<'a>,
-    raws: &'a [Raw],
-) -> Result<List<Hid<'a>>, Memory>
+pub(crate) fn unasked(alloc: Global, table: &Table, raws: &[Raw]) -> Result<List<Hid>, Memory>
     ensures { IfOk result (λ list. list ≡ spec.unasked table.now raws.now 0) }
 {
     let mut list = List::new(alloc);
@@ -92,12 +88,13 @@ pub(crate) fn unasked<'a>(
         rest = more;
         if is_defined_at(raw) {
             if let Some((name, count)) = asked(more) {
-                list.push(plain(raw.place, Spelled::made(answer(table, name))))?;
+                let made = Spelled::made(alloc, answer(table, name))?;
+                list.push(plain(raw.place, made))?;
                 rest = &more[count..];
                 continue;
             }
         }
-        list.push(plain(raw.place, Spelled::of(&raw.kind)))?;
+        list.push(plain(raw.place, Spelled::copy_of(alloc, &raw.kind)?))?;
     }
     Ok(list)
 }

@@ -12,7 +12,7 @@ use std::alloc::Global;
 pub fn literal(alloc: Global, place: Place, spelled: &Spelled) -> Result<Option<u32>, Memory>
     ensures { IfOk result (λ word. word ≡ spec.literal place spelled.now) }
 {
-    match spelled.cook(alloc, place) {
+    match spelled.again(alloc)?.cook(alloc, place) {
         Ok(token) => Ok(word_in(&token.kind)),
         Err(Refusal::Source(_)) => Ok(None),
         Err(Refusal::Memory) => Err(Memory),

@@ -1,3 +1,4 @@
 pub mod Sets
 pub mod Fuel
 pub mod Drawn
+pub mod Reversed

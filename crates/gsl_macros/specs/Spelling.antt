@@ -16,9 +16,9 @@ use Rattle.gsl_macros.specs.declared.spelled.Mark.TheVariants.{Opens, Closes, Pa
 abbrev pub number : ℕ → RawKind
 number n = raw.Number (decimal n)
 
-abbrev pub lent_or : ℕ → Option RawKind → RawKind
-lent_or n None = number n
-lent_or n (Some kind) = kind
+abbrev pub shared_or : RawKind → Option RawKind → RawKind
+shared_or own None = own
+shared_or own (Some kind) = kind
 
 abbrev pub word_of : RawKind → Option (List ℕ)
 word_of (raw.Word text) = Some text

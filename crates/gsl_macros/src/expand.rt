@@ -37,7 +37,7 @@ pub(crate) fn count(token: &Hid, left: &mut u32) -> Result<(), Refusal>
 }
 
 /// The macro that a token names and does not hide, with its number.
-fn named<'t, 'a>(table: &'t Table<'a>, token: &Hid) -> Option<(usize, &'t Macro<'a>)>
+fn named<'t>(table: &'t Table, token: &Hid) -> Option<(usize, &'t Macro)>
     ensures { option_map (λ m. (m.0, m.1.now)) result ≡ spec.named table.now token.now }
 {
     let name = token.spelled.word()?;
@@ -51,11 +51,7 @@ fn named<'t, 'a>(table: &'t Table<'a>, token: &Hid) -> Option<(usize, &'t Macro<
 
 /// The macro that is replaced at a token, with its number.
 #[tactic(auto, unfolding(crate::specs::Expanding::use_of))]
-pub(crate) fn used<'t, 'a>(
-    table: &'t Table<'a>,
-    token: &Hid,
-    rest: &Stream,
-) -> Option<(usize, &'t Macro<'a>)>
+pub(crate) fn used<'t>(table: &'t Table, token: &Hid, rest: &Stream) -> Option<(usize, &'t Macro)>
     ensures { option_map (λ m. (m.0, m.1.now)) result ≡ spec.use_of table.now token.now rest.now }
 {
     let (number, meaning) = named(table, token)?;
@@ -76,10 +72,10 @@ fn is_used(meaning: &Macro, rest: &Stream) -> bool
 }
 
 /// Adds tokens as a macro puts them.
-fn add_hidden<'a>(
+fn add_hidden(
     alloc: Global,
-    list: &mut List<Hid<'a>>,
-    tokens: &[Hid<'a>],
+    list: &mut List<Hid>,
+    tokens: &[Hid],
     place: Place,
     more: &Hides,
 ) -> Result<(), Memory>
@@ -88,7 +84,7 @@ fn add_hidden<'a>(
     let mut rest = tokens;
     while let [token, behind @ ..] = rest {
         list.push(Hid {
-            spelled: token.spelled.again(),
+            spelled: token.spelled.again(alloc)?,
             place,
             hides: token.hides.joined(alloc, more)?,
             fresh: false,
@@ -99,11 +95,7 @@ fn add_hidden<'a>(
 }
 
 /// The argument of a parameter.
-fn arg_of<'b, 'a>(
-    mut params: &[Text],
-    mut args: &'b [List<Hid<'a>>],
-    name: &Text,
-) -> Option<&'b List<Hid<'a>>>
+fn arg_of<'b>(mut params: &[Text], mut args: &'b [List<Hid>], name: &Text) -> Option<&'b List<Hid>>
     ensures { option_map (λ a. a.now) result ≡ spec.arg_of params.entry.now args.entry.now name.now }
 {
     while let [param, more @ ..] = params {
@@ -120,11 +112,7 @@ fn arg_of<'b, 'a>(
 }
 
 /// The argument that a token of a body stands for.
-fn arg_at<'b, 'a>(
-    params: &[Text],
-    args: &'b [List<Hid<'a>>],
-    spelled: &Spelled,
-) -> Option<&'b List<Hid<'a>>>
+fn arg_at<'b>(params: &[Text], args: &'b [List<Hid>], spelled: &Spelled) -> Option<&'b List<Hid>>
     ensures { option_map (λ a. a.now) result ≡ spec.arg_by params.now args.now (word_of spelled.now) }
 {
     let name = spelled.word()?;
@@ -132,16 +120,16 @@ fn arg_at<'b, 'a>(
 }
 
 /// Adds what a token of a body gives.
-fn add_piece<'a>(
+fn add_piece(
     alloc: Global,
-    list: &mut List<Hid<'a>>,
+    list: &mut List<Hid>,
     params: &[Text],
-    args: &[List<Hid<'a>>],
+    args: &[List<Hid>],
     place: Place,
     more: &Hides,
-    spelled: Spelled<'a>,
+    spelled: Spelled,
 ) -> Result<(), Memory>
-    ensures { OnOk result (list.new ≡ list.old ++ spec.hidden place more.now (spec.piece params.now args.now place spelled.entry)) }
+    ensures { OnOk result (list.new ≡ list.old ++ spec.hidden place more.now (spec.piece params.now args.now place spelled)) }
 {
     match arg_at(params, args, &spelled) {
         Some(arg) => add_hidden(alloc, list, arg.as_slice(), place, more),
@@ -159,23 +147,23 @@ fn add_piece<'a>(
 
 /// The body of a macro with the arguments in place, unless that is more than is left of the count.
 #[tactic(auto, unfolding(crate::specs::Expanding::filled))]
-fn fill<'a>(
+fn fill(
     alloc: Global,
     params: &[Text],
-    args: &[List<Hid<'a>>],
+    args: &[List<Hid>],
     place: Place,
     more: &Hides,
-    body: &Body<'a>,
+    body: &Body,
     left: u32,
-) -> Result<List<Hid<'a>>, Refusal>
+) -> Result<List<Hid>, Refusal>
     ensures { Gives result (steps.counted place left (spec.filled params.now args.now place more.now body.now)) }
 {
     if left == 0 {
         return Err(fault(place, Code::E0901));
     }
     let mut list = List::new(alloc);
-    let mut rest = body.again();
-    while let Some((kind, behind)) = rest.first() {
+    let mut rest = body.kinds();
+    while let [kind, behind @ ..] = rest {
         add_piece(
             alloc,
             &mut list,
@@ -183,7 +171,7 @@ fn fill<'a>(
             args,
             place,
             more,
-            Spelled::of(kind),
+            Spelled::sharing(kind)?,
         )?;
         if list.len() >= left as usize {
             return Err(fault(place, Code::E0901));
@@ -194,14 +182,14 @@ fn fill<'a>(
 }
 
 /// Puts the body of a macro, with the arguments in place, in front of what is looked at.
-pub(crate) fn put<'a>(
+pub(crate) fn put(
     alloc: Global,
     params: &[Text],
-    args: &[List<Hid<'a>>],
+    args: &[List<Hid>],
     place: Place,
     more: &Hides,
-    body: &Body<'a>,
-    stream: &mut Stream<'a>,
+    body: &Body,
+    stream: &mut Stream,
     left: &mut u32,
 ) -> Result<(), Refusal>
     ensures { steps.Leaves result (λ _. (stream.new, left.new)) (spec.put place (spec.filled params.now args.now place more.now body.now) stream.old left.old) }
@@ -213,15 +201,15 @@ pub(crate) fn put<'a>(
 }
 
 /// Puts the body of a function macro for a use with these arguments, whose closing parenthesis has these hides.
-pub(crate) fn put_call<'a>(
+pub(crate) fn put_call(
     alloc: Global,
     params: &[Text],
-    args: &[List<Hid<'a>>],
-    token: &Hid<'a>,
+    args: &[List<Hid>],
+    token: &Hid,
     number: usize,
     close: &Hides,
-    body: &Body<'a>,
-    stream: &mut Stream<'a>,
+    body: &Body,
+    stream: &mut Stream,
     left: &mut u32,
 ) -> Result<(), Refusal>
     ensures { steps.Leaves result (λ _. (stream.new, left.new)) (spec.put token.now.place (spec.filled params.now args.now token.now.place (number ∷ shared token.now.hides close.now) body.now) stream.old left.old) }
@@ -232,11 +220,12 @@ pub(crate) fn put_call<'a>(
 
 /// Puts a number that is made in front of what is looked at.
 #[tactic(auto, unfolding(crate::specs::Expanding::filled))]
-pub(crate) fn put_number<'a>(
+pub(crate) fn put_number(
+    alloc: Global,
     place: Place,
     more: Hides,
     made: u32,
-    stream: &mut Stream<'a>,
+    stream: &mut Stream,
     left: &mut u32,
 ) -> Result<(), Refusal>
     ensures { steps.Leaves result (λ _. (stream.new, left.new)) (spec.put place (spec.filled [] [] place more (number made ∷ [])) stream.old left.old) }
@@ -246,7 +235,7 @@ pub(crate) fn put_number<'a>(
     }
     take_from(left, 1);
     stream.push(Hid {
-        spelled: Spelled::made(made),
+        spelled: Spelled::made(alloc, made)?,
         place,
         hides: more,
         fresh: false,
@@ -265,18 +254,14 @@ fn take_from(left: &mut u32, most: usize)
 
 /// Arguments, and the hides of the parenthesis that closes them.
 #[derive(Drop)]
-pub(crate) struct Call<'a> {
-    pub args: List<List<Hid<'a>>>,
+pub(crate) struct Call {
+    pub args: List<List<Hid>>,
     pub hides: Hides,
 }
 
 /// Takes arguments and the parenthesis that closes them, or takes all where it is missing.
 #[tactic(auto, unfolding(crate::specs::Expanding::split))]
-fn split<'a>(
-    alloc: Global,
-    stream: &mut Stream<'a>,
-    left: &mut u32,
-) -> Result<Option<Call<'a>>, Refusal>
+fn split(alloc: Global, stream: &mut Stream, left: &mut u32) -> Result<Option<Call>, Refusal>
     ensures { steps.Leaves result (option_map (λ c. (c.args, c.hides, stream.new, left.new))) (steps.front [] [] (spec.split stream.old 0 left.old)) }
 {
     let mut args = List::new(alloc);
@@ -318,11 +303,11 @@ fn split<'a>(
 }
 
 /// The same with the `(` in front.
-pub(crate) fn arguments<'a>(
+pub(crate) fn arguments(
     alloc: Global,
-    stream: &mut Stream<'a>,
+    stream: &mut Stream,
     left: &mut u32,
-) -> Result<Option<Call<'a>>, Refusal>
+) -> Result<Option<Call>, Refusal>
     ensures { steps.Leaves result (option_map (λ c. (c.args, c.hides, stream.new, left.new))) (steps.front [] [] (spec.arguments stream.old left.old)) }
 {
     let Some(open) = stream.take() else {

@@ -8,10 +8,12 @@ mod moves;
 mod spelled;
 mod stream;
 mod table;
+mod unread;
 
 pub use expand::fault;
 pub use hides::Hides;
 pub use moves::{MAX_DEPTH, all, next};
-pub use spelled::{Mark, Spelled};
+pub use spelled::{Mark, Spelled, mark_of};
 pub use stream::{Hid, Stream};
 pub use table::{Body, Macro, Macros, Shift, Table};
+pub use unread::Unread;

@@ -17,13 +17,13 @@ pub const MAX_DEPTH: u32 = 256;
 
 /// The next token that is given out, where arguments may nest so deep.
 #[cycle(moves)]
-pub fn next<'a>(
+pub fn next(
     alloc: Global,
-    macros: &Macros<'a>,
+    macros: &Macros,
     depth: u32,
-    stream: &mut Stream<'a>,
+    stream: &mut Stream,
     left: &mut u32,
-) -> Result<Option<Hid<'a>>, Refusal>
+) -> Result<Option<Hid>, Refusal>
     ensures drawn { steps.Draws result (spec.traced macros.now depth stream.old left.old) (spec.traced macros.now depth stream.new left.new) left.new }
     ensures less { steps.Less result (left.new + length stream.new) (left.old + length stream.old) }
 {
@@ -40,14 +40,14 @@ pub fn next<'a>(
 /// Replaces a token that names a macro.
 #[cycle(moves)]
 #[tactic(auto, unfolding(crate::specs::Expanding::replaced))]
-fn replace<'a>(
+fn replace(
     alloc: Global,
-    macros: &Macros<'a>,
+    macros: &Macros,
     depth: u32,
-    token: &Hid<'a>,
+    token: &Hid,
     number: usize,
-    found: &Macro<'a>,
-    stream: &mut Stream<'a>,
+    found: &Macro,
+    stream: &mut Stream,
     left: &mut u32,
 ) -> Result<(), Refusal>
     ensures { steps.Leaves result (λ _. (stream.new, left.new)) (spec.replaced (spec.expander macros.now depth) macros.now token.now (number, found.now) stream.old left.old) }
@@ -68,9 +68,16 @@ fn replace<'a>(
     let more = Hides::with(alloc, number, &token.hides)?;
     let place = token.place;
     match found {
-        Macro::Line => put_number(place, more, macros.shift.shown(place.line), stream, left),
-        Macro::File => put_number(place, more, macros.shift.file, stream, left),
-        Macro::Number(value) => put_number(place, more, *value, stream, left),
+        Macro::Line => put_number(
+            alloc,
+            place,
+            more,
+            macros.shift.shown(place.line),
+            stream,
+            left,
+        ),
+        Macro::File => put_number(alloc, place, more, macros.shift.file, stream, left),
+        Macro::Number(value) => put_number(alloc, place, more, *value, stream, left),
         Macro::Object(body) => put(alloc, &[], &[], place, &more, body, stream, left),
         Macro::Function(_, _) => unreachable!(),
     }
@@ -78,15 +85,15 @@ fn replace<'a>(
 
 /// Replaces the use of a function macro.
 #[cycle(moves)]
-fn call<'a>(
+fn call(
     alloc: Global,
-    macros: &Macros<'a>,
+    macros: &Macros,
     depth: u32,
-    token: &Hid<'a>,
+    token: &Hid,
     number: usize,
     params: &[Text],
-    body: &Body<'a>,
-    stream: &mut Stream<'a>,
+    body: &Body,
+    stream: &mut Stream,
     left: &mut u32,
 ) -> Result<(), Refusal>
     ensures { steps.Leaves result (λ _. (stream.new, left.new)) (spec.called (spec.expander macros.now depth) token.now number params.now body.now (spec.arguments stream.old left.old)) }
@@ -114,14 +121,14 @@ fn call<'a>(
 /// Expands the arguments of a use from left to right.
 #[cycle(moves)]
 #[tactic(auto, unfolding(crate::specs::Expanding::each))]
-fn each<'a>(
+fn each(
     alloc: Global,
-    macros: &Macros<'a>,
+    macros: &Macros,
     depth: u32,
-    token: &Hid<'a>,
-    args: &[List<Hid<'a>>],
+    token: &Hid,
+    args: &[List<Hid>],
     left: &mut u32,
-) -> Result<List<List<Hid<'a>>>, Refusal>
+) -> Result<List<List<Hid>>, Refusal>
     ensures { steps.Leaves result (λ list. (list, left.new)) (spec.each (spec.expander macros.now depth) token.now.place args.now left.old) }
 {
     let mut list = List::new(alloc);
@@ -136,14 +143,14 @@ fn each<'a>(
 /// Expands an argument of a use alone.
 #[cycle(moves)]
 #[tactic(auto, using(crate::proofs::Drawn::expander_below), unfolding(crate::specs::Expanding::expander))]
-fn expand<'a>(
+fn expand(
     alloc: Global,
-    macros: &Macros<'a>,
+    macros: &Macros,
     depth: u32,
-    token: &Hid<'a>,
-    tokens: &[Hid<'a>],
+    token: &Hid,
+    tokens: &[Hid],
     left: &mut u32,
-) -> Result<List<Hid<'a>>, Refusal>
+) -> Result<List<Hid>, Refusal>
     ensures { steps.Leaves result (λ list. (list, left.new)) (spec.expander macros.now depth token.now.place tokens.now left.old) }
 {
     if depth == 0 {
@@ -155,13 +162,13 @@ fn expand<'a>(
 
 /// All tokens that are given out.
 #[cycle(moves)]
-pub fn all<'a>(
+pub fn all(
     alloc: Global,
-    macros: &Macros<'a>,
+    macros: &Macros,
     depth: u32,
-    stream: &mut Stream<'a>,
+    stream: &mut Stream,
     left: &mut u32,
-) -> Result<List<Hid<'a>>, Refusal>
+) -> Result<List<Hid>, Refusal>
     ensures { steps.Leaves result (λ list. (list, left.new)) (spec.whole (spec.traced macros.now depth stream.old left.old)) }
 {
     let mut list = List::new(alloc);

@@ -2,31 +2,44 @@
 
 ghost use Rattle.std.specs.Prelude.{◌≡◌, [], ◌∷◌, ◌++◌, length, IfOk, OnOk, MatchOption, map};
 ghost use Rattle.gsl_macros.specs.Expanding as spec;
-ghost use Rattle.gsl_macros.specs.Spelling.{mark_of};
+ghost use Rattle.gsl_macros.specs.Spelling.{mark_of as mark_in};
 
 use crate::hides::Hides;
-use crate::spelled::{Mark, Spelled};
-use gsl_base::{List, Memory, Place, Raw};
+use crate::spelled::{Mark, Spelled, mark_of};
+use crate::unread::Unread;
+use gsl_base::{List, Memory, Place, Raw, RawKind};
 use std::alloc::Global;
 use std::marker::Model;
 
 /// A token with the macros that it hides.
 #[derive(Drop)]
-pub struct Hid<'a> {
-    pub spelled: Spelled<'a>,
+pub struct Hid {
+    pub spelled: Spelled,
     pub place: Place,
     pub hides: Hides,
     /// Whether it stands so in the source, and was not counted yet.
     pub fresh: bool,
 }
 
-impl<'a> Hid<'a> {
+impl Hid {
+    /// A token as it stands in the source.
+    fn fresh(raw: Raw) -> Hid
+        ensures { result ≡ spec.fresh raw }
+    {
+        Hid {
+            spelled: Spelled::of(raw.kind),
+            place: raw.place,
+            hides: Hides::none(),
+            fresh: true,
+        }
+    }
+
     /// The same token once more.
-    pub fn again(&self) -> Result<Hid<'a>, Memory>
+    pub fn again(&self, alloc: Global) -> Result<Hid, Memory>
         ensures { IfOk result (λ t. t ≡ self.now) }
     {
         Ok(Hid {
-            spelled: self.spelled.again(),
+            spelled: self.spelled.again(alloc)?,
             place: self.place,
             hides: self.hides.again()?,
             fresh: self.fresh,
@@ -34,8 +47,8 @@ impl<'a> Hid<'a> {
     }
 
     /// The token, once it is counted.
-    pub fn settled(self) -> Hid<'a>
-        ensures { result ≡ spec.settled self.entry }
+    pub fn settled(self) -> Hid
+        ensures { result ≡ spec.settled self }
     {
         Hid {
             fresh: false,
@@ -46,25 +59,25 @@ impl<'a> Hid<'a> {
 
 /// Contracts see the tokens in the order in which they are taken.
 #[derive(Drop)]
-pub struct Stream<'a> {
-    pending: List<Hid<'a>>,
-    rest: &'a [Raw],
+pub struct Stream {
+    pending: List<Hid>,
+    rest: Unread,
 }
 
-impl<'a> Model for Stream<'a> {
+impl Model for Stream {
     ghost use Rattle.std.specs.Prelude.{List as Plain, ◌++◌, reverse, map};
     ghost use Rattle.gsl_macros.specs.declared.stream.Hid.{Hid as OneHid};
     ghost use Rattle.gsl_macros.specs.Expanding.{fresh};
 
     ghost Value = { Plain OneHid };
 
-    ghost view = { λ s. reverse s.pending ++ map fresh s.rest.now };
+    ghost view = { λ s. reverse s.pending ++ map fresh s.rest };
 }
 
-impl<'a> Stream<'a> {
+impl Stream {
     /// The tokens of a segment.
-    pub fn new(alloc: Global, rest: &'a [Raw]) -> Stream<'a>
-        ensures { result ≡ map spec.fresh rest.now }
+    pub fn new(alloc: Global, rest: Unread) -> Stream
+        ensures { result ≡ map spec.fresh rest }
     {
         Stream {
             pending: List::new(alloc),
@@ -72,23 +85,31 @@ impl<'a> Stream<'a> {
         }
     }
 
+    /// A token of the source, and the tokens of a segment behind it.
+    pub fn begun(alloc: Global, first: Raw, rest: Unread) -> Result<Stream, Memory>
+        ensures { IfOk result (λ s. s ≡ map spec.fresh (first ∷ rest)) }
+    {
+        let mut pending = List::new(alloc);
+        pending.push(Hid::fresh(first))?;
+        Ok(Stream { pending, rest })
+    }
+
     /// Takes the first token.
-    pub fn take(&mut self) -> Option<Hid<'a>>
+    pub fn take(&mut self) -> Option<Hid>
         ensures { MatchOption result ((self.old ≡ []) × (self.new ≡ [])) (λ first. self.old ≡ first ∷ self.new) }
     {
         match self.pending.pop() {
             Some(token) => Some(token),
             None => {
-                let (token, rest) = first_raw(self.rest)?;
-                self.rest = rest;
-                Some(token)
+                let raw = self.rest.take()?;
+                Some(Hid::fresh(raw))
             }
         }
     }
 
     /// Puts a token in front.
-    pub fn push(&mut self, token: Hid<'a>) -> Result<(), Memory>
-        ensures { OnOk result (self.new ≡ token.entry ∷ self.old) }
+    pub fn push(&mut self, token: Hid) -> Result<(), Memory>
+        ensures { OnOk result (self.new ≡ token ∷ self.old) }
     {
         self.pending.push(token)
     }
@@ -98,14 +119,14 @@ impl<'a> Stream<'a> {
         ensures { result ≡ spec.opens self.now }
     {
         match self.pending.as_slice() {
-            [.., token] => is_open(&token.spelled),
-            [] => opens_raw(self.rest),
+            [.., token] => is_open(token.spelled.kind()),
+            [] => opens_raw(&self.rest),
         }
     }
 
     /// Puts tokens in front.
-    pub fn put(&mut self, tokens: List<Hid<'a>>) -> Result<(), Memory>
-        ensures { OnOk result (self.new ≡ tokens.entry ++ self.old) }
+    pub fn put(&mut self, tokens: List<Hid>) -> Result<(), Memory>
+        ensures { OnOk result (self.new ≡ tokens ++ self.old) }
     {
         let mut tokens = tokens;
         while let Some(token) = tokens.pop() {
@@ -115,55 +136,39 @@ impl<'a> Stream<'a> {
     }
 
     /// The tokens of a list.
-    pub fn of(alloc: Global, tokens: List<Hid<'a>>) -> Result<Stream<'a>, Memory>
-        ensures { IfOk result (λ s. s ≡ tokens.entry) }
+    pub fn of(alloc: Global, tokens: List<Hid>) -> Result<Stream, Memory>
+        ensures { IfOk result (λ s. s ≡ tokens) }
     {
-        let mut stream = Stream::new(alloc, &[]);
+        let mut stream = Stream::new(alloc, Unread::none(alloc));
         stream.put(tokens)?;
         Ok(stream)
     }
 }
 
 /// The same tokens once more.
-pub(crate) fn copied<'a>(alloc: Global, tokens: &[Hid<'a>]) -> Result<List<Hid<'a>>, Memory>
+pub(crate) fn copied(alloc: Global, tokens: &[Hid]) -> Result<List<Hid>, Memory>
     ensures { IfOk result (λ l. l ≡ tokens.now) }
 {
     let mut copy = List::new(alloc);
     let mut rest = tokens;
     while let [token, more @ ..] = rest {
-        copy.push(token.again()?)?;
+        copy.push(token.again(alloc)?)?;
         rest = more;
     }
     Ok(copy)
 }
 
-fn is_open(spelled: &Spelled) -> bool
-    ensures { result ≡ spec.is_open (mark_of spelled.now) }
+fn is_open(kind: &RawKind) -> bool
+    ensures { result ≡ spec.is_open (mark_in kind.now) }
 {
-    matches!(spelled.mark(), Mark::Opens)
+    matches!(mark_of(kind), Mark::Opens)
 }
 
-fn opens_raw(rest: &[Raw]) -> bool
+fn opens_raw(rest: &Unread) -> bool
     ensures { result ≡ spec.opens (map spec.fresh rest.now) }
 {
-    match rest {
-        [raw, ..] => is_open(&Spelled::of(&raw.kind)),
-        [] => false,
+    match rest.first() {
+        Some(raw) => is_open(&raw.kind),
+        None => false,
     }
-}
-
-/// The first token of a segment, and those behind it.
-fn first_raw<'a>(rest: &'a [Raw]) -> Option<(Hid<'a>, &'a [Raw])>
-    ensures { MatchOption result (rest.now ≡ []) (λ r. map spec.fresh rest.now ≡ r.0 ∷ map spec.fresh r.1.now) }
-{
-    let [raw, more @ ..] = rest else {
-        return None;
-    };
-    let token = Hid {
-        spelled: Spelled::of(&raw.kind),
-        place: raw.place,
-        hides: Hides::none(),
-        fresh: true,
-    };
-    Some((token, more))
 }

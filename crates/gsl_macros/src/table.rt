@@ -6,63 +6,61 @@ ghost use Rattle.std.specs.Str.{bytes_eq};
 ghost use Rattle.indexmap.specs.IndexMap.{insert_entry, swap_remove_entry};
 ghost use Rattle.gsl_macros.specs.Tables as spec;
 
+use crate::spelled::copied;
 use gsl_base::{List, Memory, Raw, RawKind, Text};
 use indexmap::IndexMap;
 use std::alloc::Global;
 use std::marker::Model;
+use std::rc::Rc;
 
 /// The tokens that a macro is replaced by. Contracts see how they are spelled.
 #[derive(Drop)]
-pub struct Body<'a> {
-    raws: &'a [Raw],
+pub struct Body {
+    kinds: List<Rc<RawKind>>,
 }
 
-impl<'a> Model for Body<'a> {
+impl Model for Body {
     ghost use Rattle.std.specs.Prelude.{List as Plain, map};
     ghost use Rattle.gsl_base.specs.declared.token.RawKind.{RawKind as OneKind};
 
     ghost Value = { Plain OneKind };
 
-    ghost view = { λ b. map (λ r. r.kind) b.raws.now };
+    ghost view = { λ b. map (λ k. k.value) b.kinds };
 }
 
-impl<'a> Body<'a> {
+impl Body {
     /// The tokens of a part of a line.
-    pub fn of(raws: &'a [Raw]) -> Body<'a>
-        ensures { result ≡ map (λ r. r.kind) raws.now }
+    pub fn of(alloc: Global, raws: &[Raw]) -> Result<Body, Memory>
+        ensures { IfOk result (λ body. body ≡ map (λ r. r.kind) raws.now) }
     {
-        Body { raws }
+        let mut kinds = List::new(alloc);
+        let mut rest = raws;
+        while let [raw, more @ ..] = rest {
+            kinds.push(Rc::new(alloc, copied(alloc, &raw.kind)?)?)?;
+            rest = more;
+        }
+        Ok(Body { kinds })
     }
 
-    /// The first token, and those behind it.
-    pub fn first(&self) -> Option<(&'a RawKind, Body<'a>)>
-        ensures { MatchOption result (self.now ≡ []) (λ r. self.now ≡ r.0.now ∷ r.1) }
+    /// The tokens, which are shared with those that a use puts.
+    pub fn kinds(&self) -> &[Rc<RawKind>]
+        ensures { map (λ k. k.value) result.now ≡ self.now }
     {
-        let [raw, more @ ..] = self.raws else {
-            return None;
-        };
-        Some((&raw.kind, Body { raws: more }))
-    }
-
-    /// The same tokens once more.
-    pub fn again(&self) -> Body<'a>
-        ensures { result ≡ self.now }
-    {
-        Body { raws: self.raws }
+        self.kinds.as_slice()
     }
 }
 
 /// What a name is replaced by.
 #[derive(Drop)]
-pub enum Macro<'a> {
+pub enum Macro {
     /// The number of its line.
     Line,
     /// The number of its file.
     File,
     Number(u32),
-    Object(Body<'a>),
+    Object(Body),
     /// With the names of its parameters.
-    Function(List<Text>, Body<'a>),
+    Function(List<Text>, Body),
 }
 
 /// What `#line` says: the line behind the physical line `after` has this number, and the file.
@@ -85,11 +83,11 @@ impl Shift {
 
 /// The macros of a unit by their names. Contracts see the list of names and macros.
 #[derive(Drop)]
-pub struct Table<'a> {
-    map: IndexMap<Text, Macro<'a>>,
+pub struct Table {
+    map: IndexMap<Text, Macro>,
 }
 
-impl<'a> Model for Table<'a> {
+impl Model for Table {
     ghost use Rattle.std.specs.Prelude.{List as Plain, ℕ};
     ghost use Rattle.gsl_macros.specs.declared.table.Macro.{Macro as OneMacro};
 
@@ -98,9 +96,9 @@ impl<'a> Model for Table<'a> {
     ghost view = { λ t. t.map.entries };
 }
 
-impl<'a> Table<'a> {
+impl Table {
     /// No macro, which takes no memory.
-    pub fn new(alloc: Global) -> Table<'a>
+    pub fn new(alloc: Global) -> Table
         ensures { result ≡ [] }
     {
         Table {
@@ -109,7 +107,7 @@ impl<'a> Table<'a> {
     }
 
     /// The macro of a name, with its number.
-    pub fn find(&self, name: &Text) -> Option<(usize, &Macro<'a>)>
+    pub fn find(&self, name: &Text) -> Option<(usize, &Macro)>
         ensures { option_map (λ p. (p.0, p.1.now)) result ≡ spec.found self.now name.now }
     {
         let (number, _, found) = self.map.get_full(name)?;
@@ -117,8 +115,8 @@ impl<'a> Table<'a> {
     }
 
     /// Gives a name a macro, in the place of the one that it has, or as the last.
-    pub fn set(&mut self, name: Text, meaning: Macro<'a>) -> Result<(), Memory>
-        ensures { OnOk result (self.new ≡ insert_entry bytes_eq self.old name meaning.entry) }
+    pub fn set(&mut self, name: Text, meaning: Macro) -> Result<(), Memory>
+        ensures { OnOk result (self.new ≡ insert_entry bytes_eq self.old name meaning) }
     {
         self.map.insert(name, meaning)?;
         Ok(())
@@ -134,7 +132,7 @@ impl<'a> Table<'a> {
 
 /// All that a replacement depends on.
 #[derive(Drop)]
-pub struct Macros<'a> {
-    pub table: Table<'a>,
+pub struct Macros {
+    pub table: Table,
     pub shift: Shift,
 }

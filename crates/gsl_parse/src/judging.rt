@@ -43,8 +43,8 @@ fn listed(alloc: Global, tokens: &[Token]) -> Result<Unit, Refusal>
 /// The tree of the tokens that a feed gives, which are drawn as they are needed: what `parse` answers of all that
 /// `preprocess` gives, or the fault that is met in place of a token. Where a token is bad the rest is drawn too,
 /// since a fault of the preprocessor goes first.
-pub fn parse_feed(alloc: Global, feed: Feed<'_>) -> Result<Unit, Refusal>
-    ensures { Gives result (fed.unit_fed (feeds feed.entry)) }
+pub fn parse_feed(alloc: Global, feed: Feed) -> Result<Unit, Refusal>
+    ensures { Gives result (fed.unit_fed (feeds feed)) }
 {
     let supply = Supply::of_feed(alloc, feed)?;
     unit(alloc, supply)

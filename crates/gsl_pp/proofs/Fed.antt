@@ -121,20 +121,17 @@ pub turn_fault : (r : Raw) (raws line : List Raw) (s : State) (n : ℕ) (refusal
 turn_fault r raws line s n (Source fault) later d len front e = unit_line r raws s n (Err fault) d len (ap (directed s r.place) (sym front) ∙ e)
 turn_fault r raws line s n Memory later d len front e = tt
 
-take_one : (r : Raw) (raws : List Raw) (n : ℕ) → take (n + 1) (r ∷ raws) ≡ r ∷ take n raws
-take_one r raws n = let e : n + 1 ≡ suc n = omega arith in ap (λ k. take k (r ∷ raws)) e
-
 text_on : (r : Raw) (raws : List Raw) (s : State) (n : ℕ) (b : Bool) →
     (if b then on_live r raws n s else unit_from raws n s) ≡ rest_of s (if b then map fresh (r ∷ take n raws) else []) (drop n raws)
 unfolding on_live rest_of
 text_on r raws s n true = then_same _ _ _ (λ now. unit_skips raws n (with_left s now))
 text_on r raws s n false = unit_skips raws n s ∙ sym (rest_none s (drop n raws))
 
-pub turn_text : (r : Raw) (raws all rest text : List Raw) (s : State) (stream : Seen) (n : ℕ) → all ≡ r ∷ raws → false ≡ is_directive r → n ≡ prefix_len goes_on_text raws → text ≡ take (n + 1) all →
-    stream ≡ (if is_live s.groups then map fresh text else []) → rest ≡ drop n raws → unit_from (r ∷ raws) 0 s ≡ rest_of s stream rest
-turn_text r raws all rest text s stream n whole d len front e back =
+pub turn_text : (r : Raw) (raws rest text : List Raw) (s : State) (stream : Seen) (n : ℕ) → false ≡ is_directive r → n ≡ prefix_len goes_on_text raws → text ≡ take n raws →
+    stream ≡ (if is_live s.groups then map fresh (r ∷ text) else []) → rest ≡ drop n raws → unit_from (r ∷ raws) 0 s ≡ rest_of s stream rest
+turn_text r raws rest text s stream n d len front e back =
     unit_text r raws s n (is_live s.groups) d len refl ∙ text_on r raws s n (is_live s.groups)
-    ∙ ap (λ (t : List Raw). rest_of s (if is_live s.groups then map fresh t else []) (drop n raws)) (sym (take_one r raws n) ∙ ap (take (n + 1)) (sym whole) ∙ sym front)
+    ∙ ap (λ (t : List Raw). rest_of s (if is_live s.groups then map fresh (r ∷ t) else []) (drop n raws)) (sym front)
     ∙ ap (λ k. rest_of s k (drop n raws)) (sym e) ∙ ap (λ k. rest_of s stream k) (sym back)
 
 -- ---- the start
@@ -173,10 +170,10 @@ starts_fine unit r raws all line rest n u e d len front v back =
 
 -- a feed at the start of a unit
 pub feed_at : (unit : ℕ) (raws rest : List Raw) (fault : Option Fault) (state : State) (stream : Seen) (refused : Option Refusal) (feed : Feed) → Starts fault rest unit raws → state ≡ initial unit → stream ≡ [] →
-    refused ≡ option_map (λ (f : Fault). Source f) fault → feed.state ≡ state → feed.stream ≡ stream → feed.rest.now ≡ rest → feed.refused ≡ refused → feeds feed ≡ unit_of unit raws
+    refused ≡ option_map (λ (f : Fault). Source f) fault → feed.state ≡ state → feed.stream ≡ stream → feed.rest ≡ rest → feed.refused ≡ refused → feeds feed ≡ unit_of unit raws
 feed_at unit raws rest None state stream refused feed h s e r fs ft fr ff =
     ap (feeds_on feed) (ff ∙ r)
-    ∙ ap (λ x. rest_of x feed.stream feed.rest.now) (fs ∙ s) ∙ ap (λ x. rest_of (initial unit) x feed.rest.now) (ft ∙ e) ∙ ap (λ x. rest_of (initial unit) [] x) fr
+    ∙ ap (λ x. rest_of x feed.stream feed.rest) (fs ∙ s) ∙ ap (λ x. rest_of (initial unit) x feed.rest) (ft ∙ e) ∙ ap (λ x. rest_of (initial unit) [] x) fr
     ∙ rest_none (initial unit) rest ∙ sym h
 feed_at unit raws rest (Some fault) state stream refused feed h s e r fs ft fr ff = ap (feeds_on feed) (ff ∙ r) ∙ sym h
 

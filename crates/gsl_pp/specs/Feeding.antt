@@ -12,7 +12,7 @@ use Rattle.gsl_pp.specs.Unit.{rest_of, live_of}
 
 -- what stands behind the tokens that were given out, where nothing was refused
 abbrev pub goes_on : Feed → Trace
-goes_on f = rest_of f.state f.stream f.rest.now
+goes_on f = rest_of f.state f.stream f.rest
 
 abbrev pub feeds_on : Feed → Option Refusal → Trace
 feeds_on f None = goes_on f

@@ -1,6 +1,6 @@
 //! `#define` and `#undef`.
 
-ghost use Rattle.std.specs.Prelude.{◌≡◌, ℕ, List, [], ◌∷◌, None, IfOk, MatchOption};
+ghost use Rattle.std.specs.Prelude.{◌≡◌, ℕ, List, [], ◌∷◌, map, None, IfOk, MatchOption};
 ghost use Rattle.std.specs.Option.{option_map};
 ghost use Rattle.std.specs.List.{list_any};
 ghost use Rattle.gsl_base.specs.Checked.{Gives, GivesBy};
@@ -10,9 +10,10 @@ ghost use Rattle.gsl_pp.specs.Definitions as spec;
 
 use crate::word::{is_hash, is_reserved, word};
 use gsl_base::{Code, List, Memory, Place, Raw, RawKind, Refusal, Text};
-use gsl_macros::{Body, Macro, Mark, Spelled, Table, fault};
+use gsl_macros::{Body, Macro, Mark, Table, fault, mark_of};
 use std::alloc::Global;
 use std::marker::Model;
+use std::rc::Rc;
 
 fn same_kind(a: &RawKind, b: &RawKind) -> bool
     ensures { result ≡ spec.same_kind a.now b.now }
@@ -26,14 +27,12 @@ fn same_kind(a: &RawKind, b: &RawKind) -> bool
     }
 }
 
-/// Whether two bodies have the same kinds and spellings.
-fn same_kinds(a: &Body, b: &Body) -> bool
-    ensures { result ≡ spec.same_kinds a.now b.now }
+/// Whether two lists have the same kinds and spellings.
+fn same_lists(mut a: &[Rc<RawKind>], mut b: &[Rc<RawKind>]) -> bool
+    ensures { result ≡ spec.same_kinds (map (λ k. k.value) a.entry.now) (map (λ k. k.value) b.entry.now) }
 {
-    let mut a = a.again();
-    let mut b = b.again();
-    while let Some((first, more)) = a.first() {
-        let Some((other, rest)) = b.first() else {
+    while let [first, more @ ..] = a {
+        let [other, rest @ ..] = b else {
             return false;
         };
         if !same_kind(first, other) {
@@ -42,7 +41,14 @@ fn same_kinds(a: &Body, b: &Body) -> bool
         a = more;
         b = rest;
     }
-    b.first().is_none()
+    b.is_empty()
+}
+
+/// Whether two bodies have the same kinds and spellings.
+fn same_kinds(a: &Body, b: &Body) -> bool
+    ensures { result ≡ spec.same_kinds a.now b.now }
+{
+    same_lists(a.kinds(), b.kinds())
 }
 
 /// Whether two lists of parameters are the same.
@@ -74,11 +80,11 @@ fn number_kind(alloc: Global, number: u32) -> Result<RawKind, Memory>
 fn is_number_alone(alloc: Global, number: u32, body: &Body) -> Result<bool, Memory>
     ensures { IfOk result (λ same. same ≡ spec.same_kinds (number_as number ∷ []) body.now) }
 {
-    let Some((kind, more)) = body.first() else {
+    let [kind, more @ ..] = body.kinds() else {
         return Ok(false);
     };
     let made = number_kind(alloc, number)?;
-    Ok(same_kind(&made, kind) && more.first().is_none())
+    Ok(same_kind(&made, kind) && more.is_empty())
 }
 
 /// Whether a macro that there is is one that is defined.
@@ -159,7 +165,7 @@ fn params_from<'a>(alloc: Global, raws: &'a [Raw]) -> Result<Option<Listed<'a>>,
             return Ok(None);
         }
         params.push(Text::from_str(alloc, name.as_str())?)?;
-        match Spelled::of(&mark.kind).mark() {
+        match mark_of(&mark.kind) {
             Mark::Closes => {
                 return Ok(Some(Listed {
                     params,
@@ -180,7 +186,7 @@ fn parameters<'a>(alloc: Global, raws: &'a [Raw]) -> Result<Option<Listed<'a>>, 
     let [first, more @ ..] = raws else {
         return Ok(None);
     };
-    match Spelled::of(&first.kind).mark() {
+    match mark_of(&first.kind) {
         Mark::Closes => Ok(Some(Listed {
             params: List::new(alloc),
             body: Line { raws: more },
@@ -202,16 +208,16 @@ fn has_hash(raws: &[Raw]) -> bool
     false
 }
 
-fn object<'a>(place: Place, body: &'a [Raw]) -> Result<Macro<'a>, Refusal>
+fn object(alloc: Global, place: Place, body: &[Raw]) -> Result<Macro, Refusal>
     ensures { Gives result (spec.object place body.now) }
 {
     if has_hash(body) {
         return Err(fault(place, Code::E0215));
     }
-    Ok(Macro::Object(Body::of(body)))
+    Ok(Macro::Object(Body::of(alloc, body)?))
 }
 
-fn function<'a>(place: Place, list: Option<Listed<'a>>) -> Result<Macro<'a>, Refusal>
+fn function(alloc: Global, place: Place, list: Option<Listed>) -> Result<Macro, Refusal>
     ensures { Gives result (spec.function place list.entry) }
 {
     let Some(list) = list else {
@@ -220,35 +226,35 @@ fn function<'a>(place: Place, list: Option<Listed<'a>>) -> Result<Macro<'a>, Ref
     if has_hash(list.body.raws) {
         return Err(fault(place, Code::E0215));
     }
-    Ok(Macro::Function(list.params, Body::of(list.body.raws)))
+    Ok(Macro::Function(list.params, Body::of(alloc, list.body.raws)?))
 }
 
 fn has_list(raw: &Raw) -> bool
     ensures { result ≡ spec.has_list raw.now }
 {
-    !raw.spaced && matches!(Spelled::of(&raw.kind).mark(), Mark::Opens)
+    !raw.spaced && matches!(mark_of(&raw.kind), Mark::Opens)
 }
 
 /// What stands behind the name.
-fn meaning<'a>(alloc: Global, place: Place, raws: &'a [Raw]) -> Result<Macro<'a>, Refusal>
+fn meaning(alloc: Global, place: Place, raws: &[Raw]) -> Result<Macro, Refusal>
     ensures { Gives result (spec.meaning place raws.now) }
 {
     if let [first, more @ ..] = raws {
         if has_list(first) {
-            return function(place, parameters(alloc, more)?);
+            return function(alloc, place, parameters(alloc, more)?);
         }
     }
-    object(place, raws)
+    object(alloc, place, raws)
 }
 
-fn give<'a>(
+fn give(
     alloc: Global,
     place: Place,
-    table: &mut Table<'a>,
+    table: &mut Table,
     name: &Text,
-    new: Macro<'a>,
+    new: Macro,
 ) -> Result<(), Refusal>
-    ensures { steps.Leaves result (λ _. table.new) (spec.given place table.old name.now new.entry) }
+    ensures { steps.Leaves result (λ _. table.new) (spec.given place table.old name.now new) }
 {
     if let Some((_, old)) = table.find(name) {
         if same_macro(alloc, old, &new)? {
@@ -261,11 +267,11 @@ fn give<'a>(
 }
 
 /// What `#define` does to the macros; this stands behind the word.
-pub(crate) fn define<'a>(
+pub(crate) fn define(
     alloc: Global,
     place: Place,
-    table: &mut Table<'a>,
-    raws: &'a [Raw],
+    table: &mut Table,
+    raws: &[Raw],
 ) -> Result<(), Refusal>
     ensures { steps.Leaves result (λ _. table.new) (spec.define place table.old raws.now) }
 {

@@ -38,12 +38,7 @@ fn skipped_group(place: Place) -> Group
     }
 }
 
-fn open_if<'a>(
-    alloc: Global,
-    state: &mut State<'a>,
-    place: Place,
-    raws: &'a [Raw],
-) -> Result<(), Refusal>
+fn open_if(alloc: Global, state: &mut State, place: Place, raws: &[Raw]) -> Result<(), Refusal>
     ensures { steps.Leaves result (λ _. state.new) (spec.open_if state.old place raws.now) }
 {
     if !state.groups.is_live() {
@@ -70,12 +65,7 @@ fn open_by(state: &mut State, place: Place, raws: &[Raw], wanted: bool) -> Resul
     Ok(())
 }
 
-fn elif<'a>(
-    alloc: Global,
-    state: &mut State<'a>,
-    place: Place,
-    raws: &'a [Raw],
-) -> Result<(), Refusal>
+fn elif(alloc: Global, state: &mut State, place: Place, raws: &[Raw]) -> Result<(), Refusal>
     ensures { steps.Leaves result (λ _. state.new) (spec.elif_on state.old place raws.now state.old.groups) }
 {
     let Some(top) = state.groups.pop() else {
@@ -131,11 +121,11 @@ fn endif(state: &mut State, place: Place) -> Result<(), Refusal>
     }
 }
 
-fn grouped<'a>(
+fn grouped(
     alloc: Global,
-    state: &mut State<'a>,
+    state: &mut State,
     place: Place,
-    raws: &'a [Raw],
+    raws: &[Raw],
     conditional: Conditional,
 ) -> Result<(), Refusal>
     ensures { steps.Leaves result (λ _. state.new) (spec.grouped state.old place raws.now conditional) }
@@ -160,11 +150,11 @@ fn grouped<'a>(
     }
 }
 
-fn other<'a>(
+fn other(
     alloc: Global,
-    state: &mut State<'a>,
+    state: &mut State,
     place: Place,
-    raws: &'a [Raw],
+    raws: &[Raw],
     other: Option<Other>,
 ) -> Result<(), Refusal>
     ensures { steps.Leaves result (λ _. state.new) (spec.other state.old place raws.now other) }
@@ -182,11 +172,11 @@ fn other<'a>(
 }
 
 /// A directive by its word.
-fn named<'a>(
+fn named(
     alloc: Global,
-    state: &mut State<'a>,
+    state: &mut State,
     place: Place,
-    raws: &'a [Raw],
+    raws: &[Raw],
     word: &Text,
 ) -> Result<(), Refusal>
     ensures { steps.Leaves result (λ _. state.new) (spec.directed_by state.old place raws.now (Some word.now)) }
@@ -203,11 +193,11 @@ fn named<'a>(
 
 /// Does what the directive says whose `#` stands at a place; this stands behind it.
 #[tactic(auto, unfolding(crate::specs::Directives::directed))]
-pub(crate) fn direct<'a>(
+pub(crate) fn direct(
     alloc: Global,
-    state: &mut State<'a>,
+    state: &mut State,
     place: Place,
-    raws: &'a [Raw],
+    raws: &[Raw],
 ) -> Result<(), Refusal>
     ensures { steps.Leaves result (λ _. state.new) (spec.directed state.old place raws.now) }
 {

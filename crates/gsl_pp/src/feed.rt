@@ -19,40 +19,35 @@ use crate::state::{MAX_TOKENS, State};
 use crate::version::{at, versioned};
 use crate::word::is_hash;
 use gsl_base::{Code, Fault, Memory, Place, Raw, Raws, Refusal, Text, Token, Tokens};
-use gsl_macros::{Hid, MAX_DEPTH, Macro, Macros, Shift, Stream, Table, fault, next};
+use gsl_macros::{Hid, MAX_DEPTH, Macro, Macros, Shift, Stream, Table, Unread, fault, next};
 use std::alloc::Global;
 use std::mem::replace;
 
 /// A place in a unit.
 #[derive(Drop)]
-pub struct Feed<'a> {
+pub struct Feed {
     alloc: Global,
-    state: State<'a>,
+    state: State,
     /// What is left of the segment.
-    stream: Stream<'a>,
+    stream: Stream,
     /// What stands behind it.
-    rest: &'a [Raw],
+    rest: Unread,
     /// Once there was a refusal, it is given again.
     refused: Option<Refusal>,
 }
 
-impl<'a> Feed<'a> {
-    /// The start of the unit of this number.
-    pub fn new(alloc: Global, unit: u32, raws: &'a Raws) -> Result<Feed<'a>, Memory>
-        ensures { IfOk result (λ feed. feeding.feeds feed ≡ spec.unit_of unit raws.now) }
-    {
-        Feed::at(alloc, unit, raws.as_slice())
-    }
-
-    fn at(alloc: Global, unit: u32, raws: &'a [Raw]) -> Result<Feed<'a>, Memory>
-        ensures { IfOk result (λ feed. feeding.feeds feed ≡ spec.unit_of unit raws.now) }
+impl Feed {
+    /// The start of the unit of this number. Each raw token is given up as it is drawn.
+    pub fn new(alloc: Global, unit: u32, raws: Raws) -> Result<Feed, Memory>
+        ensures { IfOk result (λ feed. feeding.feeds feed ≡ spec.unit_of unit raws) }
     {
         let state = initial(alloc, unit)?;
-        let (fault, rest) = started(unit, raws);
+        let mut rest = Unread::of(raws);
+        let fault = started(unit, &mut rest)?;
         Ok(Feed {
             alloc,
             state,
-            stream: Stream::new(alloc, &[]),
+            stream: empty(alloc),
             rest,
             refused: refusal_of(fault),
         })
@@ -77,7 +72,7 @@ impl<'a> Feed<'a> {
     }
 
     /// A feed that is at its end, which takes no memory.
-    pub fn ended(alloc: Global) -> Feed<'a>
+    pub fn ended(alloc: Global) -> Feed
         ensures { feeding.feeds result ≡ at_its_end 0 }
     {
         let shift = Shift {
@@ -97,14 +92,14 @@ impl<'a> Feed<'a> {
         Feed {
             alloc,
             state,
-            stream: Stream::new(alloc, &[]),
-            rest: &[],
+            stream: empty(alloc),
+            rest: Unread::none(alloc),
             refused: None,
         }
     }
 
     /// What is still to come, taken out of the feed, which is at its end then.
-    pub fn taken(&mut self) -> Feed<'a>
+    pub fn taken(&mut self) -> Feed
         ensures { result ≡ self.old }
     {
         let end = Feed::ended(self.alloc);
@@ -117,13 +112,13 @@ impl<'a> Feed<'a> {
         ensures refused { self.new.refused ≡ self.old.refused }
     {
         match self.draw()? {
-            Some(token) => Ok(Some(live(self.alloc, &token)?)),
+            Some(token) => Ok(Some(live(self.alloc, token)?)),
             None => Ok(None),
         }
     }
 
     /// The next token that is given out.
-    fn draw(&mut self) -> Result<Option<Hid<'a>>, Refusal>
+    fn draw(&mut self) -> Result<Option<Hid>, Refusal>
         ensures drawn { steps.Draws result (feeding.goes_on self.old) (feeding.goes_on self.new) self.new.state.left }
         ensures refused { self.new.refused ≡ self.old.refused }
     {
@@ -131,24 +126,24 @@ impl<'a> Feed<'a> {
             if let Some(token) = self.draw_here()? {
                 return Ok(Some(token));
             }
-            let Some((first, more)) = first_of(self.rest) else {
+            let Some(first) = self.rest.take() else {
                 return self.end();
             };
-            self.turn(first, more)?;
+            self.turn(first)?;
         }
     }
 
     /// The next token of this segment.
-    fn draw_here(&mut self) -> Result<Option<Hid<'a>>, Refusal>
-        ensures drawn { feeding.DrawsHere result (feeding.goes_on self.old) (feeding.goes_on self.new) (spec.unit_from self.new.rest.now 0 self.new.state) }
-        ensures rest { self.new.rest.now ≡ self.old.rest.now }
+    fn draw_here(&mut self) -> Result<Option<Hid>, Refusal>
+        ensures drawn { feeding.DrawsHere result (feeding.goes_on self.old) (feeding.goes_on self.new) (spec.unit_from self.new.rest 0 self.new.state) }
+        ensures rest { self.new.rest ≡ self.old.rest }
         ensures refused { self.new.refused ≡ self.old.refused }
     {
         draw(self.alloc, &mut self.state, &mut self.stream)
     }
 
     /// Behind the last token.
-    fn end(&self) -> Result<Option<Hid<'a>>, Refusal>
+    fn end(&self) -> Result<Option<Hid>, Refusal>
         requires { feeding.goes_on self.now ≡ spec.at_end self.now.state (outermost self.now.state.groups) }
         ensures { steps.Draws result (spec.at_end self.now.state (outermost self.now.state.groups)) (feeding.goes_on self.now) self.now.state.left }
     {
@@ -159,68 +154,70 @@ impl<'a> Feed<'a> {
     }
 
     /// Takes a directive, or begins a segment, with this token and those behind it.
-    fn turn(&mut self, first: &'a Raw, more: &'a [Raw]) -> Result<(), Refusal>
-        requires { self.old.rest.now ≡ first.now ∷ more.now }
-        ensures turned { feeding.Turns result (spec.unit_from (first.now ∷ more.now) 0 self.old.state) (feeding.goes_on self.new) }
-        ensures less { OnOk result (length self.new.rest.now ≤ length more.now) }
+    fn turn(&mut self, first: Raw) -> Result<(), Refusal>
+        ensures turned { feeding.Turns result (spec.unit_from (first ∷ self.old.rest) 0 self.old.state) (feeding.goes_on self.new) }
+        ensures less { OnOk result (length self.new.rest ≤ length self.old.rest) }
         ensures refused { self.new.refused ≡ self.old.refused }
     {
-        if is_directive(first) {
-            let (line, behind) = cut(more, line_len(more));
-            direct(self.alloc, &mut self.state, first.place, line)?;
-            self.stream = Stream::new(self.alloc, &[]);
-            self.rest = behind;
+        if is_directive(&first) {
+            let line = line_behind(&mut self.rest)?;
+            direct(self.alloc, &mut self.state, first.place, line.as_slice())?;
+            self.stream = empty(self.alloc);
         } else {
-            let count = text_len(more);
-            let (text, _) = cut(self.rest, count + 1);
-            let (_, behind) = cut(more, count);
-            self.stream = self.segment(text);
-            self.rest = behind;
+            let count = text_len(&self.rest);
+            let text = text_behind(self.alloc, &mut self.rest, count)?;
+            self.stream = self.segment(first, text)?;
         }
         Ok(())
     }
 
     /// What is looked at of a text.
-    fn segment(&self, text: &'a [Raw]) -> Stream<'a>
-        ensures { result ≡ (if is_live self.now.state.groups then map fresh text.now else []) }
+    fn segment(&self, first: Raw, text: Unread) -> Result<Stream, Memory>
+        ensures { IfOk result (λ stream. stream ≡ (if is_live self.now.state.groups then map fresh (first ∷ text) else [])) }
     {
         if self.state.groups.is_live() {
-            Stream::new(self.alloc, text)
+            Stream::begun(self.alloc, first, text)
         } else {
-            Stream::new(self.alloc, &[])
+            Ok(empty(self.alloc))
         }
     }
 }
 
 /// The next token of a segment.
-fn draw<'a>(
-    alloc: Global,
-    state: &mut State<'a>,
-    stream: &mut Stream<'a>,
-) -> Result<Option<Hid<'a>>, Refusal>
+fn draw(alloc: Global, state: &mut State, stream: &mut Stream) -> Result<Option<Hid>, Refusal>
     ensures drawn { steps.Draws result (traced state.old.macros MAX_DEPTH stream.old state.old.left) (traced state.old.macros MAX_DEPTH stream.new state.new.left) state.new.left }
     ensures kept { state.new ≡ with_left state.old state.new.left }
 {
     next(alloc, &state.macros, MAX_DEPTH, stream, &mut state.left)
 }
 
-/// The first token, and those behind it.
-fn first_of<'a>(raws: &'a [Raw]) -> Option<(&'a Raw, &'a [Raw])>
-    ensures { MatchOption result (raws.now ≡ []) (λ r. raws.now ≡ r.0.now ∷ r.1.now) }
+/// No token.
+fn empty(alloc: Global) -> Stream
+    ensures { result ≡ [] }
 {
-    let [first, more @ ..] = raws else {
-        return None;
-    };
-    Some((first, more))
+    Stream::new(alloc, Unread::none(alloc))
 }
 
-/// So many tokens, and those behind them.
-fn cut<'a>(raws: &'a [Raw], count: usize) -> (&'a [Raw], &'a [Raw])
-    requires { count ≤ length raws.now }
-    ensures front { result.0.now ≡ take count raws.now }
-    ensures back { result.1.now ≡ drop count raws.now }
+/// Takes what stands on the line.
+fn line_behind(rest: &mut Unread) -> Result<Raws, Memory>
+    ensures front { IfOk result (λ line. line ≡ take (prefix_len spec.goes_on_line rest.old) rest.old) }
+    ensures back { OnOk result (rest.new ≡ drop (prefix_len spec.goes_on_line rest.old) rest.old) }
 {
-    (&raws[..count], &raws[count..])
+    let count = line_len(rest);
+    let line = rest.cut(count)?;
+    Ok(line.into_raws())
+}
+
+/// Takes so many tokens of a text. Where no more follow they stay in place.
+fn text_behind(alloc: Global, rest: &mut Unread, count: usize) -> Result<Unread, Memory>
+    requires { count ≤ length rest.old }
+    ensures front { IfOk result (λ text. text ≡ take count rest.old) }
+    ensures back { OnOk result (rest.new ≡ drop count rest.old) }
+{
+    if count == rest.len() {
+        return Ok(rest.cut_all(alloc));
+    }
+    rest.cut(count)
 }
 
 fn is_directive(raw: &Raw) -> bool
@@ -229,42 +226,60 @@ fn is_directive(raw: &Raw) -> bool
     raw.starts_line && is_hash(raw)
 }
 
-fn line_len(raws: &[Raw]) -> usize
-    ensures value { result ≡ prefix_len spec.goes_on_line raws.now }
-    ensures within { result ≤ length raws.now }
+fn line_len(rest: &Unread) -> usize
+    ensures value { result ≡ prefix_len spec.goes_on_line rest.now }
+    ensures within { result ≤ length rest.now }
 {
-    raws.iter().take_while(|raw| !raw.starts_line).count()
+    let mut left = rest.backward();
+    let mut count = 0usize;
+    while let [behind @ .., raw] = left {
+        if raw.starts_line {
+            return count;
+        }
+        count += 1;
+        left = behind;
+    }
+    count
 }
 
-fn text_len(raws: &[Raw]) -> usize
-    ensures value { result ≡ prefix_len spec.goes_on_text raws.now }
-    ensures within { result ≤ length raws.now }
+fn text_len(rest: &Unread) -> usize
+    ensures value { result ≡ prefix_len spec.goes_on_text rest.now }
+    ensures within { result ≤ length rest.now }
 {
-    raws.iter().take_while(|raw| !is_directive(raw)).count()
+    let mut left = rest.backward();
+    let mut count = 0usize;
+    while let [behind @ .., raw] = left {
+        if is_directive(raw) {
+            return count;
+        }
+        count += 1;
+        left = behind;
+    }
+    count
 }
 
 /// A token as it is given out.
 #[tactic(auto, unfolding(crate::specs::Unit::live_of))]
-fn live(alloc: Global, token: &Hid) -> Result<Token, Refusal>
-    ensures { Gives result (spec.live_of token.now) }
+fn live(alloc: Global, token: Hid) -> Result<Token, Refusal>
+    ensures { Gives result (spec.live_of token) }
 {
     token.spelled.cook(alloc, token.place)
 }
 
-/// The fault with which a unit begins, or what stands behind `#version`.
-fn started<'a>(unit: u32, raws: &'a [Raw]) -> (Option<Fault>, &'a [Raw])
-    ensures { spec.Starts result.0 result.1.now unit raws.now }
+/// The fault with which a unit begins, if there is one; what stands behind `#version` is left.
+fn started(unit: u32, rest: &mut Unread) -> Result<Option<Fault>, Memory>
+    ensures { IfOk result (λ fault. spec.Starts fault rest.new unit rest.old) }
 {
-    let Some((first, more)) = first_of(raws) else {
-        return (Some(at(Place { unit, line: 1 }, Code::E0211)), raws);
+    let Some(first) = rest.take() else {
+        return Ok(Some(at(Place { unit, line: 1 }, Code::E0211)));
     };
-    if !is_directive(first) {
-        return (Some(at(first.place, Code::E0211)), raws);
+    if !is_directive(&first) {
+        return Ok(Some(at(first.place, Code::E0211)));
     }
-    let (line, behind) = cut(more, line_len(more));
-    match versioned(first.place, line) {
-        Ok(()) => (None, behind),
-        Err(fault) => (Some(fault), raws),
+    let line = line_behind(rest)?;
+    match versioned(first.place, line.as_slice()) {
+        Ok(()) => Ok(None),
+        Err(fault) => Ok(Some(fault)),
     }
 }
 
@@ -278,19 +293,14 @@ fn refusal_of(fault: Option<Fault>) -> Option<Refusal>
 }
 
 /// Gives a name a macro.
-fn predefine<'a>(
-    alloc: Global,
-    table: &mut Table<'a>,
-    name: &str,
-    meaning: Macro<'a>,
-) -> Result<(), Memory>
-    ensures { OnOk result (table.new ≡ insert_entry bytes_eq table.old name.now meaning.entry) }
+fn predefine(alloc: Global, table: &mut Table, name: &str, meaning: Macro) -> Result<(), Memory>
+    ensures { OnOk result (table.new ≡ insert_entry bytes_eq table.old name.now meaning) }
 {
     table.set(Text::from_str(alloc, name)?, meaning)
 }
 
 /// The macros that every unit has.
-fn predefined<'a>(alloc: Global) -> Result<Table<'a>, Memory>
+fn predefined(alloc: Global) -> Result<Table, Memory>
     ensures { IfOk result (λ table. table ≡ spec.predefined) }
 {
     let mut table = Table::new(alloc);
@@ -303,7 +313,7 @@ fn predefined<'a>(alloc: Global) -> Result<Table<'a>, Memory>
 }
 
 /// The state of a unit behind `#version`.
-fn initial<'a>(alloc: Global, unit: u32) -> Result<State<'a>, Memory>
+fn initial(alloc: Global, unit: u32) -> Result<State, Memory>
     ensures { IfOk result (λ state. state ≡ spec.initial unit) }
 {
     Ok(State {
@@ -321,8 +331,8 @@ fn initial<'a>(alloc: Global, unit: u32) -> Result<State<'a>, Memory>
 }
 
 /// The live tokens of the unit of this number, or `Source` with its first fault.
-pub fn preprocess(alloc: Global, unit: u32, raws: &Raws) -> Result<Tokens, Refusal>
-    ensures { Gives result (spec.preprocessed unit raws.now) }
+pub fn preprocess(alloc: Global, unit: u32, raws: Raws) -> Result<Tokens, Refusal>
+    ensures { Gives result (spec.preprocessed unit raws) }
 {
     let mut list = Tokens::new(alloc);
     let mut feed = Feed::new(alloc, unit, raws)?;

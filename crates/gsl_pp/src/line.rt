@@ -8,7 +8,7 @@ ghost use Rattle.gsl_pp.specs.Directives as spec;
 use crate::state::State;
 use gsl_base::{Code, Place, Raw, Refusal};
 use gsl_conditions::literal;
-use gsl_macros::{Hid, MAX_DEPTH, Shift, Stream, all, fault};
+use gsl_macros::{Hid, MAX_DEPTH, Shift, Stream, Unread, all, fault};
 use std::alloc::Global;
 
 /// The physical line of the last token of a line.
@@ -76,15 +76,15 @@ fn line_of(
 }
 
 /// What `#line` says; this stands behind the word.
-pub(crate) fn line<'a>(
+pub(crate) fn line(
     alloc: Global,
-    state: &mut State<'a>,
+    state: &mut State,
     place: Place,
-    raws: &'a [Raw],
+    raws: &[Raw],
 ) -> Result<(), Refusal>
     ensures { steps.Leaves result (λ _. state.new) (spec.line state.old place raws.now) }
 {
-    let mut stream = Stream::new(alloc, raws);
+    let mut stream = Stream::new(alloc, Unread::copy_of(alloc, raws)?);
     let tokens = all(
         alloc,
         &state.macros,

@@ -31,7 +31,7 @@ fn live(alloc: Global, source: &[u8]) -> Result<Tokens, Refusal> {
         return Err(Refusal::Memory);
     }
     let raws = lex(alloc, 0, source)?;
-    preprocess(alloc, 0, &raws)
+    preprocess(alloc, 0, raws)
 }
 
 /// The tree of a source.

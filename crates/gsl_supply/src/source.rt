@@ -12,7 +12,7 @@ use std::alloc::Global;
 pub(crate) struct Source<'a> {
     pub alloc: Global,
     pub listed: &'a [Token],
-    pub feed: Feed<'a>,
+    pub feed: Feed,
 }
 
 impl<'a> Source<'a> {

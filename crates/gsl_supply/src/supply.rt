@@ -38,15 +38,15 @@ impl<'a> Supply<'a> {
     }
 
     /// The tokens of a feed.
-    pub fn of_feed(alloc: Global, feed: Feed<'a>) -> Result<Supply<'a>, Memory>
-        ensures comes { IfOk result (λ s. spec.comes s ≡ coming.seen at_start (coming.live_in (feeds feed.entry))) }
+    pub fn of_feed(alloc: Global, feed: Feed) -> Result<Supply<'a>, Memory>
+        ensures comes { IfOk result (λ s. spec.comes s ≡ coming.seen at_start (coming.live_in (feeds feed))) }
         ensures count { IfOk result (λ s. s.count ≡ 0) }
     {
         Supply::of(alloc, &[], feed)
     }
 
-    fn of(alloc: Global, listed: &'a [Token], feed: Feed<'a>) -> Result<Supply<'a>, Memory>
-        ensures comes { IfOk result (λ s. spec.comes s ≡ coming.seen at_start (spec.behind_all listed.now (coming.live_in (feeds feed.entry)))) }
+    fn of(alloc: Global, listed: &'a [Token], feed: Feed) -> Result<Supply<'a>, Memory>
+        ensures comes { IfOk result (λ s. spec.comes s ≡ coming.seen at_start (spec.behind_all listed.now (coming.live_in (feeds feed)))) }
         ensures count { IfOk result (λ s. s.count ≡ 0) }
     {
         let mut supply = Supply {

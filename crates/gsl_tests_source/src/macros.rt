@@ -1,11 +1,11 @@
 use gsl_base::{Code, Fault, Kind, List, Memory, Place, Raw, Refusal, Text};
 use gsl_lex::lex;
-use gsl_macros::{Hid, Macro, Macros, Shift, Stream, Table, all, fault};
+use gsl_macros::{Hid, Macro, Macros, Shift, Stream, Table, Unread, all, fault};
 use std::alloc::Global;
 use std::test::Fail;
 
 /// A table in which `A` is 3.
-fn table<'a>(alloc: Global) -> Result<Table<'a>, Memory> {
+fn table(alloc: Global) -> Result<Table, Memory> {
     let mut table = Table::new(alloc);
     let name = Text::from_str(alloc, "A")?;
     table.set(name, Macro::Number(3))?;
@@ -23,7 +23,7 @@ fn drawn(alloc: Global, raws: &[Raw], left: u32) -> Result<List<Kind>, Refusal> 
         },
     };
     let mut left = left;
-    let mut stream = Stream::new(alloc, raws);
+    let mut stream = Stream::new(alloc, Unread::copy_of(alloc, raws)?);
     let tokens = all(alloc, &macros, 2, &mut stream, &mut left)?;
     kinds(alloc, tokens.as_slice())
 }
@@ -41,7 +41,7 @@ fn given(alloc: Global, text: &str, left: u32) -> Result<List<Kind>, Refusal> {
 fn kinds(alloc: Global, tokens: &[Hid]) -> Result<List<Kind>, Refusal> {
     let mut kinds = List::new(alloc);
     for token in tokens {
-        kinds.push(token.spelled.cook(alloc, token.place)?.kind)?;
+        kinds.push(token.spelled.again(alloc)?.cook(alloc, token.place)?.kind)?;
     }
     Ok(kinds)
 }

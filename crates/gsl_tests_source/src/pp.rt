@@ -34,7 +34,7 @@ fn live_tokens(rt: HostRuntime) -> Result<(), Fail> {
         alloc,
         "#version 450\n#define f(x) x __FILE__\n#if VULKAN\nf(\na)\n#endif\n",
     )?;
-    let tokens = preprocess(alloc, 4, &raws)?;
+    let tokens = preprocess(alloc, 4, raws)?;
     let place = Place { unit: 4, line: 4 };
     let name = Kind::Name(Text::from_str(alloc, "a")?);
     let file = Kind::Signed(4);
@@ -48,7 +48,7 @@ fn live_tokens(rt: HostRuntime) -> Result<(), Fail> {
 fn a_refusal_is_given_again(rt: HostRuntime) -> Result<(), Fail> {
     let alloc = rt.alloc();
     let raws = raws(alloc, "#version 450\n;\n#error\n")?;
-    let mut feed = Feed::new(alloc, 4, &raws)?;
+    let mut feed = Feed::new(alloc, 4, raws)?;
     assert!(rt; feed.next()?.is_some());
     assert_eq!(rt; fault_of(feed.next()), at(3, Code::E0213));
     assert_eq!(rt; fault_of(feed.next()), at(3, Code::E0213));
@@ -59,10 +59,10 @@ fn a_refusal_is_given_again(rt: HostRuntime) -> Result<(), Fail> {
 fn first_faults(rt: HostRuntime) -> Result<(), Fail> {
     let alloc = rt.alloc();
     let none = raws(alloc, "")?;
-    assert_eq!(rt; fault_of(preprocess(alloc, 4, &none)), at(1, Code::E0211));
+    assert_eq!(rt; fault_of(preprocess(alloc, 4, none)), at(1, Code::E0211));
     let open = raws(alloc, "#version 450\n#if 1\n#ifdef X\n")?;
-    assert_eq!(rt; fault_of(preprocess(alloc, 4, &open)), at(2, Code::E0203));
+    assert_eq!(rt; fault_of(preprocess(alloc, 4, open)), at(2, Code::E0203));
     let other = raws(alloc, "#version 450\n#define A 1\n#define A 2\n")?;
-    assert_eq!(rt; fault_of(preprocess(alloc, 4, &other)), at(3, Code::E0209));
+    assert_eq!(rt; fault_of(preprocess(alloc, 4, other)), at(3, Code::E0209));
     Ok(())
 }

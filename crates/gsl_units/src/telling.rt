@@ -18,7 +18,7 @@ fn typed(alloc: Global, stage: Stage, source: &[u8]) -> Result<TypedUnit, Refusa
         return Err(Refusal::Memory);
     }
     let raws = lex(alloc, 0, source)?;
-    let tokens = preprocess(alloc, 0, &raws)?;
+    let tokens = preprocess(alloc, 0, raws)?;
     let unit = parse(alloc, &tokens)?;
     check(alloc, stage, unit.as_slice())
 }

@@ -6,4 +6,4 @@ abbrev pub invariant-loop-token : goal.invariant-loop-token
 invariant-loop-token l = (goes_on l.self ≡ goes_on l.initial.self) × (l.self.refused ≡ l.initial.self.refused)
 
 abbrev pub decreases-loop-token : goal.decreases-loop-token
-decreases-loop-token l = length l.self.rest.now
+decreases-loop-token l = length l.self.rest
