@@ -5,3 +5,4 @@ pub mod Plain
 pub mod Gathering
 pub mod Example
 pub mod Scoping
+pub mod Tabled

@@ -1,5 +1,5 @@
 -- Declarations among statements (GLSL 4.50, 4.1 and 4.3).
-use Rattle.std.specs.Prelude.{List, [], ◌∷◌, map, Ok}
+use Rattle.std.specs.Prelude.{List, [], map, Ok}
 use Rattle.gsl_base.specs.Checked.{Checked, ◌>>=◌}
 use Rattle.gsl_base.specs.declared.fault.Code.TheVariants.{E0701}
 use Rattle.gsl_syntax.specs.declared.expr.TypeSpec.{TypeSpec}

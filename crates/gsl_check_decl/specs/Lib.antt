@@ -4,3 +4,4 @@ pub mod Locals
 pub mod Structs
 pub mod Declarations
 pub mod Globals
+pub mod Tables

@@ -7,6 +7,8 @@
 
 mod asked;
 mod declarations;
+mod gathered;
+mod heads;
 mod heights;
 mod locals;
 mod sound;
@@ -14,12 +16,11 @@ mod structs;
 
 pub use asked::{is_declared, is_high, is_reserved, is_void, may_be_had};
 pub use declarations::{as_one, declaration};
+pub use heads::head_key;
 pub use heights::highest;
 pub use locals::{
     begun_variable, declarator, known_as, may_be_plain, may_begin, plain_variable, qualified,
     qualified_by, refused_layout, refused_value, set_variable,
 };
 pub use sound::{Outside, SoundEnv, number_behind, struct_behind};
-pub use structs::{
-    declared_whole, has_member, may_be_member, may_be_struct, members_of, structured,
-};
+pub use structs::{declared_whole, may_be_struct, members_of, structured};

@@ -7,15 +7,17 @@ ghost use Rattle.gsl_types.specs.declared.ty.Member.{Member as OneMember};
 ghost use Rattle.gsl_layout.specs.Extents.{ArePlain, plain};
 ghost use Rattle.gsl_makers.specs.Heights.{AreHeights};
 ghost use Rattle.gsl_names.specs.declared.entry.Entry.TheVariants as entry;
-ghost use Rattle.gsl_names.specs.Scopes.{declare as declare_in};
+ghost use Rattle.gsl_names.specs.Scopes.{declare as declare_in, all_of};
 ghost use Rattle.gsl_check_decl.specs.Steps as steps;
 ghost use Rattle.gsl_check_decl.specs.Locals as locals;
 ghost use Rattle.gsl_check_decl.specs.Structs as structs;
 ghost use Rattle.gsl_check_decl.specs.Globals as globals;
+ghost use Rattle.gsl_check_decl.specs.Tables as tables;
 
+use crate::heads::head_key;
 use gsl_base::{List, Memory, Text};
 use gsl_check_expr::Env;
-use gsl_names::{Entry, Names};
+use gsl_names::{Entries, Entry, Names};
 use gsl_tree::{
     Block, BlockMember, Folded, Foldeds, GlobalVar, Interface, LocalSize, Params, Prototype,
 };
@@ -25,14 +27,17 @@ use std::marker::Model;
 use std::mem::replace;
 
 /// What an expression or a statement is checked in: a scope is open, and the structs are well formed, have plain members, and have their
-/// heights beside them. Contracts see the `Env`.
+/// heights beside them. The heads of functions are found by a table. Contracts see the `Env`.
 #[derive(Drop)]
 pub struct SoundEnv {
     env: Env,
+    /// The heads of functions by their keys, in one scope.
+    heads: Names,
 }
 
 impl Model for SoundEnv {
-    ghost use Rattle.std.specs.Prelude.{◌≡◌, ◌<◌, length};
+    ghost use Rattle.std.specs.Prelude.{◌≡◌, ◌<◌, ◌∷◌, [], length};
+    ghost use Rattle.gsl_check_decl.specs.Tables.{heads_above};
     ghost use Rattle.gsl_types.specs.Known.{AreStructs};
     ghost use Rattle.gsl_layout.specs.Extents.{ArePlain};
     ghost use Rattle.gsl_makers.specs.Heights.{AreHeights};
@@ -45,7 +50,7 @@ impl Model for SoundEnv {
 
     ghost view = { λ s. s.env };
 
-    ghost invariant = { λ s. AreStructs s.env.scene.structs × ArePlain s.env.scene.structs × AreHeights s.env.scene.structs s.env.heights × (length s.env.heights ≡ length s.env.scene.structs) × (0 < length s.env.names) };
+    ghost invariant = { λ s. AreStructs s.env.scene.structs × ArePlain s.env.scene.structs × AreHeights s.env.scene.structs s.env.heights × (length s.env.heights ≡ length s.env.scene.structs) × (0 < length s.env.names) × (s.heads ≡ heads_above 0 [] s.env.scene.prototypes ∷ []) };
 }
 
 /// What stands around the body of a function: the parameters and local variables before it, and what is known of these.
@@ -67,16 +72,22 @@ pub fn number_behind(count: usize) -> Result<u32, Memory>
 }
 
 impl SoundEnv {
-    /// What is declared, where a scope is open, and the structs are well formed, have plain members, and have their heights beside them.
-    pub fn new(env: Env) -> SoundEnv
+    /// What is declared, where a scope is open, no function has a head, and the structs are well formed, have plain members, and have their
+    /// heights beside them.
+    #[tactic(auto, unfolding(crate::specs::Tables::heads_above))]
+    pub fn new(alloc: Global, env: Env) -> SoundEnv
         requires known { AreStructs env.scene.structs }
         requires plain { ArePlain env.scene.structs }
         requires heights { AreHeights env.scene.structs env.heights }
         requires count { length env.heights ≡ length env.scene.structs }
         requires scopes { 0 < length env.names }
+        requires heads { env.scene.prototypes ≡ [] }
         ensures { result ≡ env }
     {
-        SoundEnv { env }
+        SoundEnv {
+            env,
+            heads: Names::new(alloc),
+        }
     }
 
     /// What is declared, to be looked at.
@@ -97,7 +108,7 @@ impl SoundEnv {
         ensures plain { ArePlain result.scene.structs }
         ensures heights { AreHeights result.scene.structs result.heights }
     {
-        let SoundEnv { env } = self;
+        let SoundEnv { env, .. } = self;
         env
     }
 
@@ -183,9 +194,44 @@ impl SoundEnv {
         ensures { IfOk result (λ number. (number ≡ length self.old.scene.prototypes) × (self.new ≡ globals.with_head next self.old)) }
     {
         let number = number_behind(self.env.scene.prototypes.len())?;
+        let key = head_key(alloc, &next.name, next.params.as_slice())?;
         self.declare(alloc, &next.name, Entry::Function(number))?;
-        self.env.scene.prototypes.push(next)?;
+        self.push_head(alloc, number, key, next)?;
         Ok(number)
+    }
+
+    /// Puts a head behind the others, and in the table. For want of memory all heads are given up, so that the table tells of them.
+    #[tactic(auto, using(crate::proofs::Tabled::head_behind), unfolding(crate::specs::Tables::heads_above))]
+    fn push_head(
+        &mut self,
+        alloc: Global,
+        number: u32,
+        key: Text,
+        next: Prototype,
+    ) -> Result<(), Memory>
+        requires number { number ≡ length self.old.scene.prototypes }
+        requires key { key ≡ tables.head_key next.name next.params }
+        ensures { OnOk result (self.new ≡ record self.old { scene = record self.old.scene { prototypes = self.old.scene.prototypes ++ next ∷ [] } }) }
+    {
+        self.env.scene.prototypes.push(next)?;
+        let heads = replace(&mut self.heads, Names::new(alloc));
+        match heads.with(alloc, key, Entry::Function(number)) {
+            Ok(heads) => {
+                self.heads = heads;
+                Ok(())
+            }
+            Err(Memory) => {
+                self.env.scene.prototypes = List::new(alloc);
+                Err(Memory)
+            }
+        }
+    }
+
+    /// What the heads of a key stand for, the last one first.
+    pub fn heads_of(&self, alloc: Global, key: &Text) -> Result<Entries, Memory>
+        ensures { IfOk result (λ entries. entries ≡ all_of (tables.heads_above 0 [] self.now.scene.prototypes ∷ []) key.now) }
+    {
+        self.heads.find_all(alloc, key)
     }
 
     /// Declares the size of the work group.

@@ -11,32 +11,25 @@ ghost use Rattle.gsl_check_decl.specs.Declaring as declaring;
 ghost use Rattle.gsl_check_decl.specs.Structs as spec;
 
 use crate::asked::{is_declared, is_high, is_reserved, may_be_had};
+use crate::gathered::Gathered;
 use crate::heights::highest;
 use crate::sound::SoundEnv;
-use gsl_base::{Code, List, Memory, Refusal, Text};
+use gsl_base::{Code, Memory, Refusal, Text};
 use gsl_check_expr::{Env, Written, declared, whole_type, written_type};
 use gsl_syntax::{Declared, Dim, Name, Struct, StructMember};
 use gsl_types::{Member, Members, Ty};
 use gsl_typing::refuse;
 use std::alloc::Global;
 
-/// Whether one of the members has a name.
-#[tactic(auto, unfolding(crate::specs::Structs::has_member))]
-pub fn has_member(members: &[Member], name: &Text) -> bool
-    ensures { result ≡ spec.has_member members.now name.now }
-{
-    members.iter().any(|member| member.name == *name)
-}
-
 /// Whether a member may be declared behind others.
 #[tactic(auto, unfolding(crate::specs::Structs::may_be_member))]
-pub fn may_be_member(env: &Env, name: &Name, ty: &Ty, members: &[Member]) -> Result<(), Refusal>
+fn may_be_member(env: &Env, name: &Name, ty: &Ty, members: &Gathered) -> Result<(), Refusal>
     requires heights { AreHeights env.now.scene.structs env.now.heights }
     ensures gives { Gives result (spec.may_be_member env.now.scene name.now ty.now members.now) }
     ensures sound { IfOk result (λ _. IsSound (length env.now.scene.structs) ty.now) }
     ensures plain { IfOk result (λ _. IsTrue (plain ty.now)) }
 {
-    if has_member(members, &name.text) {
+    if members.has(&name.text) {
         return Err(refuse(name.place, Code::E0403));
     }
     if is_reserved(&name.text) {
@@ -65,14 +58,14 @@ fn push_member(
     env: &Env,
     name: &Name,
     ty: Ty,
-    members: &mut Members,
+    members: &mut Gathered,
 ) -> Result<(), Refusal>
     requires heights { AreHeights env.now.scene.structs env.now.heights }
     ensures { GivesBy (λ _. members.new) result (spec.with_member env.now.scene name.now ty members.old) }
 {
-    may_be_member(env, name, &ty, members.as_slice())?;
+    may_be_member(env, name, &ty, members)?;
     let member = member_of(alloc, &name.text, ty)?;
-    members.push(member)?;
+    members.push(alloc, member)?;
     Ok(())
 }
 
@@ -93,7 +86,7 @@ fn push_name(
     env: &Env,
     base: &Written,
     one: &Declared,
-    members: &mut Members,
+    members: &mut Gathered,
 ) -> Result<(), Refusal>
     requires known { AreStructs env.now.scene.structs }
     requires heights { AreHeights env.now.scene.structs env.now.heights }
@@ -109,7 +102,7 @@ fn push_names(
     env: &Env,
     base: &Written,
     names: &[Declared],
-    members: &mut Members,
+    members: &mut Gathered,
 ) -> Result<(), Refusal>
     requires known { AreStructs env.now.scene.structs }
     requires heights { AreHeights env.now.scene.structs env.now.heights }
@@ -127,7 +120,7 @@ fn push_line(
     alloc: Global,
     env: &Env,
     line: &StructMember,
-    members: &mut Members,
+    members: &mut Gathered,
 ) -> Result<(), Refusal>
     requires known { AreStructs env.now.scene.structs }
     requires heights { AreHeights env.now.scene.structs env.now.heights }
@@ -142,7 +135,7 @@ fn push_lines(
     alloc: Global,
     env: &Env,
     lines: &[StructMember],
-    members: &mut Members,
+    members: &mut Gathered,
 ) -> Result<(), Refusal>
     requires known { AreStructs env.now.scene.structs }
     requires heights { AreHeights env.now.scene.structs env.now.heights }
@@ -162,9 +155,9 @@ pub fn members_of(alloc: Global, env: &Env, lines: &[StructMember]) -> Result<Me
     ensures sound { IfOk result (λ members. AllByRecursion (λ (member : OneMember). IsSound (length env.now.scene.structs) member.ty) members) }
     ensures plain { IfOk result (λ members. AllByRecursion (λ (member : OneMember). IsTrue (plain member.ty)) members) }
 {
-    let mut members = List::new(alloc);
+    let mut members = Gathered::new(alloc);
     push_lines(alloc, env, lines, &mut members)?;
-    Ok(members)
+    Ok(members.into_members())
 }
 
 /// How high a struct of a name and members is, which may be declared.

@@ -1,2 +1,3 @@
 pub mod Builtins
 pub mod Heads
+pub mod Finding

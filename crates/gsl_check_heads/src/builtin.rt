@@ -153,9 +153,12 @@ pub fn begun_in(alloc: Global, stage: Stage) -> Result<SoundEnv, Memory>
     ensures { IfOk result (λ env. env ≡ spec.begun_in stage) }
 {
     let names = first_names(alloc, stage)?;
-    Ok(SoundEnv::new(Env {
-        names,
-        scene: first_scene(alloc, stage),
-        heights: List::new(alloc),
-    }))
+    Ok(SoundEnv::new(
+        alloc,
+        Env {
+            names,
+            scene: first_scene(alloc, stage),
+            heights: List::new(alloc),
+        },
+    ))
 }

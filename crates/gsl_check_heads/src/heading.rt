@@ -46,7 +46,7 @@ fn is_no_result(scene: &Scene, returns: &Ty) -> bool
     !(is_void(returns) || may_be_had(scene, returns))
 }
 
-/// Whether the head does not go with those before it.
+/// Whether the head does not go with those before it; the first head of the function, if there is one, has this number.
 fn is_against(
     env: &Env,
     functions: &[Function],
@@ -54,17 +54,17 @@ fn is_against(
     name: &Text,
     returns: &Ty,
     params: &[(Direction, Ty)],
+    number: Option<usize>,
 ) -> bool
-    ensures { result ≡ (spec.disagrees env.now.scene.prototypes name.now returns.now params.now || (defined && spec.has_body_of functions.now (spec.head_number name.now params.now env.now.scene.prototypes)) || spec.is_other_main name.now returns.now params.now) }
+    ensures { result ≡ (spec.disagrees_by returns.now params.now (spec.head_at env.now.scene.prototypes number) || (defined && spec.has_body_of functions.now number) || spec.is_other_main name.now returns.now params.now) }
 {
-    let heads = env.scene.prototypes.as_slice();
-    disagrees(heads, name, returns, params)
-        || (defined && has_body_of(functions, head_number(name, params, heads)))
+    disagrees(env.scene.prototypes.as_slice(), number, returns, params)
+        || (defined && has_body_of(functions, number))
         || is_other_main(name, returns, params)
 }
 
-/// Whether a function may be declared with a head.
-#[tactic(auto, unfolding(crate::specs::Heads::may_be_head))]
+/// Whether a function may be declared with a head; its first head, if there is one, has this number.
+#[tactic(auto, unfolding(crate::specs::Heads::may_be_head, crate::specs::Heads::disagrees))]
 pub fn may_be_head(
     env: &Env,
     functions: &[Function],
@@ -72,8 +72,10 @@ pub fn may_be_head(
     name: &Name,
     returns: &Ty,
     params: &[(Direction, Ty)],
+    number: Option<usize>,
 ) -> Result<(), Refusal>
     requires heights { AreHeights env.now.scene.structs env.now.heights }
+    requires number { number ≡ spec.head_number name.now.text params.now env.now.scene.prototypes }
     ensures { Gives result (spec.may_be_head env.now functions.now defined name.now returns.now params.now) }
 {
     if is_other(env.names.find_here(&name.text)) {
@@ -82,7 +84,7 @@ pub fn may_be_head(
     if is_reserved(&name.text) || names_function(&name.text) {
         return Err(refuse(name.place, Code::E0404));
     }
-    if is_against(env, functions, defined, &name.text, returns, params) {
+    if is_against(env, functions, defined, &name.text, returns, params, number) {
         return Err(refuse(name.place, Code::E0405));
     }
     if is_no_result(&env.scene, returns) {
@@ -113,19 +115,20 @@ fn prototype_of(
     })
 }
 
-/// Declares a head, if it is the first of its function. The answer is the number of the function.
+/// Declares a head, if it is the first of its function, which has none of a number else. The answer is the number of the function.
 #[tactic(auto, unfolding(crate::specs::Heads::headed))]
 fn headed(
     alloc: Global,
     name: &Name,
     returns: &Ty,
     params: Params,
+    number: Option<usize>,
     env: &mut SoundEnv,
 ) -> Result<u32, Memory>
+    requires number { number ≡ spec.head_number name.now.text params env.old.scene.prototypes }
     ensures { IfOk result (λ number. spec.headed (record { name = name.now.text; result = returns.now; params = params; place = name.now.place }) env.old ≡ (number, env.new)) }
 {
-    let heads = env.get().scene.prototypes.as_slice();
-    match head_number(&name.text, params.as_slice(), heads) {
+    match number {
         Some(number) => number_behind(number),
         None => {
             let next = prototype_of(alloc, name, returns, params)?;
@@ -147,6 +150,7 @@ pub fn declared_head(
     ensures { GivesBy (λ head. spec.head_in head env.new) result (spec.declared_head env.old functions.now defined name.now returns params) }
 {
     let typed = typed_params(alloc, params.as_slice())?;
+    let first = head_number(alloc, env, &name.text, typed.as_slice())?;
     may_be_head(
         env.get(),
         functions,
@@ -154,8 +158,9 @@ pub fn declared_head(
         name,
         &returns,
         typed.as_slice(),
+        first,
     )?;
-    let number = headed(alloc, name, &returns, typed, env)?;
+    let number = headed(alloc, name, &returns, typed, first, env)?;
     Ok(Head {
         number,
         result: returns,

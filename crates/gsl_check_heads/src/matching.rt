@@ -1,14 +1,18 @@
 //! Which heads are of one function.
 
-ghost use Rattle.std.specs.Prelude.{◌≡◌, Some, nat_eq};
+ghost use Rattle.std.specs.Prelude.{◌≡◌, Some, None, IfOk, nat_eq};
 ghost use Rattle.std.specs.List.{list_any};
 ghost use Rattle.gsl_tree.specs.declared.unit.Function.{Function as Defined};
 ghost use Rattle.gsl_check_heads.specs.Heads as spec;
+ghost use Rattle.gsl_check_heads.specs.Finding as finding;
 
-use gsl_base::Text;
+use gsl_base::{Memory, Text};
+use gsl_check_decl::{SoundEnv, head_key};
+use gsl_names::Entry;
 use gsl_overload::identical;
 use gsl_tree::{Function, Prototype};
 use gsl_types::{Direction, Ty};
+use std::alloc::Global;
 
 /// Whether types of parameters are the same one by one.
 fn same_types(mut a: &[(Direction, Ty)], mut b: &[(Direction, Ty)]) -> bool
@@ -66,21 +70,56 @@ fn is_of(name: &Text, params: &[(Direction, Ty)], head: &Prototype) -> bool
     head.name == *name && same_types(head.params.as_slice(), params)
 }
 
-/// The number of the first head of a function.
-#[tactic(auto, unfolding(crate::specs::Heads::head_number))]
-pub fn head_number(
+/// Whether the head of a number is of the function of this name and these parameters.
+fn is_numbered(
+    prototypes: &[Prototype],
     name: &Text,
     params: &[(Direction, Ty)],
-    prototypes: &[Prototype],
-) -> Option<usize>
-    ensures { result ≡ spec.head_number name.now params.now prototypes.now }
+    number: u32,
+) -> bool
+    ensures { result ≡ finding.is_numbered prototypes.now name.now params.now number }
 {
-    for k in 0..prototypes.len() {
-        if is_of(name, params, &prototypes[k]) {
-            return Some(k);
-        }
+    match prototypes.get(number as usize) {
+        Some(head) => is_of(name, params, head),
+        None => false,
     }
-    None
+}
+
+/// The last of the entries that is a head of the function of this name and these parameters.
+fn oldest(
+    prototypes: &[Prototype],
+    name: &Text,
+    params: &[(Direction, Ty)],
+    entries: &[Entry],
+) -> Option<usize>
+    ensures { result ≡ finding.oldest (finding.is_numbered prototypes.now name.now params.now) None entries.now }
+{
+    let mut found = None;
+    let mut rest = entries;
+    while let [entry, more @ ..] = rest {
+        if let Entry::Function(number) = *entry {
+            if is_numbered(prototypes, name, params, number) {
+                found = Some(number as usize);
+            }
+        }
+        rest = more;
+    }
+    found
+}
+
+/// The number of the first head of a function, by the table of heads.
+pub fn head_number(
+    alloc: Global,
+    env: &SoundEnv,
+    name: &Text,
+    params: &[(Direction, Ty)],
+) -> Result<Option<usize>, Memory>
+    ensures { IfOk result (λ number. number ≡ spec.head_number name.now params.now env.now.scene.prototypes) }
+{
+    let key = head_key(alloc, name, params)?;
+    let entries = env.heads_of(alloc, &key)?;
+    let prototypes = env.get().scene.prototypes.as_slice();
+    Ok(oldest(prototypes, name, params, entries.as_slice()))
 }
 
 /// Whether an earlier head has another result or other directions.
@@ -90,17 +129,16 @@ fn disagrees_with(returns: &Ty, params: &[(Direction, Ty)], head: &Prototype) ->
     !(identical(&head.result, returns) && same_directions(head.params.as_slice(), params))
 }
 
-/// Whether an earlier head of the function has another result or other directions.
-#[tactic(auto, unfolding(crate::specs::Heads::disagrees))]
+/// Whether the first head of the function, of this number, has another result or other directions.
 pub fn disagrees(
     prototypes: &[Prototype],
-    name: &Text,
+    number: Option<usize>,
     returns: &Ty,
     params: &[(Direction, Ty)],
 ) -> bool
-    ensures { result ≡ spec.disagrees prototypes.now name.now returns.now params.now }
+    ensures { result ≡ spec.disagrees_by returns.now params.now (spec.head_at prototypes.now number) }
 {
-    match head_number(name, params, prototypes) {
+    match number {
         Some(number) => match prototypes.get(number) {
             Some(head) => disagrees_with(returns, params, head),
             None => false,

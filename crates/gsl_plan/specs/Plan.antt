@@ -3,7 +3,7 @@ use Rattle.std.specs.Prelude.{ℕ, Bool, false, ◌==◌, List, [], ◌∷◌, O
 use Rattle.std.specs.Option.{option_map}
 use Rattle.std.specs.Str.{bytes_eq}
 use Rattle.gsl_base.specs.declared.stage.Stage.{Stage}
-use Rattle.gsl_base.specs.declared.stage.Stage.TheVariants.{Compute}
+use Rattle.gsl_base.specs.declared.stage.Stage.TheVariants.{Vertex, Fragment, Compute}
 use Rattle.gsl_plan.specs.declared.command.Command.{Command}
 use Rattle.gsl_plan.specs.declared.command.Command.TheVariants as command
 
@@ -36,9 +36,17 @@ operands (word ∷ words) =
 abbrev pub no_plan : Option Plan
 no_plan = None
 
--- compute shaders alone are taken so far
+abbrev pub stage_of : Name → Option Stage
+stage_of word =
+    if bytes_eq word (codes "vert") then Some Vertex else if bytes_eq word (codes "frag") then Some Fragment else if bytes_eq word (codes "comp") then Some Compute else None
+
+abbrev pub compile_in : Option Stage → Name → Name → Option Plan
+compile_in None out file = None
+compile_in (Some stage) out file = Some (Compile stage out (file ∷ []))
+
+-- the stage by its word
 abbrev pub compile_for : Name → Name → Name → Option Plan
-compile_for stage out file = if bytes_eq stage (codes "comp") then Some (Compile Compute out (file ∷ [])) else None
+compile_for stage out file = compile_in (stage_of stage) out file
 
 abbrev pub compile_of : List Name → Option Plan
 compile_of (stage ∷ out ∷ file ∷ []) = compile_for stage out file
@@ -61,7 +69,7 @@ abbrev pub given : Option (List Name) → (List Name → Option Plan) → Option
 given None f = None
 given (Some words) f = f words
 
--- `compile comp OUT FILE`, `dis MODULE OUT`, `asm TEXT OUT`, `check MODULE`
+-- `compile STAGE OUT FILE`, `dis MODULE OUT`, `asm TEXT OUT`, `check MODULE`
 abbrev pub named : Name → List Name → Option Plan
 named command words =
     if bytes_eq command (codes "compile") then compile_of words else if bytes_eq command (codes "dis") then disassemble_of words

@@ -91,14 +91,29 @@ fn compile_of(alloc: Global, operands: &[&str]) -> Result<Command, Memory>
 fn compile_for(alloc: Global, stage: &str, out: &str, file: &str) -> Result<Command, Memory>
     ensures { IfOk result (λ found. plan_in found ≡ spec.compile_for stage.now out.now file.now) }
 {
-    if stage != "comp" {
-        return usage(alloc);
+    match stage_of(stage) {
+        Some(stage) => Ok(Command::Compile {
+            stage,
+            out: Text::from_str(alloc, out)?,
+            file: Text::from_str(alloc, file)?,
+        }),
+        None => usage(alloc),
     }
-    Ok(Command::Compile {
-        stage: Stage::Compute,
-        out: Text::from_str(alloc, out)?,
-        file: Text::from_str(alloc, file)?,
-    })
+}
+
+/// The stage of a word.
+fn stage_of(word: &str) -> Option<Stage>
+    ensures { result ≡ spec.stage_of word.now }
+{
+    if word == "vert" {
+        Some(Stage::Vertex)
+    } else if word == "frag" {
+        Some(Stage::Fragment)
+    } else if word == "comp" {
+        Some(Stage::Compute)
+    } else {
+        None
+    }
 }
 
 fn disassemble_of(alloc: Global, operands: &[&str]) -> Result<Command, Memory>

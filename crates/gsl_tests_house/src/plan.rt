@@ -33,7 +33,8 @@ fn told(alloc: Global, command: Command) -> Result<String, Memory> {
 fn compiling(stage: Stage) -> &'static str {
     match stage {
         Stage::Compute => "compile comp",
-        Stage::Vertex | Stage::Fragment => "compile",
+        Stage::Vertex => "compile vert",
+        Stage::Fragment => "compile frag",
     }
 }
 
@@ -52,6 +53,14 @@ fn each_command_has_its_operands(rt: HostRuntime) -> Result<(), Fail> {
     assert_eq!(rt;
         shown(alloc, "compile comp o.spv a.comp")?.as_str(),
         "compile comp o.spv a.comp"
+    );
+    assert_eq!(rt;
+        shown(alloc, "compile vert o.spv a.vert")?.as_str(),
+        "compile vert o.spv a.vert"
+    );
+    assert_eq!(rt;
+        shown(alloc, "compile frag o.spv a.frag")?.as_str(),
+        "compile frag o.spv a.frag"
     );
     assert_eq!(rt;
         shown(alloc, "dis m.spv o.txt")?.as_str(),
@@ -85,7 +94,7 @@ fn two_dashes_end_the_options(rt: HostRuntime) -> Result<(), Fail> {
 fn other_words_are_no_command(rt: HostRuntime) -> Result<(), Fail> {
     let alloc = rt.alloc();
     for line in [
-        "compile vert o.spv a.vert",
+        "compile geom o.spv a.geom",
         "compile comp o.spv",
         "compile comp o.spv a.comp b.comp",
         "compile comp -o a.comp",

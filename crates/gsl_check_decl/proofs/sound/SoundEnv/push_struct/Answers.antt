@@ -15,7 +15,7 @@ invariant_of-self-in-Ok c =
     (subst (λ (e : Env). c.args.height ≡ height_over e.scene.structs c.args.next.members) (sym c.self.view_is) c.requires.height)
     c.in-Ok.ensures.ok
     c.in_ok-push.ensures.ok in
-    (kept.0, kept.1, kept.2, kept.3, c.self.invariant.4)
+    (kept.0, kept.1, kept.2, kept.3, c.self.invariant.4, c.self.invariant.5)
 
 pub invariant_of-self-in-Err : goal.invariant_of-self-in-Err
 invariant_of-self-in-Err c =
@@ -26,4 +26,4 @@ invariant_of-self-in-Err c =
     c.in_ok-push.ensures.ok
     c.len-count.ensures
     c.truncate.ensures in
-    (kept.0, kept.1, kept.2, kept.3, c.self.invariant.4)
+    (kept.0, kept.1, kept.2, kept.3, c.self.invariant.4, c.self.invariant.5)
