@@ -1,5 +1,5 @@
 -- What is found in the table of heads is the first head of a function.
-use Rattle.std.proofs.Common.{◌≡◌, ℕ, zero, suc, ◌+◌, Bool, true, false, ◌&&◌, List, [], ◌∷◌, ◌++◌, Option, Some, None, slice_get, bytes_eq, if◌then◌else◌, refl, ap, sym, ◌∙◌, subst, arith, append-nil, true≢false}
+use Rattle.std.proofs.Common.{◌≡◌, ℕ, suc, ◌+◌, Bool, true, false, List, [], ◌∷◌, ◌++◌, Option, Some, None, slice_get, bytes_eq, if◌then◌else◌, refl, ap, sym, ◌∙◌, arith, append-nil, true≢false}
 use Rattle.std.proofs.lemmas.Slice.Eq.{bytes_eq-Decides}
 use Rattle.std.proofs.lemmas.Bool.{and_parts}
 use Rattle.gsl_types.specs.declared.ty.Direction.{Direction}
@@ -72,3 +72,9 @@ oldest_is prototypes name params key entries is e =
     ap (oldest (is_numbered prototypes name params) None) (e ∙ ap (all_of (heads_above 0 [] prototypes ∷ [])) is ∙ append-nil (all_in (heads_above 0 [] prototypes) (head_key name params)))
     ∙ above (is_numbered prototypes name params) name params 0 [] None prototypes (λ i q at. let z : 0 + i ≡ i = omega arith in ap (is_numbered prototypes name params) z ∙ ap (is_head_of name params) at)
     ∙ else_none (number_from 0 name params prototypes)
+
+-- the same of what the code looks at
+pub head_found : (prototypes shown : List Prototype) (name : List ℕ) (params : List (Direction × Ty)) (key : List ℕ) (entries listed : List Entry) (result : Option ℕ) → shown ≡ prototypes → listed ≡ entries → key ≡ head_key name params →
+    entries ≡ all_of (heads_above 0 [] prototypes ∷ []) key → result ≡ oldest (is_numbered shown name params) None listed → result ≡ head_number name params prototypes
+head_found prototypes shown name params key entries listed result s l is e r =
+    r ∙ ap (λ ps. oldest (is_numbered ps name params) None listed) s ∙ ap (oldest (is_numbered prototypes name params) None) l ∙ oldest_is prototypes name params key entries is e

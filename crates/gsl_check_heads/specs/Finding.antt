@@ -15,8 +15,11 @@ is_head_of name params (Some p) = is_of name params p
 abbrev pub is_numbered : List Prototype → List ℕ → List (Direction × Ty) → ℕ → Bool
 is_numbered prototypes name params number = is_head_of name params (slice_get prototypes number)
 
+abbrev pub found_at : (ℕ → Bool) → Option ℕ → Entry → Option ℕ
+found_at test found (entry.Function number) = if test number then Some number else found
+found_at test found _ = found
+
 -- the number of the last entry of a function that passes a test, or what was found before
 unfoldable pub oldest : (ℕ → Bool) → Option ℕ → List Entry → Option ℕ
 oldest test found [] = found
-oldest test found ((entry.Function number) ∷ entries) = oldest test (if test number then Some number else found) entries
-oldest test found (_ ∷ entries) = oldest test found entries
+oldest test found (one ∷ entries) = oldest test (found_at test found one) entries

@@ -85,7 +85,30 @@ fn is_numbered(
     }
 }
 
+/// The number of an entry that is a head of the function of this name and these parameters, or what was found before.
+fn found_at(
+    prototypes: &[Prototype],
+    name: &Text,
+    params: &[(Direction, Ty)],
+    entry: Entry,
+    found: Option<usize>,
+) -> Option<usize>
+    ensures { result ≡ finding.found_at (finding.is_numbered prototypes.now name.now params.now) found entry }
+{
+    match entry {
+        Entry::Function(number) => {
+            if is_numbered(prototypes, name, params, number) {
+                Some(number as usize)
+            } else {
+                found
+            }
+        }
+        _ => found,
+    }
+}
+
 /// The last of the entries that is a head of the function of this name and these parameters.
+#[tactic(auto, unfolding(crate::specs::Finding::oldest))]
 fn oldest(
     prototypes: &[Prototype],
     name: &Text,
@@ -97,11 +120,7 @@ fn oldest(
     let mut found = None;
     let mut rest = entries;
     while let [entry, more @ ..] = rest {
-        if let Entry::Function(number) = *entry {
-            if is_numbered(prototypes, name, params, number) {
-                found = Some(number as usize);
-            }
-        }
+        found = found_at(prototypes, name, params, *entry, found);
         rest = more;
     }
     found
