@@ -1,0 +1,3 @@
+mod Distinguished
+mod Joined
+mod Places

@@ -1,0 +1,6 @@
+//! Draft.
+#![tactic(auto)]
+
+mod interfaces;
+mod key;
+mod sets;
