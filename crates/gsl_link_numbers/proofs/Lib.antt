@@ -1,3 +1,4 @@
 mod Distinguished
 mod Joined
+mod Ordered
 mod Places

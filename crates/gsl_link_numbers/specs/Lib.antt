@@ -1,2 +1,4 @@
 pub mod Keys
 pub mod Joining
+pub mod Placing
+pub mod Standing

@@ -5,4 +5,7 @@ mod blocks;
 mod heads;
 mod interfaces;
 mod key;
+mod order;
 mod sets;
+mod site;
+mod spots;
