@@ -1,4 +1,6 @@
 mod Distinguished
 mod Joined
+mod Numbered
 mod Ordered
 mod Places
+mod Sited

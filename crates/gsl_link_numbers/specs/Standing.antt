@@ -65,10 +65,12 @@ abbrev pub standing_all : Spots → ℕ → List Side → List Site
 standing_all spots unit [] = []
 standing_all spots unit (side ∷ sides) = standing_from spots unit 0 side.unit.globals ++ standing_all spots (unit + 1) sides
 
--- the numbers of a unit's variables, where these declarations stand
-abbrev pub places_from : Spots → List Site → ℕ → ℕ → List GlobalVar → List ℕ
-places_from spots sites unit index [] = []
-places_from spots sites unit index (g ∷ globals) = position_or_len (site_eq (site_of spots unit index g)) sites ∷ places_from spots sites unit (index + 1) globals
+-- the numbers of a unit's variables behind others, where these declarations stand
+abbrev pub places_behind : List ℕ → Spots → List Site → ℕ → ℕ → List GlobalVar → List ℕ
+places_behind places spots sites unit index [] = places
+places_behind places spots sites unit index (g ∷ globals) =
+    places_behind (places ++ position_or_len (site_eq (site_of spots unit index g)) sites ∷ []) spots sites unit (index + 1) globals
 
+-- the declarations with one, if it stands for its variable
 abbrev pub with_standing : Spots → List Site → ℕ → ℕ → GlobalVar → List Site
 with_standing spots sites unit index g = if stands_there spots unit index g then insert_key site_eq sites (site_at unit index) else sites

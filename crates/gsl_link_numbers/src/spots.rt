@@ -1,6 +1,6 @@
 //! Which declaration stands for each global variable.
 
-ghost use Rattle.std.specs.Prelude.{◌≡◌, ◌≤◌, ◌+◌, ◌^◌, [], length, bytes_eq, is_some, IfOk, OnOk};
+ghost use Rattle.std.specs.Prelude.{◌≡◌, [], ◌∷◌, ◌++◌, bytes_eq, is_some, IfOk, OnOk};
 ghost use Rattle.std.specs.List.{position_or_len};
 ghost use Rattle.indexmap.specs.IndexSet.{insert_all};
 ghost use Rattle.gsl_link_numbers.specs.Standing as spec;
@@ -163,6 +163,23 @@ fn place_of_site(sites: &IndexSet<Site>, site: Site) -> usize
     }
 }
 
+/// Puts the number of a variable behind others, where these declarations stand for all.
+fn push_number(
+    all: &mut List<u32>,
+    spots: &Spots,
+    sites: &IndexSet<Site>,
+    unit: u32,
+    index: u32,
+    g: &GlobalVar,
+) -> Result<(), Memory>
+    ensures { OnOk result (all.new ≡ all.old ++ position_or_len (spec.site_eq (spec.site_of spots.now.entries unit index g.now)) sites.now.keys ∷ []) }
+{
+    let site = site_of(spots, unit, index, g);
+    let number = word_of(place_of_site(sites, site))?;
+    all.push(number)?;
+    Ok(())
+}
+
 /// The numbers of a unit's variables, where these declarations stand for all.
 pub(crate) fn global_numbers(
     alloc: Global,
@@ -171,16 +188,12 @@ pub(crate) fn global_numbers(
     unit: u32,
     globals: &[GlobalVar],
 ) -> Result<List<u32>, Memory>
-    ensures { IfOk result (λ ns. ns ≡ spec.places_from spots.now.entries sites.now.keys unit 0 globals.now) }
+    ensures { IfOk result (λ ns. ns ≡ spec.places_behind [] spots.now.entries sites.now.keys unit 0 globals.now) }
 {
     let mut all = List::new(alloc);
     for k in 0..globals.len() {
         let index = word_of(k)?;
-        let number = word_of(place_of_site(
-            sites,
-            site_of(spots, unit, index, &globals[k]),
-        ))?;
-        all.push(number)?;
+        push_number(&mut all, spots, sites, unit, index, &globals[k])?;
     }
     Ok(all)
 }
