@@ -1,3 +1,4 @@
+mod Chosen
 mod Distinguished
 mod Joined
 mod Numbered

@@ -97,7 +97,7 @@ places_differ sides = distinct_all 0 sides
 
 -- ---- so those of one place are one
 
-abbrev Alone : Sited → Sited → Type 0
+abbrev pub Alone : Sited → Sited → Type 0
 Alone a b = same_site a b ≡ true → a ≡ b
 
 other_way : (a b : Sited) → same_site a b ≡ same_site b a
