@@ -192,7 +192,7 @@ none_more p q (x ∷ xs) none = by_cases (p x) (q x) none (none_more p q xs)
     by_cases true c is later = cc
     by_cases false c is later = later is
 
-abbrev site : Sited → Site
+abbrev pub site : Sited → Site
 site s = site_at s.unit s.index
 
 abbrev SameOr : Sited → Option Sited → Type 0

@@ -5,3 +5,4 @@ mod Numbered
 mod Ordered
 mod Places
 mod Sited
+mod Stood

@@ -100,20 +100,20 @@ places_differ sides = distinct_all 0 sides
 abbrev pub Alone : Sited → Sited → Type 0
 Alone a b = same_site a b ≡ true → a ≡ b
 
+turned : (n m : ℕ) (b c : Bool) → nat_eq n m ≡ b → nat_eq m n ≡ c → b ≡ c
+turned n m true true e f = refl
+turned n m true false e f = absurd (true≢false (sym (eq-eqb m n (sym (eqb-true n m e))) ∙ f))
+turned n m false true e f = absurd (false≢true (sym e ∙ eq-eqb n m (sym (eqb-true m n f))))
+turned n m false false e f = refl
+
+turn : (n m : ℕ) → nat_eq n m ≡ nat_eq m n
+turn n m = turned n m (nat_eq n m) (nat_eq m n) refl refl
+
+pub eq_other_way : (a b : Site) → site_eq a b ≡ site_eq b a
+eq_other_way a b = ap (λ c. c && nat_eq a.index b.index) (turn a.unit b.unit) ∙ ap (λ c. nat_eq b.unit a.unit && c) (turn a.index b.index)
+
 other_way : (a b : Sited) → same_site a b ≡ same_site b a
-other_way a b = by_cases (nat_eq a.unit b.unit) (nat_eq b.unit a.unit) (nat_eq a.index b.index) (nat_eq b.index a.index) (turn a.unit b.unit) (turn a.index b.index)
-  where
-    turned : (n m : ℕ) (b c : Bool) → nat_eq n m ≡ b → nat_eq m n ≡ c → b ≡ c
-    turned n m true true e f = refl
-    turned n m true false e f = absurd (true≢false (sym (eq-eqb m n (sym (eqb-true n m e))) ∙ f))
-    turned n m false true e f = absurd (false≢true (sym e ∙ eq-eqb n m (sym (eqb-true m n f))))
-    turned n m false false e f = refl
-
-    turn : (n m : ℕ) → nat_eq n m ≡ nat_eq m n
-    turn n m = turned n m (nat_eq n m) (nat_eq m n) refl refl
-
-    by_cases : (p q r s : Bool) → p ≡ q → r ≡ s → (p && r) ≡ (q && s)
-    by_cases p q r s e f = ap (λ b. b && r) e ∙ ap (λ b. q && b) f
+other_way a b = eq_other_way (site_at a.unit a.index) (site_at b.unit b.index)
 
 alone_in : (all : List Sited) → IsDistinct same_site all → AllByRecursion (λ a. AllByRecursion (Alone a) all) all
 alone_in [] distinct = tt

@@ -2,3 +2,4 @@ pub mod Keys
 pub mod Joining
 pub mod Placing
 pub mod Standing
+pub mod Numbering
