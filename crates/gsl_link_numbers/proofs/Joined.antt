@@ -95,7 +95,7 @@ module _ {A : Type 0} (alike : A → A → Bool) (key : A → List ℕ) (tells :
 
 -- ---- of each kind
 
-same_words : (k l : List ℕ) → bytes_eq k l ≡ true → k ≡ l
+pub same_words : (k l : List ℕ) → bytes_eq k l ≡ true → k ≡ l
 same_words k l = (bytes_decides k l).0
 
 blocks_from : (blocks : List Block) (sides : List Side) → blocks_behind blocks sides ≡ insert_all same_block blocks (flat_map (λ (side : Side). side.unit.blocks) sides)

@@ -1,11 +1,12 @@
 //! The blocks of units, each once.
 
-ghost use Rattle.std.specs.Prelude.{◌≡◌, [], IfOk, OnOk, map};
+ghost use Rattle.std.specs.Prelude.{◌≡◌, [], bytes_eq, IfOk, OnOk, map};
 ghost use Rattle.std.specs.List.{position_or_len};
 ghost use Rattle.indexmap.specs.IndexSet.{insert_key, insert_all};
-ghost use Rattle.gsl_link_whole.specs.Numbers.{same_block, declared_blocks as all_of};
+ghost use Rattle.gsl_link_whole.specs.Numbers.{same_block, joined_blocks, declared_blocks as all_of};
 ghost use Rattle.gsl_link_numbers.specs.Joining as spec;
 
+use crate::order::in_order;
 use crate::sets::{name_number, put_name};
 use gsl_base::{List, Memory, Text};
 use gsl_link_whole::{Side, copied};
@@ -155,5 +156,37 @@ pub(crate) fn block_numbers(
         let number = name_number(names, &blocks[k].name)?;
         all.push(number)?;
     }
+    Ok(all)
+}
+
+/// Puts the names of blocks into a set.
+fn put_names(
+    alloc: Global,
+    names: &mut IndexSet<Text>,
+    blocks: &[Block],
+) -> Result<(), Memory>
+    ensures { OnOk result (names.new.keys ≡ insert_all bytes_eq names.old.keys (spec.block_names blocks.now)) }
+{
+    for k in 0..blocks.len() {
+        let name = Text::from_str(alloc, blocks[k].name.as_str())?;
+        put_name(names, name)?;
+    }
+    Ok(())
+}
+
+/// The blocks of units, each once, in ascending order of set and binding, and their names in the same order, put into an empty set.
+pub(crate) fn ordered_blocks(
+    alloc: Global,
+    names: &mut IndexSet<Text>,
+    sides: &[Side],
+) -> Result<Blocks, Memory>
+    requires none { names.old.keys ≡ [] }
+    ensures named { OnOk result (names.new.keys ≡ spec.block_names (joined_blocks sides.now)) }
+    ensures all { IfOk result (λ all. all ≡ joined_blocks sides.now) }
+{
+    let mut declared = IndexSet::new(alloc);
+    let all = declared_blocks(alloc, &mut declared, sides)?;
+    let all = in_order(alloc, all)?;
+    put_names(alloc, names, all.as_slice())?;
     Ok(all)
 }

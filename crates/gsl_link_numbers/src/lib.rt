@@ -9,3 +9,4 @@ mod order;
 mod sets;
 mod site;
 mod spots;
+mod tables;
