@@ -1,6 +1,7 @@
 -- The numbers of units, as the code finds them in tables of names, and what they give joined.
 use Rattle.std.specs.Prelude.{ℕ, ◌+◌, List, [], ◌∷◌, ◌++◌, map, flat_map, if◌then◌else◌}
 use Rattle.std.specs.List.{position_or_len}
+use Rattle.indexmap.specs.IndexSet.{insert_all}
 use Rattle.gsl_base.specs.declared.stage.Stage.{Stage}
 use Rattle.gsl_types.specs.declared.ty.StructType.{StructType}
 use Rattle.gsl_tree.specs.declared.program.Program.{Program}
@@ -12,8 +13,8 @@ use Rattle.gsl_link_whole.specs.Numbers.{Numbering, numbering, joined_blocks, jo
 use Rattle.gsl_link_whole.specs.Renumbering.{renumbered_global, renumbered_function}
 use Rattle.gsl_link_whole.specs.Whole.{joined_globals, joined_functions, is_main, local_size}
 use Rattle.gsl_link_numbers.specs.declared.site.Site.{Site}
-use Rattle.gsl_link_numbers.specs.Joining.{block_places, interface_places, head_places}
-use Rattle.gsl_link_numbers.specs.Standing.{Spots, stands_there, places_behind}
+use Rattle.gsl_link_numbers.specs.Joining.{block_names, interface_names, head_keys, block_places, interface_places, head_places}
+use Rattle.gsl_link_numbers.specs.Standing.{Spots, site_eq, noted_all, standing_all, stands_there, places_behind}
 
 -- ---- the numbers of each unit
 
@@ -24,6 +25,16 @@ pub record Tables : Type 0 where
   pub heads : List (List ℕ)
   pub spots : Spots
   pub sites : List Site
+
+-- those of all units
+abbrev pub tables_of : List Side → Tables
+tables_of sides = record {
+  blocks = block_names (joined_blocks sides);
+  interfaces = interface_names (joined_interfaces sides);
+  heads = head_keys (joined_heads sides);
+  spots = noted_all [] 0 sides;
+  sites = insert_all site_eq [] (standing_all (noted_all [] 0 sides) 0 sides);
+}
 
 abbrev pub numbering_by : Tables → ℕ → Side → Numbering
 numbering_by t unit side = record {
@@ -53,14 +64,15 @@ globals_behind all spots n unit index [] = all
 globals_behind all spots n unit index (g ∷ globals) =
     globals_behind (if stands_there spots unit index g then all ++ renumbered_global n g ∷ [] else all) spots n unit (index + 1) globals
 
-abbrev pub all_globals_behind : List GlobalVar → Spots → List Numbering → ℕ → List Side → List GlobalVar
-all_globals_behind all spots (n ∷ numbers) unit (side ∷ sides) =
-    all_globals_behind (globals_behind all spots n unit 0 side.unit.globals) spots numbers (unit + 1) sides
-all_globals_behind all spots _ unit _ = all
+abbrev pub all_globals_behind : List GlobalVar → Tables → ℕ → List Side → List GlobalVar
+all_globals_behind all t unit [] = all
+all_globals_behind all t unit (side ∷ sides) =
+    all_globals_behind (globals_behind all t.spots (numbering_by t unit side) unit 0 side.unit.globals) t (unit + 1) sides
 
-abbrev pub all_functions_behind : List Function → List Numbering → List Side → List Function
-all_functions_behind all (n ∷ numbers) (side ∷ sides) = all_functions_behind (all ++ map (renumbered_function n) side.unit.functions) numbers sides
-all_functions_behind all _ _ = all
+abbrev pub all_functions_behind : List Function → Tables → ℕ → List Side → List Function
+all_functions_behind all t unit [] = all
+all_functions_behind all t unit (side ∷ sides) =
+    all_functions_behind (all ++ map (renumbered_function (numbering_by t unit side)) side.unit.functions) t (unit + 1) sides
 
 -- ---- the program
 

@@ -4,6 +4,7 @@
 mod blocks;
 mod heads;
 mod interfaces;
+mod joining;
 mod key;
 mod order;
 mod sets;

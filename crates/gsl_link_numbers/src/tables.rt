@@ -7,7 +7,6 @@ use crate::blocks::block_numbers;
 use crate::heads::head_numbers;
 use crate::interfaces::interface_numbers;
 use crate::key::Key;
-use crate::sets::word_of;
 use crate::site::Site;
 use crate::spots::{Spots, global_numbers};
 use gsl_base::{List, Memory, Text};
@@ -40,7 +39,7 @@ impl Model for Tables {
 }
 
 /// The numbers of one unit.
-fn numbering(alloc: Global, t: &Tables, unit: u32, side: &Side) -> Result<Numbering, Memory>
+pub(crate) fn numbering(alloc: Global, t: &Tables, unit: u32, side: &Side) -> Result<Numbering, Memory>
     ensures { IfOk result (λ n. n ≡ spec.numbering_by t.now unit side.now) }
 {
     let structs = List::from_slice(alloc, side.structs.as_slice())?;
@@ -57,19 +56,3 @@ fn numbering(alloc: Global, t: &Tables, unit: u32, side: &Side) -> Result<Number
     })
 }
 
-/// The numbers of each unit.
-pub(crate) fn numberings(
-    alloc: Global,
-    t: &Tables,
-    sides: &[Side],
-) -> Result<List<Numbering>, Memory>
-    ensures { IfOk result (λ ns. ns ≡ spec.numberings_behind [] t.now 0 sides.now) }
-{
-    let mut all = List::new(alloc);
-    for k in 0..sides.len() {
-        let unit = word_of(k)?;
-        let n = numbering(alloc, t, unit, &sides[k])?;
-        all.push(n)?;
-    }
-    Ok(all)
-}
