@@ -6,4 +6,6 @@ mod Numbered
 mod Ordered
 mod Places
 mod Sited
+mod Sizes
 mod Stood
+mod Tabled

@@ -1,5 +1,5 @@
 -- The numbers of units, as the code finds them in tables of names, and what they give joined.
-use Rattle.std.specs.Prelude.{ℕ, ◌+◌, List, [], ◌∷◌, ◌++◌, map, flat_map, if◌then◌else◌}
+use Rattle.std.specs.Prelude.{ℕ, ◌+◌, List, [], ◌∷◌, ◌++◌, map, flat_map, Option, Some, None, if◌then◌else◌}
 use Rattle.std.specs.List.{position_or_len}
 use Rattle.indexmap.specs.IndexSet.{insert_all}
 use Rattle.gsl_base.specs.declared.stage.Stage.{Stage}
@@ -78,6 +78,10 @@ all_functions_behind all t unit (side ∷ sides) =
 
 abbrev pub sizes_in : List Side → List LocalSize
 sizes_in sides = flat_map (λ (side : Side). side.unit.local_sizes) sides
+
+abbrev pub parts_of : Option LocalSize → Option (List ℕ)
+parts_of None = None
+parts_of (Some size) = Some size.parts
 
 -- the lists of units joined, where their structs are joined already
 abbrev pub whole_from : Stage → List StructType → List Side → Program

@@ -129,7 +129,7 @@ fn blocks_behind(
 
 /// The blocks of units, each once, and their names in the same order, put into an empty set.
 #[tactic(auto, using(crate::proofs::Joined::blocks_are))]
-pub(crate) fn declared_blocks(
+pub fn declared_blocks(
     alloc: Global,
     names: &mut IndexSet<Text>,
     sides: &[Side],

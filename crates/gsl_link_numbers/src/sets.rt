@@ -19,7 +19,7 @@ pub(crate) fn word_of(number: usize) -> Result<u32, Memory>
 }
 
 /// Puts a name into a set, and tells whether it was not in it.
-pub(crate) fn put_name(names: &mut IndexSet<Text>, name: Text) -> Result<bool, Memory>
+pub fn put_name(names: &mut IndexSet<Text>, name: Text) -> Result<bool, Memory>
     ensures new { IfOk result (λ new. new ≡ not (list_any (bytes_eq name) names.old.keys)) }
     ensures keys { OnOk result (names.new.keys ≡ insert_key bytes_eq names.old.keys name) }
 {
