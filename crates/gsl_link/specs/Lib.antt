@@ -2,3 +2,4 @@ pub mod Rows
 pub mod Joined
 pub mod Units
 pub mod Finding
+pub mod Sides

@@ -4,6 +4,8 @@
 #![tactic(auto)]
 
 mod program_rows;
+mod side_rows;
+mod slots;
 
 pub use program_rows::{
     large_function, no_main, recursion, second_definition, size_disagreement, too_deep, too_heavy,
