@@ -1,3 +1,5 @@
 pub mod OneUnit
 pub mod Example
 pub mod Found
+mod Again
+mod Undefined

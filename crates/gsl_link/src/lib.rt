@@ -10,3 +10,4 @@ mod slots;
 pub use program_rows::{
     large_function, no_main, recursion, second_definition, size_disagreement, too_deep, too_heavy,
 };
+pub use side_rows::{undefined_call, used_twice};

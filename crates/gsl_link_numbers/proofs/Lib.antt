@@ -5,7 +5,7 @@ mod Joined
 mod Numbered
 mod Ordered
 mod Places
-mod Sited
+pub mod Sited
 mod Sizes
 mod Stood
 mod Tabled
