@@ -11,7 +11,7 @@ use Rattle.gsl_link.proofs.side_rows.used_twice.Goals as goal
 pub returns : goal.returns
 returns c =
     let sides = c.args.sides.now in
-    c.earliest.ensures
+    c.earliest-place.ensures
     ∙ ap earliest (c.as_slice-3.ensures ∙ c.in_ok-places.ensures
       ∙ ap (λ (interfaces : List Interface). spec.bindings_again [] (spec.locations_again [] [] interfaces) c.as_slice-2.result.now) c.as_slice.ensures
       ∙ ap (λ (blocks : List Block). spec.bindings_again [] (spec.locations_again [] [] c.args.p.now.interfaces) blocks) (c.as_slice-2.ensures ∙ c.in_ok-blocks.ensures.all)
