@@ -2,4 +2,5 @@ pub mod OneUnit
 pub mod Example
 pub mod Found
 mod Again
+mod LargeGlobals
 mod Undefined

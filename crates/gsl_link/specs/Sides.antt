@@ -1,5 +1,5 @@
 -- The faults that the units show, in one pass over them.
-use Rattle.std.specs.Prelude.{ℕ, ◌+◌, Bool, not, ◌&&◌, nat_eq, nat_lt, bytes_eq, List, [], ◌∷◌, ◌++◌, map, flat_map, Option, Some, None, if◌then◌else◌}
+use Rattle.std.specs.Prelude.{ℕ, ◌+◌, Bool, not, ◌&&◌, ◌||◌, nat_eq, nat_lt, bytes_eq, List, [], ◌∷◌, ◌++◌, map, flat_map, Option, Some, None, if◌then◌else◌}
 use Rattle.std.specs.List.{list_any}
 use Rattle.indexmap.specs.IndexSet.{insert_key, insert_all}
 use Rattle.gsl_base.specs.declared.fault.Place.{Place}
@@ -16,6 +16,8 @@ use Rattle.gsl_link_whole.specs.Numbers.{Numbering}
 use Rattle.gsl_link_calls.specs.declared.call.Call.{Call}
 use Rattle.gsl_link_calls.specs.Calls.{unit_calls}
 use Rattle.gsl_link.specs.declared.slots.Slot.{Slot}
+use Rattle.gsl_link.specs.declared.slots.Counted.{Counted}
+use Rattle.gsl_weights.specs.Telling.{up_to}
 use Rattle.gsl_link.specs.Rows.{most_leaves}
 
 -- ---- calls of functions that have no definition
@@ -65,3 +67,38 @@ binding_slots slots block = if is_push block.kind then slots else insert_key slo
 abbrev pub bindings_again : List Slot → List Place → List Block → List Place
 bindings_again slots places [] = places
 bindings_again slots places (block ∷ blocks) = bindings_again (binding_slots slots block) (binding_places slots places block) blocks
+
+-- ---- global variables, counted once
+
+-- the names of the shared variables that were counted, with that of one more
+abbrev pub with_name : List (List ℕ) → GlobalVar → List (List ℕ)
+with_name names g = if g.constant then names else insert_key bytes_eq names g.name
+
+abbrev pub names_behind : List (List ℕ) → List GlobalVar → List (List ℕ)
+names_behind names [] = names
+names_behind names (g ∷ globals) = names_behind (with_name names g) globals
+
+-- whether a declaration counts: it is `const`, or the first of its name
+abbrev pub counts : List (List ℕ) → GlobalVar → Bool
+counts names g = g.constant || not (list_any (bytes_eq g.name) names)
+
+-- what it counts, as it is told
+abbrev pub counted_of : List StructType → GlobalVar → Counted
+counted_of structs g = record { leaves = up_to (told_leaves structs g.ty); place = g.place }
+
+abbrev pub with_counted : List StructType → List (List ℕ) → List Counted → GlobalVar → List Counted
+with_counted structs names all g = if counts names g then all ++ counted_of structs g ∷ [] else all
+
+abbrev pub counted_behind : List StructType → List (List ℕ) → List Counted → List GlobalVar → List Counted
+counted_behind structs names all [] = all
+counted_behind structs names all (g ∷ globals) = counted_behind structs (with_name names g) (with_counted structs names all g) globals
+
+abbrev pub counted_all : List StructType → List (List ℕ) → List Counted → List Side → List Counted
+counted_all structs names all [] = all
+counted_all structs names all (side ∷ sides) =
+    counted_all structs (names_behind names side.unit.globals) (counted_behind structs names all side.unit.globals) sides
+
+-- the first of those that count with which there are too many, where those before it have so many
+abbrev pub first_beyond : ℕ → List Counted → Option Place
+first_beyond leaves [] = None
+first_beyond leaves (c ∷ counted) = if nat_lt most_leaves (leaves + c.leaves) then Some c.place else first_beyond (leaves + c.leaves) counted

@@ -1,10 +1,9 @@
 -- The declaration that the pass over the units finds stands for its variable.
-use Rattle.std.proofs.Common.{◌≡◌, refl, sym, ap, ◌∙◌, subst, ℕ, ◌+◌, Bool, true, false, cond, not, ◌&&◌, ◌||◌, List, [], ◌∷◌, ◌++◌}
-use Rattle.std.specs.Prelude.{nat_eq, bytes_eq, is_some, map, filter, find, Option, Some, None, if◌then◌else◌}
+use Rattle.std.proofs.Common.{◌≡◌, refl, sym, ap, ◌∙◌, ℕ, ◌+◌, Bool, true, false, cond, not, ◌&&◌, ◌||◌, List, [], ◌∷◌, ◌++◌}
+use Rattle.std.specs.Prelude.{nat_eq, bytes_eq, is_some, find, Option, Some, None, if◌then◌else◌}
 use Rattle.std.specs.List.{AllByRecursion}
-use Rattle.std.specs.Map.{lookup}
 use Rattle.std.specs.Cmp.Lexicographic.{bytes_decides}
-use Rattle.std.proofs.lemmas.Bool.{true≢false, false≢true, eqb-true, and_parts}
+use Rattle.std.proofs.lemmas.Bool.{true≢false, eqb-true, and_parts}
 use Rattle.indexmap.specs.IndexMap.{insert_entry}
 use Rattle.gsl_tree.specs.declared.unit.GlobalVar.{GlobalVar}
 use Rattle.gsl_link_units.specs.Declarations.{Side}
@@ -247,7 +246,7 @@ shared_stands : (sides : List Side) (a : Sited) → a.global.constant ≡ false 
 shared_stands sides a shared ones =
     ap (λ x. site (or_else (or_else a x) (find (begins a) all))) (find_as (same_variable a) (named name) all (all_as (λ b. shared_same a b shared) all ones))
     ∙ ap (λ x. site (or_else (or_else a (find (named name) all)) x))
-      (find_as (begins a) (named_begun name) all (all_as (λ b one. ap (λ c. c && is_some b.global.init) (shared_same a b shared one)) all ones))
+    (find_as (begins a) (named_begun name) all (all_as (λ b one. ap (λ c. c && is_some b.global.init) (shared_same a b shared one)) all ones))
     ∙ by_cases (find (named name) all) (find (named_begun name) all) (none_more (named name) (λ b. is_some b.global.init) all)
     ∙ ap (site_or (site a)) (sym (spot_is sides name))
   where

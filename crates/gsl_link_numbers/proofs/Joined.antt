@@ -1,6 +1,6 @@
 -- Items joined one by one are the first of each.
 use Rattle.std.proofs.Common.{◌≡◌, refl, sym, ap, ◌∙◌, ℕ, Bool, true, false, cond, not, ◌||◌, ◌+◌, List, [], ◌∷◌, ◌++◌, map, append_assoc, append-nil}
-use Rattle.std.specs.Prelude.{bytes_eq, flat_map, fold, if◌then◌else◌}
+use Rattle.std.specs.Prelude.{bytes_eq, flat_map}
 use Rattle.std.specs.List.{list_any, position_or_len}
 use Rattle.std.proofs.lemmas.List.Folds.{list_any-append}
 use Rattle.std.specs.Cmp.Lexicographic.{bytes_decides}

@@ -1,12 +1,12 @@
 -- Declarations of global variables at their places: no two have one place.
-use Rattle.std.proofs.Common.{◌≡◌, refl, sym, ap, ◌∙◌, subst, ℕ, ◌+◌, ◌<◌, ◌≤◌, Bool, true, false, cond, not, ◌&&◌, ◌||◌, List, [], ◌∷◌, ◌++◌, arith}
-use Rattle.std.specs.Prelude.{nat_eq, bytes_eq, is_some, map, filter, find, Option, Some, None, if◌then◌else◌}
-use Rattle.std.specs.List.{list_any, position_or_len, AllByRecursion, IsDistinct}
-use Rattle.std.proofs.lemmas.Bool.{true≢false, false≢true, eqb-true, eq-eqb, ne_eqb, and_parts}
+use Rattle.std.proofs.Common.{◌≡◌, refl, sym, ap, ◌∙◌, ℕ, ◌+◌, ◌<◌, ◌≤◌, Bool, true, false, cond, ◌&&◌, List, [], ◌∷◌, ◌++◌, arith}
+use Rattle.std.specs.Prelude.{nat_eq, filter}
+use Rattle.std.specs.List.{AllByRecursion, IsDistinct}
+use Rattle.std.proofs.lemmas.Bool.{true≢false, false≢true, eqb-true, eq-eqb, ne_eqb}
 use Rattle.std.proofs.lemmas.Map.Keys.{IsDistinct-head, IsDistinct-tail, IsDistinct-cons}
 use Rattle.gsl_tree.specs.declared.unit.GlobalVar.{GlobalVar}
 use Rattle.gsl_link_units.specs.Declarations.{Side}
-use Rattle.gsl_link_whole.specs.Numbers.{Sited, sited_from, all_from, all_globals, same_site, same_shared, same_variable, begins, or_else, stands_for, stands, standing}
+use Rattle.gsl_link_whole.specs.Numbers.{Sited, sited_from, all_from, all_globals, same_site}
 use Rattle.gsl_link_numbers.specs.declared.site.Site.{Site}
 use Rattle.gsl_link_numbers.specs.Standing.{site_eq, site_at}
 
@@ -76,11 +76,10 @@ other_unit a s below = ap (λ b. b && nat_eq a.index s.index) (ne_eqb a.unit s.u
 distinct_from : (unit index : ℕ) (globals : List GlobalVar) → IsDistinct same_site (sited_from unit index globals)
 unfolding IsDistinct
 distinct_from unit index [] = tt
-distinct_from unit index (g ∷ globals) =
-    (
-      all_as (λ s is. let e = is.1 in other_index (record { unit = unit; index = index; global = g }) s (omega (arith, e))) (sited_from unit (index + 1) globals) (behind unit (index + 1) (index + 1) globals (omega arith)),
-      distinct_from unit (index + 1) globals
-    )
+distinct_from unit index (g ∷ globals) = (
+  all_as (λ s is. let e = is.1 in other_index (record { unit = unit; index = index; global = g }) s (omega (arith, e))) (sited_from unit (index + 1) globals) (behind unit (index + 1) (index + 1) globals (omega arith)),
+  distinct_from unit (index + 1) globals,
+)
 
 distinct_all : (unit : ℕ) (sides : List Side) → IsDistinct same_site (all_from unit sides)
 unfolding IsDistinct
@@ -88,7 +87,7 @@ distinct_all unit [] = tt
 distinct_all unit (side ∷ sides) =
     distinct_both same_site (sited_from unit 0 side.unit.globals) (all_from (unit + 1) sides)
     (all_as (λ a is. all_as (λ s from. let e = is.0 in other_unit a s (omega (arith, e, from))) (all_from (unit + 1) sides) (later (unit + 1) (unit + 1) sides (omega arith)))
-      (sited_from unit 0 side.unit.globals) (behind unit 0 0 side.unit.globals (omega arith)))
+    (sited_from unit 0 side.unit.globals) (behind unit 0 0 side.unit.globals (omega arith)))
     (distinct_from unit 0 side.unit.globals) (distinct_all (unit + 1) sides)
 
 -- no two declarations have one place
@@ -118,10 +117,9 @@ other_way a b = eq_other_way (site_at a.unit a.index) (site_at b.unit b.index)
 alone_in : (all : List Sited) → IsDistinct same_site all → AllByRecursion (λ a. AllByRecursion (Alone a) all) all
 alone_in [] distinct = tt
 alone_in (x ∷ all) distinct =
-    let apart = IsDistinct-head same_site x all distinct in
-    (
+    let apart = IsDistinct-head same_site x all distinct in (
       ((λ e. refl), all_as (λ y differ e. absurd (true≢false (sym e ∙ differ))) all apart),
-      with_head all all apart (alone_in all (IsDistinct-tail same_site x all distinct))
+      with_head all all apart (alone_in all (IsDistinct-tail same_site x all distinct)),
     )
   where
     with_head : (items rest : List Sited) → AllByRecursion (λ y. same_site x y ≡ false) items → AllByRecursion (λ a. AllByRecursion (Alone a) rest) items → AllByRecursion (λ a. AllByRecursion (Alone a) (x ∷ rest)) items

@@ -1,16 +1,16 @@
 -- What stands for variables, and the numbers of these, are those of the definition.
-use Rattle.std.proofs.Common.{◌≡◌, refl, sym, ap, ◌∙◌, subst, ℕ, ◌+◌, Bool, true, false, cond, not, ◌&&◌, ◌||◌, List, [], ◌∷◌, ◌++◌, append_assoc, append-nil}
-use Rattle.std.specs.Prelude.{nat_eq, bytes_eq, map, filter, if◌then◌else◌}
+use Rattle.std.proofs.Common.{◌≡◌, refl, sym, ap, ◌∙◌, subst, ℕ, ◌+◌, Bool, true, false, cond, not, ◌||◌, List, [], ◌∷◌, ◌++◌, append_assoc, append-nil}
+use Rattle.std.specs.Prelude.{map, filter, if◌then◌else◌}
 use Rattle.std.specs.List.{list_any, position_or_len, AllByRecursion, IsDistinct}
 use Rattle.std.proofs.lemmas.List.{map-append}
 use Rattle.std.proofs.lemmas.Map.Keys.{IsDistinct-head, IsDistinct-tail, IsDistinct-cons}
-use Rattle.indexmap.specs.IndexSet.{insert_key, insert_all}
+use Rattle.indexmap.specs.IndexSet.{insert_all}
 use Rattle.gsl_tree.specs.declared.unit.GlobalVar.{GlobalVar}
 use Rattle.gsl_link_units.specs.Declarations.{Side}
 use Rattle.gsl_link_whole.specs.Numbers.{Sited, sited_from, all_from, all_globals, same_site, stands_for, stands, standing, global_number}
 use Rattle.gsl_link_numbers.specs.declared.site.Site.{Site}
-use Rattle.gsl_link_numbers.specs.Standing.{Spots, site_eq, site_at, site_of, stands_there, noted_all, standing_from, standing_all, places_behind}
-use Rattle.gsl_link_numbers.proofs.Sited.{all_both, all_kept, distinct_kept, places_differ, eq_other_way}
+use Rattle.gsl_link_numbers.specs.Standing.{Spots, site_eq, site_at, stands_there, noted_all, standing_from, standing_all, places_behind}
+use Rattle.gsl_link_numbers.proofs.Sited.{distinct_kept, places_differ, eq_other_way}
 use Rattle.gsl_link_numbers.proofs.Chosen.{Stands, all_stand, site}
 
 -- ---- a set of items that differ

@@ -1,6 +1,6 @@
 -- What the tables of all units give is what the definitions say.
 use Rattle.std.proofs.Common.{◌≡◌, refl, sym, ap, ◌∙◌, ℕ, ◌+◌, Bool, true, false, cond, List, [], ◌∷◌, ◌++◌, append_assoc, append-nil}
-use Rattle.std.specs.Prelude.{map, filter, flat_map, if◌then◌else◌}
+use Rattle.std.specs.Prelude.{map, filter, if◌then◌else◌}
 use Rattle.std.specs.List.{AllByRecursion}
 use Rattle.gsl_base.specs.declared.stage.Stage.{Stage}
 use Rattle.gsl_tree.specs.declared.unit.Block.{Block}
@@ -16,7 +16,7 @@ use Rattle.gsl_link_whole.specs.Numbers.{Sited, sited_from, all_from, all_global
 use Rattle.gsl_link_whole.specs.Renumbering.{renumbered_global, renumbered_function}
 use Rattle.gsl_link_whole.specs.Whole.{globals_of, functions_of, from_each, joined_globals, joined_functions, all_sizes, local_size, whole}
 use Rattle.gsl_link_numbers.specs.Joining.{block_names, interface_names, head_keys, block_places, interface_places, head_places}
-use Rattle.gsl_link_numbers.specs.Standing.{noted_all, stands_there, places_behind}
+use Rattle.gsl_link_numbers.specs.Standing.{noted_all, places_behind}
 use Rattle.gsl_link_numbers.specs.Numbering.{tables_of, numbering_by, numberings_behind, numberings_from, numberings, globals_behind, all_globals_behind, all_functions_behind, sizes_in, whole_from}
 use Rattle.gsl_link_numbers.proofs.Joined.{block_place, interface_place, head_place}
 use Rattle.gsl_link_numbers.proofs.Chosen.{Stands, all_stand}
@@ -90,8 +90,8 @@ module _ (sides : List Side) where
   all_globals_from before unit [] all = sym (append-nil before)
   all_globals_from before unit (side ∷ rest) all =
       ap (λ l. all_globals_behind l (tables_of sides) (unit + 1) rest)
-        (ap (λ n. globals_behind before (noted_all [] 0 sides) n unit 0 side.unit.globals) (numbering_is unit side (first_stand unit side rest all))
-        ∙ globals_from_is (numbering sides unit side) before unit 0 side.unit.globals (first_stand unit side rest all))
+      (ap (λ n. globals_behind before (noted_all [] 0 sides) n unit 0 side.unit.globals) (numbering_is unit side (first_stand unit side rest all))
+      ∙ globals_from_is (numbering sides unit side) before unit 0 side.unit.globals (first_stand unit side rest all))
       ∙ all_globals_from (before ++ globals_of sides unit side) (unit + 1) rest (others_stand unit side rest all)
       ∙ append_assoc before (globals_of sides unit side) (from_each (globals_of sides) (unit + 1) rest)
 

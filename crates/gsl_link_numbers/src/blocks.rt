@@ -160,11 +160,7 @@ pub(crate) fn block_numbers(
 }
 
 /// Puts the names of blocks into a set.
-fn put_names(
-    alloc: Global,
-    names: &mut IndexSet<Text>,
-    blocks: &[Block],
-) -> Result<(), Memory>
+fn put_names(alloc: Global, names: &mut IndexSet<Text>, blocks: &[Block]) -> Result<(), Memory>
     ensures { OnOk result (names.new.keys ≡ insert_all bytes_eq names.old.keys (spec.block_names blocks.now)) }
 {
     for k in 0..blocks.len() {

@@ -105,10 +105,7 @@ pub fn is_main(heads: &[Prototype], f: &Function) -> bool
 fn number_of_main(heads: &[Prototype], functions: &[Function]) -> usize
     ensures { result ≡ position_or_len (whole_spec.is_main heads.now) functions.now }
 {
-    functions
-        .iter()
-        .take_while(|f| !is_main(heads, f))
-        .count()
+    functions.iter().take_while(|f| !is_main(heads, f)).count()
 }
 
 // ---- the local size
@@ -167,14 +164,7 @@ fn given(alloc: Global, t: &Tables, sides: &[Side]) -> Result<Parts, Memory>
     let mut numbers = List::new(alloc);
     let mut globals = List::new(alloc);
     let mut functions = List::new(alloc);
-    add_units(
-        alloc,
-        t,
-        &mut numbers,
-        &mut globals,
-        &mut functions,
-        sides,
-    )?;
+    add_units(alloc, t, &mut numbers, &mut globals, &mut functions, sides)?;
     Ok(Parts {
         numbers,
         globals,
@@ -191,21 +181,18 @@ fn put_together(
 ) -> Result<WholeProgram, Memory>
     ensures numbers { IfOk result (λ w. w.numbers ≡ parts.numbers) }
     ensures program { IfOk result (λ w. w.program ≡ record {
-        stage = stage;
-        structs = structs;
-        globals = parts.globals;
-        blocks = lists.blocks;
-        interfaces = lists.interfaces;
-        prototypes = lists.heads;
-        functions = parts.functions;
-        main = position_or_len (whole_spec.is_main lists.heads) parts.functions;
-        local_size = size;
+      stage = stage;
+      structs = structs;
+      globals = parts.globals;
+      blocks = lists.blocks;
+      interfaces = lists.interfaces;
+      prototypes = lists.heads;
+      functions = parts.functions;
+      main = position_or_len (whole_spec.is_main lists.heads) parts.functions;
+      local_size = size;
     }) }
 {
-    let main = word_of(number_of_main(
-        lists.heads.as_slice(),
-        parts.functions.as_slice(),
-    ))?;
+    let main = word_of(number_of_main(lists.heads.as_slice(), parts.functions.as_slice()))?;
     Ok(WholeProgram {
         program: Program {
             stage,

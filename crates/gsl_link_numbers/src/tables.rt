@@ -1,6 +1,6 @@
 //! Tables in which the declarations of units are found.
 
-ghost use Rattle.std.specs.Prelude.{◌≡◌, [], IfOk, OnOk};
+ghost use Rattle.std.specs.Prelude.{◌≡◌, IfOk};
 ghost use Rattle.gsl_link_numbers.specs.Numbering as spec;
 
 use crate::blocks::block_numbers;
@@ -39,11 +39,22 @@ impl Model for Tables {
 }
 
 /// The numbers of one unit.
-pub(crate) fn numbering(alloc: Global, t: &Tables, unit: u32, side: &Side) -> Result<Numbering, Memory>
+pub(crate) fn numbering(
+    alloc: Global,
+    t: &Tables,
+    unit: u32,
+    side: &Side,
+) -> Result<Numbering, Memory>
     ensures { IfOk result (λ n. n ≡ spec.numbering_by t.now unit side.now) }
 {
     let structs = List::from_slice(alloc, side.structs.as_slice())?;
-    let globals = global_numbers(alloc, &t.spots, &t.sites, unit, side.unit.globals.as_slice())?;
+    let globals = global_numbers(
+        alloc,
+        &t.spots,
+        &t.sites,
+        unit,
+        side.unit.globals.as_slice(),
+    )?;
     let blocks = block_numbers(alloc, &t.blocks, side.unit.blocks.as_slice())?;
     let interfaces = interface_numbers(alloc, &t.interfaces, side.unit.interfaces.as_slice())?;
     let heads = head_numbers(alloc, &t.heads, side.unit.prototypes.as_slice())?;
@@ -55,4 +66,3 @@ pub(crate) fn numbering(alloc: Global, t: &Tables, unit: u32, side: &Side) -> Re
         heads,
     })
 }
-

@@ -1,6 +1,5 @@
-use Rattle.std.proofs.Common.{◌≡◌, ap, ◌∙◌, List, []}
+use Rattle.std.proofs.Common.{ap, ◌∙◌, []}
 use Rattle.std.specs.List.{position_or_len}
-use Rattle.gsl_tree.specs.declared.unit.Function.{Function}
 use Rattle.gsl_link_whole.specs.Whole.{is_main}
 use Rattle.gsl_link_numbers.specs.Numbering as spec
 use Rattle.gsl_link_numbers.proofs.Tabled.{globals_are, functions_are, numberings_are}
