@@ -50,7 +50,7 @@ locations_from slots places before [] seen = sym (append-nil places)
 locations_from slots places before (x ∷ interfaces) seen =
     ap (λ b. locations_again (insert_key slot_eq slots (location_slot x)) (if b then places ++ x.place ∷ [] else places) interfaces) (seen x)
     ∙ by_cases (list_any (same_location x) before)
-      (λ l. locations_from (insert_key slot_eq slots (location_slot x)) l (before ++ x ∷ []) interfaces (location_seen slots before x seen))
+    (λ l. locations_from (insert_key slot_eq slots (location_slot x)) l (before ++ x ∷ []) interfaces (location_seen slots before x seen))
   where
     later : List Interface
     later = again_behind same_location (before ++ x ∷ []) interfaces

@@ -63,11 +63,10 @@ alike_before x (b ∷ before) apart =
 -- a place differs from those before it
 apart_before : (before : List Sited) (x : Sited) (xs : List Sited) → IsDistinct same_site (before ++ x ∷ xs) → AllByRecursion (λ b. same_site x b ≡ false) before
 apart_before [] x xs distinct = tt
-apart_before (b ∷ before) x xs distinct =
-    (
-      eq_other_way (site_at x.unit x.index) (site_at b.unit b.index) ∙ apart_later before (IsDistinct-head same_site b (before ++ x ∷ xs) distinct),
-      apart_before before x xs (IsDistinct-tail same_site b (before ++ x ∷ xs) distinct)
-    )
+apart_before (b ∷ before) x xs distinct = (
+  eq_other_way (site_at x.unit x.index) (site_at b.unit b.index) ∙ apart_later before (IsDistinct-head same_site b (before ++ x ∷ xs) distinct),
+  apart_before before x xs (IsDistinct-tail same_site b (before ++ x ∷ xs) distinct),
+)
   where
     apart_later : (ks : List Sited) → AllByRecursion (λ y. same_site b y ≡ false) (ks ++ x ∷ xs) → same_site b x ≡ false
     apart_later [] all = all.0
@@ -126,7 +125,7 @@ module _ (structs : List StructType) where
   firsts_from names all before (x ∷ xs) seen distinct =
       ap (λ b. counted_each (with_name names x.global) (if b then all ++ counted_of structs x.global ∷ [] else all) xs) (counts_is names before x seen (apart_before before x xs distinct))
       ∙ by_cases (list_any (same_variable x) before)
-        (λ l. firsts_from (with_name names x.global) l (before ++ x ∷ []) xs (seen_more names before x seen) (subst (IsDistinct same_site) (sym (append_assoc before (x ∷ []) xs)) distinct))
+      (λ l. firsts_from (with_name names x.global) l (before ++ x ∷ []) xs (seen_more names before x seen) (subst (IsDistinct same_site) (sym (append_assoc before (x ∷ []) xs)) distinct))
     where
       later : List Sited
       later = firsts_behind same_variable (before ++ x ∷ []) xs

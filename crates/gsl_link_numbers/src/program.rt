@@ -59,7 +59,7 @@ struct Lists {
 
 fn declared(alloc: Global, sides: &[Side]) -> Result<Lists, Memory>
     ensures tables { IfOk result (λ d. d.tables ≡ spec.tables_of sides.now) }
-    ensures blocks { IfOk result (λ d. d.blocks ≡ numbers.joined_blocks sides.now) }
+    ensures ordered { IfOk result (λ d. d.blocks ≡ numbers.joined_blocks sides.now) }
     ensures interfaces { IfOk result (λ d. d.interfaces ≡ numbers.joined_interfaces sides.now) }
     ensures heads { IfOk result (λ d. d.heads ≡ numbers.joined_heads sides.now) }
 {

@@ -15,6 +15,6 @@ pub returns : goal.returns
 returns c =
     c.earliest-place.ensures
     ∙ ap earliest (c.as_slice-2.ensures ∙ c.in_ok-places.ensures
-      ∙ ap (λ (functions : List Function). spec.undefined_all (insert_all nat_eq [] (spec.defined_heads functions)) [] c.args.numbers.now c.args.sides.now) c.as_slice.ensures
-      ∙ ap (λ (numbers : List Numbering). spec.undefined_all (insert_all nat_eq [] (spec.defined_heads c.args.p.now.functions)) [] numbers c.args.sides.now) c.requires.numbers
-      ∙ undefined_is c.args.p.now c.args.sides.now)
+    ∙ ap (λ (functions : List Function). spec.undefined_all (insert_all nat_eq [] (spec.defined_heads functions)) [] c.args.numbers.now c.args.sides.now) c.as_slice.ensures
+    ∙ ap (λ (numbers : List Numbering). spec.undefined_all (insert_all nat_eq [] (spec.defined_heads c.args.p.now.functions)) [] numbers c.args.sides.now) c.requires.numbers
+    ∙ undefined_is c.args.p.now c.args.sides.now)

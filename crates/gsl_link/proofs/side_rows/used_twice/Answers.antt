@@ -13,7 +13,7 @@ returns c =
     let sides = c.args.sides.now in
     c.earliest-place.ensures
     ∙ ap earliest (c.as_slice-3.ensures ∙ c.in_ok-places.ensures
-      ∙ ap (λ (interfaces : List Interface). spec.bindings_again [] (spec.locations_again [] [] interfaces) c.as_slice-2.result.now) c.as_slice.ensures
-      ∙ ap (λ (blocks : List Block). spec.bindings_again [] (spec.locations_again [] [] c.args.p.now.interfaces) blocks) (c.as_slice-2.ensures ∙ c.in_ok-blocks.ensures.all)
-      ∙ bindings_are (spec.locations_again [] [] c.args.p.now.interfaces) (declared_blocks sides)
-      ∙ ap (λ l. l ++ block_places (again same_binding (declared_blocks sides))) (locations_are c.args.p.now.interfaces))
+    ∙ ap (λ (interfaces : List Interface). spec.bindings_again [] (spec.locations_again [] [] interfaces) c.as_slice-2.result.now) c.as_slice.ensures
+    ∙ ap (λ (blocks : List Block). spec.bindings_again [] (spec.locations_again [] [] c.args.p.now.interfaces) blocks) (c.as_slice-2.ensures ∙ c.in_ok-blocks.ensures.all)
+    ∙ bindings_are (spec.locations_again [] [] c.args.p.now.interfaces) (declared_blocks sides)
+    ∙ ap (λ l. l ++ block_places (again same_binding (declared_blocks sides))) (locations_are c.args.p.now.interfaces))

@@ -10,6 +10,6 @@ returns c =
     let sides = c.args.sides.now in
     c.first_beyond-place.ensures
     ∙ ap (spec.first_beyond 0) (c.as_slice.ensures ∙ c.in_ok-counted_all.ensures
-      ∙ ap (λ names. spec.counted_all structs names c.new-counted.result sides) c.new-names.ensures.empty
-      ∙ ap (λ (all : List Counted). spec.counted_all structs [] all sides) c.new-counted.ensures)
+    ∙ ap (λ names. spec.counted_all structs names c.new-counted.result sides) c.new-names.ensures.empty
+    ∙ ap (λ (all : List Counted). spec.counted_all structs [] all sides) c.new-counted.ensures)
     ∙ large_are structs sides
