@@ -1,5 +1,5 @@
 -- Locations and bindings that are used again, found by a set of those that were used.
-use Rattle.std.proofs.Common.{◌≡◌, refl, sym, ap, ◌∙◌, ℕ, ◌+◌, Bool, true, false, cond, not, ◌&&◌, ◌||◌, List, [], ◌∷◌, ◌++◌, map, append_assoc, append-nil}
+use Rattle.std.proofs.Common.{◌≡◌, refl, sym, ap, ◌∙◌, Bool, true, false, not, ◌&&◌, ◌||◌, List, [], ◌∷◌, ◌++◌, map, append_assoc, append-nil}
 use Rattle.std.specs.Prelude.{nat_eq, if◌then◌else◌}
 use Rattle.std.specs.List.{list_any}
 use Rattle.std.proofs.lemmas.List.Folds.{list_any-append}
@@ -13,7 +13,7 @@ use Rattle.gsl_link_units.specs.Firsts.{again, again_behind}
 use Rattle.gsl_link_units.specs.Agreement.{both_or_neither}
 use Rattle.gsl_link.specs.declared.slots.Slot.{Slot}
 use Rattle.gsl_link.specs.Rows.{same_location, same_binding}
-use Rattle.gsl_link.specs.Sides.{slot_eq, slot_at, location_slot, binding_slot, locations_again, binding_places, binding_slots, bindings_again}
+use Rattle.gsl_link.specs.Sides.{slot_eq, location_slot, binding_slot, locations_again, binding_slots, bindings_again}
 use Rattle.gsl_link.proofs.Undefined.{any_put, or_false}
 
 slot_is : (a b : Slot) → slot_eq a b ≡ true → a ≡ b

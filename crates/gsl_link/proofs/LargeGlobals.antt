@@ -1,6 +1,6 @@
 -- Global variables count once, at their first declarations.
-use Rattle.std.proofs.Common.{◌≡◌, refl, sym, ap, subst, ◌∙◌, ℕ, ◌+◌, ◌<◌, ◌≤◌, min, arith, Bool, true, false, cond, not, ◌&&◌, ◌||◌, List, [], ◌∷◌, ◌++◌, append_assoc, append-nil}
-use Rattle.std.specs.Prelude.{nat_eq, nat_lt, bytes_eq, map, Some, None, if◌then◌else◌}
+use Rattle.std.proofs.Common.{◌≡◌, refl, sym, ap, subst, ◌∙◌, ℕ, ◌+◌, ◌≤◌, min, arith, Bool, true, false, not, ◌&&◌, ◌||◌, List, [], ◌∷◌, ◌++◌, append_assoc, append-nil}
+use Rattle.std.specs.Prelude.{nat_lt, bytes_eq, map, Some, if◌then◌else◌}
 use Rattle.std.proofs.lemmas.Bool.{ltb-true, ltb-false, lt-ltb}
 use Rattle.gsl_types.specs.declared.ty.StructType.{StructType}
 use Rattle.gsl_types.specs.Leaves.{told_leaves}
@@ -14,7 +14,7 @@ use Rattle.gsl_link_units.specs.Declarations.{Side}
 use Rattle.gsl_link_units.specs.Firsts.{firsts, firsts_behind}
 use Rattle.gsl_link_whole.specs.Numbers.{Sited, sited_from, all_from, all_globals, same_site, same_shared, same_variable}
 use Rattle.gsl_link_numbers.proofs.Sited.{places_differ, eq_other_way}
-use Rattle.gsl_link_numbers.specs.Standing.{site_eq, site_at}
+use Rattle.gsl_link_numbers.specs.Standing.{site_at}
 use Rattle.gsl_link.specs.declared.slots.Counted.{Counted}
 use Rattle.gsl_weights.specs.Telling.{up_to}
 use Rattle.gsl_link.specs.Rows.{most_leaves, passes_behind}

@@ -2,7 +2,6 @@
 use Rattle.std.proofs.Common.{◌≡◌, refl, sym, ap, ◌∙◌, ℕ, suc, ◌+◌, length, Bool, true, false, cond, not, ◌||◌, List, [], ◌∷◌, ◌++◌, map, append_assoc, append-nil}
 use Rattle.std.specs.Prelude.{nat_eq, filter, if◌then◌else◌}
 use Rattle.std.specs.List.{list_any}
-use Rattle.std.proofs.lemmas.List.{map-append}
 use Rattle.std.proofs.lemmas.List.Folds.{list_any-append}
 use Rattle.std.proofs.lemmas.Bool.{true≢false, false≢true, eqb-true, eq-eqb}
 use Rattle.indexmap.specs.IndexSet.{insert_key, insert_all}
@@ -11,13 +10,13 @@ use Rattle.gsl_tree.specs.declared.program.Program.{Program}
 use Rattle.gsl_tree.specs.declared.unit.Function.{Function}
 use Rattle.gsl_link_units.specs.Declarations.{Side}
 use Rattle.gsl_link_units.specs.Types.{new_number}
-use Rattle.gsl_link_whole.specs.Numbers.{Numbering, numbering}
+use Rattle.gsl_link_whole.specs.Numbers.{numbering}
 use Rattle.gsl_link_whole.specs.Whole.{from_each}
 use Rattle.gsl_link_calls.specs.declared.call.Call.{Call}
 use Rattle.gsl_link_calls.specs.Calls.{unit_calls, renumbered_call, renumbered_calls, all_calls}
 use Rattle.gsl_link_numbers.specs.Numbering.{numberings_from, numberings}
 use Rattle.gsl_link.specs.Rows.{is_undefined}
-use Rattle.gsl_link.specs.Sides.{defined_heads, with_undefined, undefined_behind, undefined_all}
+use Rattle.gsl_link.specs.Sides.{defined_heads, undefined_behind, undefined_all}
 
 pub or_false : (b : Bool) → (b || false) ≡ b
 or_false true = refl

@@ -1,7 +1,7 @@
 -- The faults that the units show, in one pass over them.
-use Rattle.std.specs.Prelude.{ℕ, ◌+◌, Bool, not, ◌&&◌, ◌||◌, nat_eq, nat_lt, bytes_eq, List, [], ◌∷◌, ◌++◌, map, flat_map, Option, Some, None, if◌then◌else◌}
+use Rattle.std.specs.Prelude.{ℕ, ◌+◌, Bool, not, ◌&&◌, ◌||◌, nat_eq, nat_lt, bytes_eq, List, [], ◌∷◌, ◌++◌, map, Option, Some, None, if◌then◌else◌}
 use Rattle.std.specs.List.{list_any}
-use Rattle.indexmap.specs.IndexSet.{insert_key, insert_all}
+use Rattle.indexmap.specs.IndexSet.{insert_key}
 use Rattle.gsl_base.specs.declared.fault.Place.{Place}
 use Rattle.gsl_types.specs.declared.ty.StructType.{StructType}
 use Rattle.gsl_types.specs.Leaves.{told_leaves}

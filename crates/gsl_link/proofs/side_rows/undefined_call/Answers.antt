@@ -1,6 +1,5 @@
-use Rattle.std.proofs.Common.{◌≡◌, ap, ◌∙◌, List, [], length, nat_eq}
+use Rattle.std.proofs.Common.{ap, ◌∙◌, List, [], length, nat_eq}
 use Rattle.indexmap.specs.IndexSet.{insert_all}
-use Rattle.gsl_base.specs.declared.fault.Place.{Place}
 use Rattle.gsl_tree.specs.declared.unit.Function.{Function}
 use Rattle.gsl_link_units.specs.Firsts.{earliest}
 use Rattle.gsl_link_whole.specs.Numbers.{Numbering}

@@ -1,4 +1,4 @@
-use Rattle.std.proofs.Common.{◌≡◌, ap, ◌∙◌, ◌++◌, List, []}
+use Rattle.std.proofs.Common.{ap, ◌∙◌, ◌++◌, List, []}
 use Rattle.gsl_tree.specs.declared.unit.Block.{Block}
 use Rattle.gsl_tree.specs.declared.unit.Interface.{Interface}
 use Rattle.gsl_link_units.specs.Firsts.{earliest, again}
