@@ -1,6 +1,6 @@
 //! The leaves of global variables.
 
-ghost use Rattle.std.specs.Prelude.{◌≡◌, [], not, nat_lt, bytes_eq, IfOk, OnOk};
+ghost use Rattle.std.specs.Prelude.{◌≡◌, IfOk, OnOk};
 ghost use Rattle.gsl_types.specs.Known.{AreStructs};
 ghost use Rattle.gsl_link.specs.Sides as spec;
 ghost use Rattle.gsl_link.specs.Rows as rows;

@@ -1,7 +1,6 @@
 //! The heads of functions of units, each once.
 
-ghost use Rattle.std.specs.Prelude.{◌≡◌, [], IfOk, OnOk, map};
-ghost use Rattle.std.specs.List.{position_or_len};
+ghost use Rattle.std.specs.Prelude.{◌≡◌, [], IfOk, OnOk};
 ghost use Rattle.indexmap.specs.IndexSet.{insert_key, insert_all};
 ghost use Rattle.gsl_link_units.specs.Agreement.{same_function};
 ghost use Rattle.gsl_link_whole.specs.Numbers.{joined_heads as all_of};

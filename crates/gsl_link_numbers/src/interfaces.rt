@@ -1,7 +1,6 @@
 //! The inputs and outputs of units, each once.
 
-ghost use Rattle.std.specs.Prelude.{◌≡◌, [], IfOk, OnOk, map};
-ghost use Rattle.std.specs.List.{position_or_len};
+ghost use Rattle.std.specs.Prelude.{◌≡◌, [], IfOk, OnOk};
 ghost use Rattle.indexmap.specs.IndexSet.{insert_key, insert_all};
 ghost use Rattle.gsl_link_whole.specs.Numbers.{same_interface, joined_interfaces as all_of};
 ghost use Rattle.gsl_link_numbers.specs.Joining as spec;

@@ -1,6 +1,6 @@
 //! What units give to a program, one unit behind the other.
 
-ghost use Rattle.std.specs.Prelude.{◌≡◌, ◌∷◌, ◌++◌, [], map, if◌then◌else◌, IfOk, OnOk};
+ghost use Rattle.std.specs.Prelude.{◌≡◌, ◌∷◌, ◌++◌, [], map, if◌then◌else◌, OnOk};
 ghost use Rattle.gsl_link_whole.specs.Renumbering as renumbering;
 ghost use Rattle.gsl_link_numbers.specs.Numbering as spec;
 ghost use Rattle.gsl_link_numbers.specs.Standing.{stands_there};

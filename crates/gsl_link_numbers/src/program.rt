@@ -1,6 +1,6 @@
 //! The program that units make together.
 
-ghost use Rattle.std.specs.Prelude.{◌≡◌, ◌++◌, [], List as Plain, Some, slice_get, IfOk, OnOk, MatchOption};
+ghost use Rattle.std.specs.Prelude.{◌≡◌, ◌++◌, [], List as Plain, Some, slice_get, IfOk, MatchOption};
 ghost use Rattle.gsl_tree.specs.declared.unit.LocalSize.{LocalSize as OneSize};
 ghost use Rattle.std.specs.List.{position_or_len};
 ghost use Rattle.indexmap.specs.IndexSet.{insert_all};
