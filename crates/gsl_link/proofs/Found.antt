@@ -1,11 +1,10 @@
 -- The first of items that pass a test.
-use Rattle.std.proofs.Common.{◌≡◌, sym, ap, ◌∙◌, refl, ℕ, ◌+◌, ◌<◌, min, Bool, true, false, ◌||◌, not, List, [], ◌∷◌, ◌++◌, map, drop, cond, arith}
-use Rattle.std.specs.Prelude.{nat_eq, nat_lt, bytes_eq, filter, slice_get, Option, Some, None, if◌then◌else◌}
+use Rattle.std.proofs.Common.{◌≡◌, sym, ap, ◌∙◌, refl, ℕ, ◌<◌, min, Bool, true, false, ◌||◌, not, List, [], ◌∷◌, ◌++◌, map, drop, cond, arith}
+use Rattle.std.specs.Prelude.{nat_eq, nat_lt, bytes_eq, filter, slice_get, Some, if◌then◌else◌}
 use Rattle.std.specs.List.{list_any}
-use Rattle.std.proofs.lemmas.Bool.{ltb-true, lt-ltb, true≢false, or_left, or_right, or_cases, eqb-true, eq-eqb}
+use Rattle.std.proofs.lemmas.Bool.{ltb-true, lt-ltb, eqb-true}
 use Rattle.std.proofs.lemmas.List.Folds.{list_any-append}
 use Rattle.indexmap.specs.IndexSet.{insert_key}
-use Rattle.gsl_base.specs.declared.fault.Place.{Place}
 use Rattle.gsl_tree.specs.declared.unit.Function.{Function}
 use Rattle.gsl_tree.specs.declared.unit.LocalSize.{LocalSize}
 use Rattle.gsl_link_units.specs.Firsts.{again_behind, again, first_place}

@@ -4,7 +4,12 @@
 #![tactic(auto)]
 
 mod program_rows;
+mod side_rows;
+mod slots;
+mod variables;
 
 pub use program_rows::{
     large_function, no_main, recursion, second_definition, size_disagreement, too_deep, too_heavy,
 };
+pub use side_rows::{undefined_call, used_twice};
+pub use variables::large_globals;

@@ -13,9 +13,8 @@ ghost use Rattle.gsl_link.specs.Rows as spec;
 
 use gsl_base::{Memory, Place, Stage};
 use gsl_link_calls::CallGraph;
-use gsl_link_units::same_type;
+use gsl_link_numbers::is_main;
 use gsl_tree::{Function, LocalSize, Program, Prototype};
-use gsl_types::Ty;
 use gsl_weights::{function_leaves, program_weight};
 use indexmap::IndexSet;
 use std::alloc::Global;
@@ -63,21 +62,6 @@ pub fn second_definition(alloc: Global, p: &Program) -> Result<Option<Place>, Me
 }
 
 // ---- E0801
-
-fn is_main(prototypes: &[Prototype], f: &Function) -> bool
-    ensures { result ≡ whole.is_main prototypes.now f.now }
-{
-    match prototypes.get(f.prototype as usize) {
-        Some(p) => is_main_head(p),
-        None => false,
-    }
-}
-
-fn is_main_head(p: &Prototype) -> bool
-    ensures { result ≡ whole.is_main_head (Some p.now) }
-{
-    p.name.as_str() == "main" && p.params.is_empty() && same_type(&p.result, &Ty::Void)
-}
 
 fn has_main(prototypes: &[Prototype], functions: &[Function]) -> bool
     ensures { result ≡ list_any (whole.is_main prototypes.now) functions.now }

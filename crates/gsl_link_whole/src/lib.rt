@@ -10,6 +10,7 @@ mod side;
 mod stmts;
 mod table;
 
+pub use copies::copied;
 pub use exprs::renumbered_expr;
 pub use parts::{renumbered_function, renumbered_global};
 pub use side::{Side, Sides, join_units};

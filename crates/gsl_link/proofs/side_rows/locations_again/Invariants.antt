@@ -1,0 +1,6 @@
+use Rattle.std.proofs.Common.{◌≡◌, drop}
+use Rattle.gsl_link.specs.Sides as spec
+use Rattle.gsl_link.proofs.side_rows.locations_again.Given as goal
+
+abbrev pub invariant-loop-k : goal.invariant-loop-k
+invariant-loop-k l = spec.locations_again l.slots.keys l.places (drop l.k l.interfaces) ≡ spec.locations_again l.initial.slots.keys l.initial.places l.interfaces

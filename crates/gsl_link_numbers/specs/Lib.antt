@@ -1,0 +1,5 @@
+pub mod Keys
+pub mod Joining
+pub mod Placing
+pub mod Standing
+pub mod Numbering
