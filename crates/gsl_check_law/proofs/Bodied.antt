@@ -24,7 +24,7 @@ use Rattle.gsl_check_law.specs.Formed.{IsFormedStmt}
 use Rattle.gsl_check_law.specs.Labels.{IsStepBut}
 use Rattle.gsl_check_law.specs.Scenes.{IsScene, IsThere, AreThere, IsEnv}
 use Rattle.gsl_check_law.proofs.Found.{all_map}
-use Rattle.gsl_check_law.proofs.Growing.{Grows}
+use Rattle.gsl_check_law.proofs.Longer.{Grows}
 use Rattle.gsl_check_law.proofs.Standing.{with_name}
 use Rattle.gsl_check_law.proofs.Declarators.{DidAll}
 use Rattle.gsl_check_law.proofs.Walked.{statements_are}

@@ -1,5 +1,5 @@
 -- Declarations among statements are well typed statements, and what is declared behind them is sound.
-use Rattle.std.proofs.Common.{◌≡◌, refl, sym, ◌∙◌, subst, ℕ, ◌≤◌, List, [], ◌∷◌, ◌++◌, map, length, slice_get, Option, Some, None, is_none, Bool, false, not, IsTrue, Ok, arith}
+use Rattle.std.proofs.Common.{◌≡◌, refl, sym, ◌∙◌, subst, ℕ, ◌≤◌, List, [], ◌∷◌, ◌++◌, map, length, slice_get, Option, Some, None, is_none, Bool, false, not, ◌&&◌, IsTrue, Ok, arith}
 use Rattle.std.specs.List.{AllByRecursion}
 use Rattle.std.proofs.lemmas.Bool.{and_parts, lt-ltb}
 use Rattle.std.proofs.lemmas.Option.{none-some, cond_some}
@@ -48,7 +48,7 @@ use Rattle.gsl_check_decl.specs.Locals.{qualified, with_local, may_be_plain, pla
 use Rattle.gsl_check_decl.specs.Structs.{structured}
 use Rattle.gsl_check_decl.specs.Declarations.{variables, struct_and_variables, declared_by, declaration}
 use Rattle.gsl_check_decl.proofs.Gathering.{Holds, holds_after, holds_then}
-use Rattle.gsl_check_law.specs.Formed.{declarator_formed, declarators_formed, decl_formed}
+use Rattle.gsl_check_law.specs.Formed.{init_formed, is_name, struct_formed, declarator_formed, declarators_formed, decl_formed}
 use Rattle.gsl_check_law.specs.Parts.{IsTaken}
 use Rattle.gsl_check_law.specs.Scenes.{IsEnv}
 use Rattle.gsl_check_law.proofs.Rows.{row, there, so}
@@ -56,7 +56,8 @@ use Rattle.gsl_check_law.proofs.Parts.{IsRead}
 use Rattle.gsl_check_law.proofs.Building.{plain_settled}
 use Rattle.gsl_check_law.proofs.Operators.{operand_of}
 use Rattle.gsl_check_law.proofs.Lists.{GoodAt, initial_typed}
-use Rattle.gsl_check_law.proofs.Growing.{Grows, grows_itself, grows_then, expr_grows, read_grows}
+use Rattle.gsl_check_law.proofs.Longer.{Grows, grows_itself, grows_then}
+use Rattle.gsl_check_law.proofs.Growing.{expr_grows, read_grows}
 use Rattle.gsl_check_law.proofs.Standing.{stmt_grows}
 use Rattle.gsl_check_law.proofs.Declaring.{at_more, written_good, declared_good, variable_is, local_grown, structured_is, StructDone}
 
@@ -196,9 +197,10 @@ module _ (result : Ty) (exits : Exits) where
       holds_then (Did result exits env) (declared (map (bracket env) dims) base) (λ t. whole_type t >>= (λ whole. plain_variable fixed name whole env))
       (λ t. holds_then (Did result exits env) (whole_type t) (λ whole. plain_variable fixed name whole env) (λ whole. plain_typed env fine fixed name whole))
   declarator_typed few fixed base (declarator_of.Initialised name dims init) good formed env fine le =
+      let begins = and_parts (is_name name.text) (init_formed init) formed in
       holds_after (GoodAt (length env.scene.structs)) (Did result exits env) (declared (map (bracket env) dims) base) (λ t. initial env t init >>= (λ x. begun_variable fixed name t x env))
       (declared_good env fine dims base (at_more few (length env.scene.structs) base le good))
-      (λ t is. holds_after (IsTaken env.scene) (Did result exits env) (initial env t init) (λ x. begun_variable fixed name t x env) (initial_typed env fine t init is formed) (λ x taken. begun_typed env fine fixed name t x taken))
+      (λ t is. holds_after (IsTaken env.scene) (Did result exits env) (initial env t init) (λ x. begun_variable fixed name t x env) (initial_typed env fine t init is begins.1) (λ x taken. begun_typed env fine fixed name t x taken))
 
   all_declarators : (few : ℕ) (fixed : Bool) (base : Written) (all : List Declarator) → GoodAt few base → IsTrue (declarators_formed all) → AllByRecursion (DoesAt few) (map (declarator fixed base) all)
   all_declarators few fixed base [] good formed = tt
@@ -222,16 +224,17 @@ module _ (result : Ty) (exits : Exits) where
         (λ fixed. holds_after (GoodAt here) (DidAll result exits env) (written_type env t) (λ base. in_turn (map (declarator fixed base) all) env) (written_good env fine t)
         (λ base good. turns (Many here) (more_of here) (map (declarator fixed base) all) (all_declarators here fixed base all good formed) env fine (omega arith)))
 
-    struct_typed : (quals : List Qual) (s : Struct) (all : List Declarator) → IsTrue (declarators_formed all) → Holds (DidAll result exits env) (struct_and_variables quals s all env)
+    struct_typed : (quals : List Qual) (s : Struct) (all : List Declarator) → IsTrue (struct_formed s && declarators_formed all) → Holds (DidAll result exits env) (struct_and_variables quals s all env)
     unfolding struct_and_variables
     struct_typed quals s all formed =
+        let parts = and_parts (struct_formed s) (declarators_formed all) formed in
         holds_then (DidAll result exits env) (qualified env quals) (λ fixed. structured s env >>= (λ done. in_turn (map (declarator fixed (Whole (ty.Struct done.0))) all) done.1))
-        (λ fixed. holds_after (StructDone env fine) (DidAll result exits env) (structured s env) (λ done. in_turn (map (declarator fixed (Whole (ty.Struct done.0))) all) done.1) (structured_is env fine s)
+        (λ fixed. holds_after (StructDone env fine) (DidAll result exits env) (structured s env) (λ done. in_turn (map (declarator fixed (Whole (ty.Struct done.0))) all) done.1) (structured_is env fine s parts.0)
         (λ done is.
         let few = length done.1.scene.structs in
         let known : IsSound few (ty.Struct done.0) = sound_struct few done.0 ∙ lt-ltb done.0 few is.1 in
         so (DidAll result exits done.1) (DidAll result exits env) (in_turn (map (declarator fixed (Whole (ty.Struct done.0))) all) done.1)
-        (turns (Many few) (more_of few) (map (declarator fixed (Whole (ty.Struct done.0))) all) (all_declarators few fixed (Whole (ty.Struct done.0)) all known formed) done.1 is.0.0 (omega arith))
+        (turns (Many few) (more_of few) (map (declarator fixed (Whole (ty.Struct done.0))) all) (all_declarators few fixed (Whole (ty.Struct done.0)) all known parts.1) done.1 is.0.0 (omega arith))
         (λ last more. record { env = more.env; grows = grows_then env.scene done.1.scene last.1.scene is.0.1 more.grows; stmts = more.stmts })))
 
     all_typed : (d : Decl) → IsTrue (decl_formed d) → Holds (DidAll result exits env) (declared_by d env)

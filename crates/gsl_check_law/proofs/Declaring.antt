@@ -1,7 +1,7 @@
 -- What declarations among statements declare is well typed.
-use Rattle.std.proofs.Common.{min, ◌≡◌, refl, ap, ◌∙◌, ℕ, ◌≤◌, ◌<◌, List, [], ◌∷◌, ◌++◌, map, length, Option, Some, None, Bool, false, not, Ok, arith, length-append}
-use Rattle.std.specs.List.{AllByRecursion}
-use Rattle.std.proofs.lemmas.Bool.{leb-true, lt-ltb}
+use Rattle.std.proofs.Common.{min, ◌≡◌, refl, ap, ◌∙◌, ℕ, ◌≤◌, ◌<◌, List, [], ◌∷◌, ◌++◌, map, length, Option, Some, None, Bool, false, not, Ok, arith, length-append, IsTrue, subst, sym}
+use Rattle.std.specs.List.{AllByRecursion, list_all}
+use Rattle.std.proofs.lemmas.Bool.{leb-true, lt-ltb, and_parts}
 use Rattle.gsl_base.specs.Checked.{◌>>=◌}
 use Rattle.gsl_base.specs.declared.fault.Place.{Place}
 use Rattle.gsl_base.specs.declared.fault.Code.TheVariants.{E0403, E0404, E0510, E0908}
@@ -29,7 +29,7 @@ use Rattle.gsl_tree.specs.declared.unit.Interface.{Interface}
 use Rattle.gsl_tree.specs.Values.{value_meaning}
 use Rattle.gsl_values.specs.declared.value.Value.{Value}
 use Rattle.gsl_tree.specs.Weights.{height_of, height_meaning, most_high}
-use Rattle.gsl_tree.specs.WellTyped.{IsVariableType, is_plain}
+use Rattle.gsl_tree.specs.WellTyped.{IsVariableType, is_plain, IsName, IsStructDeclared}
 use Rattle.gsl_typing.specs.declared.scene.Scene.{Scene}
 use Rattle.gsl_check_expr.specs.declared.env.Env.{Env}
 use Rattle.gsl_check_expr.specs.declared.brackets.Dimensions.{Dimensions}
@@ -41,20 +41,26 @@ use Rattle.gsl_check_expr.specs.Callees.{Base, Keyword, Callee, basic_type}
 use Rattle.gsl_check_expr.specs.Callees as callees
 use Rattle.gsl_check_expr.specs.Expressions.{bracket, callee}
 use Rattle.gsl_check_expr.specs.Written.{struct_named, base_type, bracketed, written_by, written_type, named_by, declared, whole_type}
-use Rattle.gsl_check_decl.specs.Declaring.{is_reserved, may_be_had, is_high}
+use Rattle.gsl_check_decl.specs.Declaring.{is_reserved, may_be_had, is_high, is_empty, is_declared}
 use Rattle.gsl_check_decl.specs.Locals.{with_local}
-use Rattle.gsl_check_decl.specs.Structs.{has_member, may_be_member, with_member, with_names, with_line, with_lines, struct_of, height_over, with_struct, may_be_struct, structured}
+use Rattle.gsl_check_decl.specs.Structs.{has_member, may_be_member, with_member, with_names, with_line, with_lines, struct_of, height_over, with_struct, may_be_struct, structured, is_too_large}
 use Rattle.gsl_check_decl.specs.Structs as structs
 use Rattle.gsl_check_decl.proofs.Gathering.{Holds, holds_after, holds_then}
 use Rattle.gsl_check_law.specs.Scenes.{IsHead, HasVariables, IsEnv}
-use Rattle.gsl_check_law.proofs.Rows.{row, not_false, both, there}
+use Rattle.gsl_check_law.proofs.Rows.{row, not_false, both, there, neither}
 use Rattle.gsl_check_law.proofs.Found.{all_append, all_map}
 use Rattle.gsl_check_law.proofs.Sizing.{GoodBracket, GoodDimensions, dimensions_good, arrayed_sound, array_sound, basic_sound}
 use Rattle.gsl_check_law.proofs.Naming.{find_there, IsThereOr}
 use Rattle.gsl_check_law.proofs.Phrases.{bracket_good, callee_good}
 use Rattle.gsl_check_law.proofs.Lists.{GoodAt}
-use Rattle.gsl_check_law.proofs.Growing.{Grows, front_append}
+use Rattle.gsl_check_law.proofs.Longer.{Grows, front_append, AreDeclared}
 use Rattle.gsl_check_law.proofs.Standing.{variable_grows, result_grows, names_grow, with_name, meaning_stays}
+use Rattle.gsl_check_law.specs.Formed.{struct_formed, names_formed, is_name}
+use Rattle.gsl_tree.specs.Expressions.{most_parts}
+use Rattle.gsl_types.proofs.Longer.{numbered_push, longer_known}
+use Rattle.gsl_overload.proofs.Same.{no_more, same_is}
+use Rattle.gsl_check_law.proofs.Names.{name_is}
+use Rattle.gsl_layout.specs.Measures.{measuring}
 
 -- ---- types as they are written
 
@@ -144,6 +150,8 @@ module _ (env : Env) (fine : IsEnv env) where
         leaves = λ u known. refl;
         heights = λ u known. refl;
         values = λ u v known. refl;
+        measures = λ raise k below. refl;
+        declared = λ are. are;
         globals = λ k x is. is;
         blocks = λ k x is. is;
         interfaces = λ k x is. is;
@@ -171,14 +179,16 @@ module _ (env : Env) (fine : IsEnv env) where
 
   -- ---- one more struct
 
-  struct_grows : (s : StructType) → Grows scene (record scene { structs = scene.structs ++ s ∷ [] })
-  struct_grows s = record {
+  struct_grows : (s : StructType) → (AreDeclared scene.structs → AreDeclared (scene.structs ++ s ∷ [])) → Grows scene (record scene { structs = scene.structs ++ s ∷ [] })
+  struct_grows s declared = record {
     stage = refl;
     structs = front_append scene.structs (s ∷ []);
     count = omega (arith, length-append scene.structs (s ∷ []));
     leaves = λ u known. ap (λ n. min n most_leaves) (meaning_stays scene.structs s counting u known);
     heights = λ u known. meaning_stays scene.structs s height_meaning u known;
     values = λ u v known. ap (λ (test : Value → Bool). test v) (meaning_stays scene.structs s value_meaning u known);
+    measures = λ raise k below. numbered_push (measuring raise) scene.structs s k below;
+    declared = declared;
     globals = λ k x is. is;
     blocks = λ k x is. is;
     interfaces = λ k x is. is;
@@ -187,6 +197,37 @@ module _ (env : Env) (fine : IsEnv env) where
     params = refl;
     locals = λ k x is. is;
   }
+
+  -- a type of variables is one where a struct more is there
+  variable_stays : (s : StructType) (u : Ty) → IsVariableType scene.structs u → IsVariableType (scene.structs ++ s ∷ []) u
+  variable_stays s u is = record {
+    known = sound_stays count (length (scene.structs ++ s ∷ [])) (omega (arith, length-append scene.structs (s ∷ []))) u is.known;
+    plain = is.plain;
+    low = subst (λ h. h ≤ most_high) (meaning_stays scene.structs s height_meaning u is.known) is.low;
+  }
+
+  struct_stays : (s : StructType) (x : StructType) → IsStructDeclared scene.structs x → IsStructDeclared (scene.structs ++ s ∷ []) x
+  struct_stays s x is = record {
+    name = is.name;
+    count = is.count;
+    names = is.names;
+    types = all_map (λ (m : Member). IsVariableType scene.structs m.ty) (λ (m : Member). IsVariableType (scene.structs ++ s ∷ []) m.ty) x.members (λ m is. variable_stays s m.ty is) is.types;
+  }
+
+  struct_declared : (name : List ℕ) (members : List Member) → IsName name → 0 < length members → length members ≤ most_parts → AllByRecursion (λ (m : Member). IsName m.name × IsVariableType scene.structs m.ty) members
+      → AreDeclared scene.structs → AreDeclared (scene.structs ++ struct_of scene.structs name members ∷ [])
+  struct_declared name members named some few all are =
+      let s = struct_of scene.structs name members in
+      let types = all_map (λ (m : Member). IsName m.name × IsVariableType scene.structs m.ty) (λ (m : Member). IsVariableType scene.structs m.ty) members (λ m is. is.1) all in
+      let earlier = all_map (λ (m : Member). IsVariableType scene.structs m.ty) (λ (m : Member). IsSound count m.ty) members (λ m is. is.known) types in (
+        longer_known scene.structs are.0 s some earlier refl,
+        all_append (IsStructDeclared (scene.structs ++ s ∷ [])) scene.structs (s ∷ []) (all_map (IsStructDeclared scene.structs) (IsStructDeclared (scene.structs ++ s ∷ [])) scene.structs (struct_stays s) are.1) (record {
+          name = named;
+          count = few;
+          names = all_map (λ (m : Member). IsName m.name × IsVariableType scene.structs m.ty) (λ (m : Member). IsName m.name) members (λ m is. is.0) all;
+          types = all_map (λ (m : Member). IsVariableType scene.structs m.ty) (λ (m : Member). IsVariableType (scene.structs ++ s ∷ []) m.ty) members (λ m is. variable_stays s m.ty is) types;
+        }, tt),
+      )
 
   module _ (after : Scene) (grows : Grows scene after) where
     grown_variables : (s : StructType) → HasVariables scene.structs s → HasVariables after.structs s
@@ -217,12 +258,13 @@ module _ (env : Env) (fine : IsEnv env) where
     grown_locals : AllByRecursion (IsVariableType after.structs) scene.locals
     grown_locals = all_map (IsVariableType scene.structs) (IsVariableType after.structs) scene.locals (variable_grows scene after grows) fine.scene.locals
 
-  pub struct_grown : (name : List ℕ) (members : List Member) → AllByRecursion (λ (m : Member). IsVariableType scene.structs m.ty) members → Grown (with_struct name members env)
+  pub struct_grown : (name : List ℕ) (members : List Member) → IsName name → 0 < length members → length members ≤ most_parts → AllByRecursion (λ (m : Member). IsName m.name × IsVariableType scene.structs m.ty) members → Grown (with_struct name members env)
   unfolding with_struct
-  struct_grown name members all =
+  struct_grown name members named some few have =
+      let all = all_map (λ (m : Member). IsName m.name × IsVariableType scene.structs m.ty) (λ (m : Member). IsVariableType scene.structs m.ty) members (λ m is. is.1) have in
       let s = struct_of scene.structs name members in
       let after : Scene = record scene { structs = scene.structs ++ s ∷ [] } in
-      let grows : Grows scene after = struct_grows s in (
+      let grows : Grows scene after = struct_grows s (struct_declared name members named some few have) in (
         record {
           names = with_name after name (entry.Struct count) env.names (omega (arith, length-append scene.structs (s ∷ []))) (names_grow scene after grows env.names fine.names);
           scene = record {
@@ -242,37 +284,45 @@ module _ (env : Env) (fine : IsEnv env) where
 
   -- ---- the members of a struct
 
-  abbrev Variables : List Member → Type 0
-  Variables members = AllByRecursion (λ (m : Member). IsVariableType scene.structs m.ty) members
+  -- a member of a struct that may be declared
+  abbrev IsMember : Member → Type 0
+  IsMember m = IsName m.name × IsVariableType scene.structs m.ty
 
-  member_had : (name : Name) (t : Ty) (members : List Member) → Variables members → Holds Variables (with_member scene name t members)
+  abbrev Variables : List Member → Type 0
+  Variables members = AllByRecursion IsMember members
+
+  member_had : (name : Name) (t : Ty) (members : List Member) → IsTrue (is_name name.text) → Variables members → Holds Variables (with_member scene name t members)
   unfolding may_be_member
-  member_had name t members all =
+  member_had name t members formed all =
       holds_after (λ _. IsVariableType scene.structs t) Variables (may_be_member scene name t members) (λ _. Ok (members ++ record { name = name.text; ty = t } ∷ []))
       (row (λ _. IsVariableType scene.structs t) name.place E0403 (has_member members name.text) ((E0404, is_reserved name.text) ∷ (E0510, not (may_be_had scene t)) ∷ (E0908, is_high scene t) ∷ []) (Ok tt)
       (λ _. row (λ _. IsVariableType scene.structs t) name.place E0404 (is_reserved name.text) ((E0510, not (may_be_had scene t)) ∷ (E0908, is_high scene t) ∷ []) (Ok tt)
       (λ _. row (λ _. IsVariableType scene.structs t) name.place E0510 (not (may_be_had scene t)) ((E0908, is_high scene t) ∷ []) (Ok tt)
       (λ had. row (λ _. IsVariableType scene.structs t) name.place E0908 (is_high scene t) [] (Ok tt)
       (λ low. variable_is t had low)))))
-      (λ _ is. all_append (λ (m : Member). IsVariableType scene.structs m.ty) members (record { name = name.text; ty = t } ∷ []) all (is, tt))
+      (λ _ is. all_append IsMember members (record { name = name.text; ty = t } ∷ []) all ((name_is name.text formed, is), tt))
 
-  name_had : (base : Written) (one : Declared) (members : List Member) → Variables members → Holds Variables (structs.with_name env base one members)
+  name_had : (base : Written) (one : Declared) (members : List Member) → IsTrue (is_name one.name.text) → Variables members → Holds Variables (structs.with_name env base one members)
   unfolding structs.with_name
-  name_had base one members all =
+  name_had base one members formed all =
       holds_then Variables (declared (map (bracket env) one.dims) base) (λ t. whole_type t >>= (λ whole. with_member scene one.name whole members))
-      (λ t. holds_then Variables (whole_type t) (λ whole. with_member scene one.name whole members) (λ whole. member_had one.name whole members all))
+      (λ t. holds_then Variables (whole_type t) (λ whole. with_member scene one.name whole members) (λ whole. member_had one.name whole members formed all))
 
-  names_had : (base : Written) (names : List Declared) (members : List Member) → Variables members → Holds Variables (with_names env base names members)
-  names_had base [] members all = all
-  names_had base (one ∷ more) members all = holds_after Variables Variables (structs.with_name env base one members) (with_names env base more) (name_had base one members all) (names_had base more)
+  names_had : (base : Written) (names : List Declared) (members : List Member) → IsTrue (names_formed names) → Variables members → Holds Variables (with_names env base names members)
+  names_had base [] members formed all = all
+  names_had base (one ∷ more) members formed all =
+      let parts = and_parts (is_name one.name.text) (names_formed more) formed in
+      holds_after Variables Variables (structs.with_name env base one members) (with_names env base more) (name_had base one members parts.0 all) (λ next had. names_had base more next parts.1 had)
 
-  line_had : (line : StructMember) (members : List Member) → Variables members → Holds Variables (with_line env line members)
+  line_had : (line : StructMember) (members : List Member) → IsTrue (names_formed line.names) → Variables members → Holds Variables (with_line env line members)
   unfolding with_line
-  line_had line members all = holds_then Variables (written_type env line.ty) (λ base. with_names env base line.names members) (λ base. names_had base line.names members all)
+  line_had line members formed all = holds_then Variables (written_type env line.ty) (λ base. with_names env base line.names members) (λ base. names_had base line.names members formed all)
 
-  lines_had : (lines : List StructMember) (members : List Member) → Variables members → Holds Variables (with_lines env lines members)
-  lines_had [] members all = all
-  lines_had (line ∷ lines) members all = holds_after Variables Variables (with_line env line members) (with_lines env lines) (line_had line members all) (lines_had lines)
+  lines_had : (lines : List StructMember) (members : List Member) → IsTrue (list_all (λ (line : StructMember). names_formed line.names) lines) → Variables members → Holds Variables (with_lines env lines members)
+  lines_had [] members formed all = all
+  lines_had (line ∷ lines) members formed all =
+      let parts = and_parts (names_formed line.names) (list_all (λ (line : StructMember). names_formed line.names) lines) formed in
+      holds_after Variables Variables (with_line env line members) (with_lines env lines) (line_had line members parts.0 all) (λ next had. lines_had lines next parts.1 had)
 
   number_there : (name : List ℕ) (members : List Member) → length scene.structs < length (with_struct name members env).scene.structs
   unfolding with_struct
@@ -282,9 +332,23 @@ module _ (env : Env) (fine : IsEnv env) where
   abbrev pub StructDone : ℕ × Env → Type 0
   StructDone done = Grown done.1 × (done.0 < length done.1.scene.structs)
 
-  pub structured_is : (s : Struct) → Holds StructDone (structured s env)
-  unfolding structured
-  structured_is s =
-      holds_after Variables StructDone (with_lines env s.members []) (λ members. may_be_struct s.name members env >>= (λ _. Ok (length scene.structs, with_struct s.name.text members env))) (lines_had s.members [] tt)
-      (λ members all. holds_then StructDone (may_be_struct s.name members env) (λ _. Ok (length scene.structs, with_struct s.name.text members env))
-      (λ _. (struct_grown s.name.text members all, number_there s.name.text members)))
+  filled : (members : List Member) → is_empty members ≡ false → 0 < length members
+  filled [] is = no_more (sym is)
+  filled (m ∷ members) is = omega arith
+
+  within : (members : List Member) → is_too_large scene members ≡ false → length members ≤ most_parts
+  unfolding is_too_large
+  within members is = leb-true (length members) most_parts (not_false _ (neither _ _ is).0)
+
+  pub structured_is : (s : Struct) → IsTrue (struct_formed s) → Holds StructDone (structured s env)
+  unfolding structured may_be_struct
+  structured_is s formed =
+      let parts = and_parts (is_name s.name.text) (list_all (λ (line : StructMember). names_formed line.names) s.members) formed in
+      holds_after Variables StructDone (with_lines env s.members []) (λ members. may_be_struct s.name members env >>= (λ _. Ok (length scene.structs, with_struct s.name.text members env))) (lines_had s.members [] parts.1 tt)
+      (λ members all. holds_after (λ _. (0 < length members) × (length members ≤ most_parts)) StructDone (may_be_struct s.name members env) (λ _. Ok (length scene.structs, with_struct s.name.text members env))
+      (row (λ _. (0 < length members) × (length members ≤ most_parts)) s.name.place E0403 (is_declared env s.name.text) ((E0404, is_reserved s.name.text) ∷ (E0510, is_empty members) ∷ (E0908, is_too_large scene members) ∷ []) (Ok (height_over scene.structs members))
+      (λ _. row (λ _. (0 < length members) × (length members ≤ most_parts)) s.name.place E0404 (is_reserved s.name.text) ((E0510, is_empty members) ∷ (E0908, is_too_large scene members) ∷ []) (Ok (height_over scene.structs members))
+      (λ _. row (λ _. (0 < length members) × (length members ≤ most_parts)) s.name.place E0510 (is_empty members) ((E0908, is_too_large scene members) ∷ []) (Ok (height_over scene.structs members))
+      (λ some. row (λ _. (0 < length members) × (length members ≤ most_parts)) s.name.place E0908 (is_too_large scene members) [] (Ok (height_over scene.structs members))
+      (λ small. (filled members some, within members small))))))
+      (λ _ count. (struct_grown s.name.text members (name_is s.name.text parts.0) count.0 count.1 all, number_there s.name.text members)))

@@ -41,7 +41,7 @@ use Rattle.gsl_check_law.proofs.Rows.{row, there}
 use Rattle.gsl_check_law.proofs.Parts.{IsRead}
 use Rattle.gsl_check_law.proofs.Building.{plain_settled}
 use Rattle.gsl_check_law.proofs.Operators.{operand_of}
-use Rattle.gsl_check_law.proofs.Growing.{Grows}
+use Rattle.gsl_check_law.proofs.Longer.{Grows}
 use Rattle.gsl_check_law.proofs.Declaring.{variable_is}
 use Rattle.gsl_check_law.proofs.Topmost.{global_grown}
 

@@ -34,71 +34,9 @@ use Rattle.gsl_typing.specs.declared.scene.Scene.{Scene}
 use Rattle.gsl_typing.specs.Scene.{around}
 use Rattle.gsl_check_law.specs.Scenes.{IsScene}
 use Rattle.gsl_check_law.proofs.Constants.{LeafKnown, stays_known}
+use Rattle.gsl_check_law.proofs.Longer.{Grows}
 use Rattle.gsl_check_law.proofs.Places.{in_range_too}
 use Rattle.gsl_check_law.proofs.Sounds.{type_sound}
-
--- what stands in the one list stands there in the other
-abbrev pub Front : {A : Type 0} → List A → List A → Type 0
-Front {A} xs ys = (k : ℕ) (x : A) → slice_get xs k ≡ Some x → slice_get ys k ≡ Some x
-
--- The lists of one scene begin those of another.
-pub record Grows (s t : Scene) : Type 0 where
-  pub stage : s.stage ≡ t.stage
-  pub structs : Front s.structs t.structs
-  pub count : length s.structs ≤ length t.structs
-  pub leaves : (u : Ty) → IsSound (length s.structs) u → told_leaves s.structs u ≡ told_leaves t.structs u
-  pub heights : (u : Ty) → IsSound (length s.structs) u → height_of s.structs u ≡ height_of t.structs u
-  pub values : (u : Ty) (v : Value) → IsSound (length s.structs) u → is_value_of s.structs u v ≡ is_value_of t.structs u v
-  pub globals : Front s.globals t.globals
-  pub blocks : Front s.blocks t.blocks
-  pub interfaces : Front s.interfaces t.interfaces
-  pub prototypes : Front s.prototypes t.prototypes
-  pub sizes : Front s.sizes t.sizes
-  pub params : s.params ≡ t.params
-  pub locals : Front s.locals t.locals
-
-pub grows_itself : (s : Scene) → Grows s s
-grows_itself s = record {
-  stage = refl;
-  structs = λ k x is. is;
-  count = omega arith;
-  leaves = λ u known. refl;
-  heights = λ u known. refl;
-  values = λ u v known. refl;
-  globals = λ k x is. is;
-  blocks = λ k x is. is;
-  interfaces = λ k x is. is;
-  prototypes = λ k x is. is;
-  sizes = λ k x is. is;
-  params = refl;
-  locals = λ k x is. is;
-}
-
-pub grows_then : (s t u : Scene) → Grows s t → Grows t u → Grows s u
-grows_then s t u a b =
-    let first = a.count in
-    let second = b.count in
-    record {
-      stage = a.stage ∙ b.stage;
-      structs = λ k x is. b.structs k x (a.structs k x is);
-      count = omega (arith, first, second);
-      leaves = λ v known. a.leaves v known ∙ b.leaves v (sound_stays (length s.structs) (length t.structs) first v known);
-      heights = λ v known. a.heights v known ∙ b.heights v (sound_stays (length s.structs) (length t.structs) first v known);
-      values = λ v w known. a.values v w known ∙ b.values v w (sound_stays (length s.structs) (length t.structs) first v known);
-      globals = λ k x is. b.globals k x (a.globals k x is);
-      blocks = λ k x is. b.blocks k x (a.blocks k x is);
-      interfaces = λ k x is. b.interfaces k x (a.interfaces k x is);
-      prototypes = λ k x is. b.prototypes k x (a.prototypes k x is);
-      sizes = λ k x is. b.sizes k x (a.sizes k x is);
-      params = a.params ∙ b.params;
-      locals = λ k x is. b.locals k x (a.locals k x is);
-    }
-
--- what is put behind a list leaves what stands in it
-pub front_append : {A : Type 0} (xs ys : List A) → Front xs (xs ++ ys)
-front_append [] ys k x is = elim (none-some x is) [ ]
-front_append (y ∷ xs) ys zero x is = is
-front_append (y ∷ xs) ys (suc k) x is = front_append xs ys k x is
 
 -- ---- a test of an expression, by its form
 

@@ -1,5 +1,6 @@
 pub mod Types
 pub mod Rows
+pub mod Names
 pub mod Parts
 pub mod Fits
 pub mod Operators
@@ -14,6 +15,7 @@ pub mod Naming
 pub mod Phrases
 pub mod Lists
 pub mod Sounds
+pub mod Longer
 pub mod Growing
 pub mod Standing
 pub mod Declaring

@@ -25,7 +25,7 @@ use Rattle.gsl_check_stmt.specs.Statements.{Test, Head, tested, tested_if, eval,
 use Rattle.gsl_check_law.specs.Formed.{IsFormed, formed_if, init_part_formed}
 use Rattle.gsl_check_law.specs.Labels.{exits_of, IsStmtBut}
 use Rattle.gsl_check_law.specs.Scenes.{IsScene, IsEnv}
-use Rattle.gsl_check_law.proofs.Growing.{Grows, grows_itself, grows_then}
+use Rattle.gsl_check_law.proofs.Longer.{Grows, grows_itself, grows_then}
 use Rattle.gsl_check_law.proofs.Standing.{stmt_grows}
 use Rattle.gsl_check_law.proofs.Declarators.{Did, stmt_at, declaration_typed}
 use Rattle.gsl_check_law.proofs.Stated.{opened_env, closed_env, Readable, TestIs, TestIfIs, StepIfIs, test_if_grows, step_if_grows, tested_is, tested_if_is, eval_reads, eval_if_is, unless_holds, HasResult, keeps_result, StepIs, Stands}

@@ -25,7 +25,8 @@ use Rattle.gsl_typing.specs.declared.scene.Scene.{Scene}
 use Rattle.gsl_typing.specs.Scene.{around}
 use Rattle.gsl_check_law.specs.Scenes.{IsScene, IsThere, AreThere}
 use Rattle.gsl_check_law.proofs.Found.{below, all_map}
-use Rattle.gsl_check_law.proofs.Growing.{Grows, expr_grows, read_grows}
+use Rattle.gsl_check_law.proofs.Longer.{Grows}
+use Rattle.gsl_check_law.proofs.Growing.{expr_grows, read_grows}
 
 -- ---- statements
 

@@ -46,7 +46,8 @@ use Rattle.gsl_check_law.proofs.Building.{plain_settled}
 use Rattle.gsl_check_law.proofs.Operators.{bool_is, boolean_settled, operand_of}
 use Rattle.gsl_check_law.proofs.Types.{IsSettled}
 use Rattle.gsl_check_law.proofs.Phrases.{answer_typed, taken_is}
-use Rattle.gsl_check_law.proofs.Growing.{Grows, grows_itself, grows_then, expr_grows, read_grows}
+use Rattle.gsl_check_law.proofs.Longer.{Grows, grows_itself, grows_then}
+use Rattle.gsl_check_law.proofs.Growing.{expr_grows, read_grows}
 use Rattle.gsl_check_law.proofs.Standing.{stmt_grows, result_grows}
 use Rattle.gsl_check_law.proofs.Declarators.{Did, DidAll, Does, stmt_at, turns}
 

@@ -45,7 +45,8 @@ use Rattle.gsl_check_law.proofs.Rows.{row, not_false, both}
 use Rattle.gsl_check_law.proofs.Places.{index_is, index_settled}
 use Rattle.gsl_check_law.proofs.Parts.{may_be_read}
 use Rattle.gsl_check_law.proofs.Phrases.{taken_is}
-use Rattle.gsl_check_law.proofs.Growing.{Grows, grows_itself, grows_then, expr_grows, written_grows}
+use Rattle.gsl_check_law.proofs.Longer.{Grows, grows_itself, grows_then}
+use Rattle.gsl_check_law.proofs.Growing.{expr_grows, written_grows}
 use Rattle.gsl_check_law.proofs.Standing.{stmts_grow}
 use Rattle.gsl_check_law.proofs.Declarators.{Did, stmt_at}
 use Rattle.gsl_check_law.proofs.Stated.{opened_env, closed_env, HasResult, keeps_result, StepIs}

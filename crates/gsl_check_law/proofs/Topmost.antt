@@ -17,7 +17,7 @@ use Rattle.gsl_check_expr.specs.declared.env.Env.{Env}
 use Rattle.gsl_check_decl.specs.Globals.{with_global, with_interface, with_head, members_named, inner_names, with_block}
 use Rattle.gsl_check_law.specs.Scenes.{IsHead, AreThere, IsEnv}
 use Rattle.gsl_check_law.proofs.Found.{all_append}
-use Rattle.gsl_check_law.proofs.Growing.{Grows, front_append}
+use Rattle.gsl_check_law.proofs.Longer.{Grows, front_append}
 use Rattle.gsl_check_law.proofs.Standing.{names_grow, with_name}
 
 map_push : {A B : Type 0} (g : A → B) (xs : List A) (y : A) → map g (xs ++ y ∷ []) ≡ map g xs ++ g y ∷ []
@@ -46,6 +46,8 @@ module _ (env : Env) (fine : IsEnv env) where
         leaves = λ u known. refl;
         heights = λ u known. refl;
         values = λ u v known. refl;
+        measures = λ raise k below. refl;
+        declared = λ are. are;
         globals = front_append scene.globals (g ∷ []);
         blocks = λ k x is. is;
         interfaces = λ k x is. is;
@@ -84,6 +86,8 @@ module _ (env : Env) (fine : IsEnv env) where
         leaves = λ u known. refl;
         heights = λ u known. refl;
         values = λ u v known. refl;
+        measures = λ raise k below. refl;
+        declared = λ are. are;
         globals = λ k x is. is;
         blocks = λ k x is. is;
         interfaces = front_append scene.interfaces (i ∷ []);
@@ -121,6 +125,8 @@ module _ (env : Env) (fine : IsEnv env) where
         leaves = λ u known. refl;
         heights = λ u known. refl;
         values = λ u v known. refl;
+        measures = λ raise k below. refl;
+        declared = λ are. are;
         globals = λ k x is. is;
         blocks = λ k x is. is;
         interfaces = λ k x is. is;
@@ -166,6 +172,8 @@ module _ (env : Env) (fine : IsEnv env) where
         leaves = λ u known. refl;
         heights = λ u known. refl;
         values = λ u v known. refl;
+        measures = λ raise k below. refl;
+        declared = λ are. are;
         globals = λ k x is. is;
         blocks = front_append scene.blocks (block ∷ []);
         interfaces = λ k x is. is;

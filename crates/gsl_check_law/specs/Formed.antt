@@ -1,13 +1,24 @@
--- Which expressions and statements are as the grammar and the lexer give them: literals are words, and commas join two at least.
-use Rattle.std.specs.Prelude.{◌^◌, Bool, true, false, ◌&&◌, nat_lt, List, [], ◌∷◌, Option, Some, None, IsTrue}
+-- Which syntax trees are as the grammar and the lexer give them: literals are words, commas join two at least, names are short and have no
+-- zero byte, and blocks have members.
+use Rattle.std.specs.Prelude.{ℕ, ◌^◌, Bool, true, false, ◌&&◌, nat_lt, nat_le, List, [], ◌∷◌, length, Option, Some, None, IsTrue}
+use Rattle.std.specs.List.{list_all}
 use Rattle.gsl_base.specs.declared.fault.Place.{Place}
 use Rattle.gsl_syntax.specs.declared.expr.Expr.{Expr}
+use Rattle.gsl_syntax.specs.declared.declaration.Name.{Name}
+use Rattle.gsl_syntax.specs.declared.declaration.Declared.{Declared}
+use Rattle.gsl_syntax.specs.declared.declaration.StructMember.{StructMember}
+use Rattle.gsl_syntax.specs.declared.declaration.Struct.{Struct}
+use Rattle.gsl_syntax.specs.declared.declaration.Member.{Member}
 use Rattle.gsl_syntax.specs.declared.declaration.Declarator.{Declarator}
 use Rattle.gsl_syntax.specs.declared.declaration.Declarator.TheVariants as declarator
 use Rattle.gsl_syntax.specs.declared.declaration.Decl.{Decl}
 use Rattle.gsl_syntax.specs.declared.declaration.Decl.TheVariants as decl
 use Rattle.gsl_syntax.specs.declared.statement.ForInit.{ForInit}
 use Rattle.gsl_syntax.specs.declared.statement.ForInit.TheVariants as for_init
+use Rattle.gsl_syntax.specs.declared.statement.Body.{Body}
+use Rattle.gsl_syntax.specs.declared.statement.Body.TheVariants as body_of
+use Rattle.gsl_syntax.specs.declared.statement.Global.{Global}
+use Rattle.gsl_syntax.specs.declared.statement.Global.TheVariants as global
 use Rattle.gsl_syntax.specs.declared.statement.Stmt.{Stmt}
 use Rattle.gsl_syntax.specs.declared.statement.Stmt.TheOpen.{Stmt-F}
 use Rattle.gsl_syntax.specs.declared.statement.Stmt.TheFolds.{fold-Stmt}
@@ -66,11 +77,38 @@ init_formed = fold-Init Bool init_formed_by
 abbrev pub IsFormedInit : Init → Type 0
 IsFormedInit init = IsTrue (init_formed init)
 
--- ---- statements
+-- ---- names
+
+-- a name has at most 1,024 bytes and no zero byte
+abbrev pub is_name : List ℕ → Bool
+is_name name = nat_le (length name) 1024 && list_all (λ byte. nat_lt 0 byte) name
+
+abbrev pub names_formed : List Declared → Bool
+names_formed names = list_all (λ (one : Declared). is_name one.name.text) names
+
+-- ---- declarations
+
+abbrev pub has_some : {A : Type 0} → List A → Bool
+has_some [] = false
+has_some (x ∷ xs) = true
+
+abbrev pub struct_formed : Struct → Bool
+struct_formed s = is_name s.name.text && list_all (λ (line : StructMember). names_formed line.names) s.members
+
+abbrev pub instance_formed : Option Name → Bool
+instance_formed None = true
+instance_formed (Some name) = is_name name.text
+
+abbrev pub line_formed : Member → Bool
+line_formed line = has_some line.names && names_formed line.names
+
+-- a block has a line, and each line a name
+abbrev pub lines_formed : List Member → Bool
+lines_formed lines = has_some lines && list_all line_formed lines
 
 abbrev pub declarator_formed : Declarator → Bool
-declarator_formed (declarator.Plain name dims) = true
-declarator_formed (declarator.Initialised name dims init) = init_formed init
+declarator_formed (declarator.Plain name dims) = is_name name.text
+declarator_formed (declarator.Initialised name dims init) = is_name name.text && init_formed init
 
 abbrev pub declarators_formed : List Declarator → Bool
 declarators_formed [] = true
@@ -78,9 +116,11 @@ declarators_formed (d ∷ all) = declarator_formed d && declarators_formed all
 
 abbrev pub decl_formed : Decl → Bool
 decl_formed (decl.Variables quals t all) = declarators_formed all
-decl_formed (decl.Struct quals s all) = declarators_formed all
-decl_formed (decl.Block quals name members instance) = true
+decl_formed (decl.Struct quals s all) = struct_formed s && declarators_formed all
+decl_formed (decl.Block quals name lines instance) = is_name name.text && (instance_formed instance && lines_formed lines)
 decl_formed (decl.Quals quals) = true
+
+-- ---- statements
 
 abbrev pub init_part_formed : ForInit → Bool
 init_part_formed (for_init.Empty place) = true
@@ -115,3 +155,17 @@ stmt_formed = fold-Stmt Bool stmt_formed_by
 
 abbrev pub IsFormedStmt : Stmt → Type 0
 IsFormedStmt s = IsTrue (stmt_formed s)
+
+-- ---- units
+
+abbrev pub body_formed : Body → Bool
+body_formed (body_of.Prototype place) = true
+body_formed (body_of.Block place all) = list_all stmt_formed all
+
+abbrev pub global_formed : Global → Bool
+global_formed (global.Empty place) = true
+global_formed (global.Decl d) = decl_formed d
+global_formed (global.Function f) = is_name f.name.text && body_formed f.body
+
+abbrev pub IsFormedUnit : List Global → Type 0
+IsFormedUnit unit = IsTrue (list_all global_formed unit)
