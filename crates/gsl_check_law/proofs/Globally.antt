@@ -8,7 +8,7 @@ use Rattle.gsl_types.specs.declared.ty.Ty.{Ty}
 use Rattle.gsl_types.specs.declared.ty.Ty.TheVariants as ty
 use Rattle.gsl_values.specs.declared.value.Value.{Value}
 use Rattle.gsl_overload.specs.Identity.{identical}
-use Rattle.gsl_overload.proofs.Same.{no_more}
+use Rattle.gsl_overload.proofs.Same.{no_more, same_is}
 use Rattle.gsl_tree.specs.declared.expr.Expr.{Expr}
 use Rattle.gsl_tree.specs.declared.expr.ExprKind.TheVariants as kind
 use Rattle.gsl_tree.specs.declared.folded.Folded.{Folded}
@@ -19,7 +19,7 @@ use Rattle.gsl_tree.specs.Around.{known_value}
 use Rattle.gsl_tree.specs.Constants.{constant_of, standing, gives, known_as}
 use Rattle.gsl_tree.specs.Expressions.{IsExpr, MayBeRead}
 use Rattle.gsl_tree.specs.Trees.{typed, type_of, place_of}
-use Rattle.gsl_tree.specs.WellTyped.{IsVariableType}
+use Rattle.gsl_tree.specs.WellTyped.{IsVariableType, IsName}
 use Rattle.gsl_tree.proofs.Steps as at
 use Rattle.gsl_typing.specs.declared.scene.Scene.{Scene}
 use Rattle.gsl_typing.specs.declared.scene.Part.{Part}
@@ -44,6 +44,8 @@ use Rattle.gsl_check_law.proofs.Operators.{operand_of}
 use Rattle.gsl_check_law.proofs.Longer.{Grows}
 use Rattle.gsl_check_law.proofs.Declaring.{variable_is}
 use Rattle.gsl_check_law.proofs.Topmost.{global_grown}
+use Rattle.gsl_check_law.specs.Formed.{is_name}
+use Rattle.gsl_check_law.proofs.Names.{name_is}
 
 -- ---- what is constant stays so where it is converted
 
@@ -97,20 +99,19 @@ pub record GlobalDone (before : Env) (after : Env) : Type 0 where
   pub env : IsEnv after
   pub grows : Grows before.scene after.scene
   pub g : GlobalVar
-  pub globals : after.scene.globals ≡ before.scene.globals ++ g ∷ []
+  pub folded : Folded
+  pub is : after ≡ with_global g folded before
+  pub name : IsName g.name
+  pub type : IsVariableType before.scene.structs g.ty
   pub begins : Begins before.scene g g.init
 
 module _ (env : Env) (fine : IsEnv env) where
   abbrev scene : Scene
   scene = env.scene
 
-  globals_are : (g : GlobalVar) (folded : Folded) → (with_global g folded env).scene.globals ≡ scene.globals ++ g ∷ []
-  unfolding with_global
-  globals_are g folded = refl
-
-  pub plain_done : (fixed : Bool) (name : Name) (t : Ty) → Holds (GlobalDone env) (plain_variable fixed name t env)
+  pub plain_done : (fixed : Bool) (name : Name) (t : Ty) → IsTrue (is_name name.text) → Holds (GlobalDone env) (plain_variable fixed name t env)
   unfolding plain_variable may_be_plain
-  plain_done fixed name t =
+  plain_done fixed name t formed =
       holds_after (λ _. IsVariableType scene.structs t) (GlobalDone env) (may_be_plain fixed name t env) (λ _. Ok (with_global (plain_global name t) NotConstant env))
       (row (λ _. IsVariableType scene.structs t) name.place E0403 (is_declared env name.text) ((E0404, is_reserved name.text) ∷ (E0510, not (may_be_had scene t)) ∷ (E0604, fixed) ∷ (E0908, is_high scene t) ∷ []) (Ok tt)
       (λ _. row (λ _. IsVariableType scene.structs t) name.place E0404 (is_reserved name.text) ((E0510, not (may_be_had scene t)) ∷ (E0604, fixed) ∷ (E0908, is_high scene t) ∷ []) (Ok tt)
@@ -120,7 +121,7 @@ module _ (env : Env) (fine : IsEnv env) where
       (λ low. variable_is env fine t had low))))))
       (λ _ is.
       let grown = global_grown env fine (plain_global name t) NotConstant is refl in
-      record { env = grown.0; grows = grown.1; g = plain_global name t; globals = globals_are (plain_global name t) NotConstant; begins = (refl, refl) })
+      record { env = grown.0; grows = grown.1; g = plain_global name t; folded = NotConstant; is = refl; name = name_is name.text formed; type = is; begins = (refl, refl) })
 
   abbrev MayBegin : Part → Ty → Type 0
   MayBegin x t = IsVariableType scene.structs t × IsTrue (serves_as (type_in x) t) × (is_unread scene x ≡ false) × ((v : Value) × (constant_of scene.consts x.expr ≡ Known v))
@@ -148,9 +149,9 @@ module _ (env : Env) (fine : IsEnv env) where
   shown true f v is = is ∙ ap (λ (g : Folded). known_value true (value_in g)) (sym is)
   shown false f v is = refl
 
-  pub set_done : (fixed : Bool) (name : Name) (t : Ty) (e : Expr) (v : Value) → IsVariableType scene.structs t → IsRead (around scene) t e → constant_of scene.consts e ≡ Known v → Holds (GlobalDone env) (set_variable fixed name t e env)
+  pub set_done : (fixed : Bool) (name : Name) (t : Ty) (e : Expr) (v : Value) → IsTrue (is_name name.text) → IsVariableType scene.structs t → IsRead (around scene) t e → constant_of scene.consts e ≡ Known v → Holds (GlobalDone env) (set_variable fixed name t e env)
   unfolding set_variable
-  set_done fixed name t e v is read known =
+  set_done fixed name t e v formed is read known =
       let folded = constant_of scene.consts e in
       let one : GlobalVar = record { name = name.text; ty = t; constant = fixed; init = Some e; value = value_in folded; place = name.place } in
       let grown = global_grown env fine one (known_of fixed folded) is (shown fixed folded v known) in
@@ -158,12 +159,15 @@ module _ (env : Env) (fine : IsEnv env) where
         env = grown.0;
         grows = grown.1;
         g = one;
-        globals = globals_are one (known_of fixed folded);
+        folded = known_of fixed folded;
+        is = refl;
+        name = name_is name.text formed;
+        type = is;
         begins = record { expr = read.expr; reads = read.reads; type = read.type; value = v; known = known; kept = ap value_in known };
       }
 
-  pub begun_done : (fixed : Bool) (name : Name) (w : Written) (x : Part) → IsTaken scene x → Holds (GlobalDone env) (begun_variable fixed name w x env)
+  pub begun_done : (fixed : Bool) (name : Name) (w : Written) (x : Part) → IsTrue (is_name name.text) → IsTaken scene x → Holds (GlobalDone env) (begun_variable fixed name w x env)
   unfolding begun_variable
-  begun_done fixed name w x taken =
+  begun_done fixed name w x formed taken =
       holds_after (MayBegin x) (GlobalDone env) (may_begin name w x env) (λ t. set_variable fixed name t (as_type t x.expr) env) (begins_are name w x)
-      (λ t is. set_done fixed name t (as_type t x.expr) is.3.0 is.0 (operand_of scene t x taken is.2 is.1 (plain_settled t is.0.plain)) (as_type_same scene.consts t x.expr ∙ is.3.1))
+      (λ t is. set_done fixed name t (as_type t x.expr) is.3.0 formed is.0 (operand_of scene t x taken is.2 is.1 (plain_settled t is.0.plain)) (as_type_same scene.consts t x.expr ∙ is.3.1))

@@ -27,3 +27,8 @@ pub mod Walked
 pub mod Topmost
 pub mod Globally
 pub mod Bodied
+pub mod Qualified
+pub mod Lasting
+pub mod Tops
+pub mod Outer
+pub mod Blocked
