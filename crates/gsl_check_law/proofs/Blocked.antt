@@ -46,7 +46,7 @@ use Rattle.gsl_check_blocks.specs.Blocks.{member_type, had_type, is_open, is_tak
 use Rattle.gsl_check_blocks.specs.Blocks as blocks
 use Rattle.gsl_check_law.specs.Formed.{is_name, has_some, names_formed, line_formed, lines_formed, instance_formed}
 use Rattle.gsl_check_law.specs.Scenes.{IsEnv}
-use Rattle.gsl_check_law.proofs.Rows.{row, not_false, neither, both}
+use Rattle.gsl_check_law.proofs.Rows.{row, not_false, neither, both, so}
 use Rattle.gsl_check_law.proofs.Names.{name_is}
 use Rattle.gsl_check_law.proofs.Found.{all_append}
 use Rattle.gsl_check_law.proofs.Topmost.{block_grown}
@@ -113,7 +113,7 @@ none_is : {A : Type 0} (o : Option A) → is_some o ≡ false → o ≡ None
 none_is None is = refl
 none_is (Some a) is = no_more (sym is)
 
-buffer_is : (k : BlockKind) → blocks.is_buffer k ≡ is_buffer k
+pub buffer_is : (k : BlockKind) → blocks.is_buffer k ≡ is_buffer k
 buffer_is kind.Uniform = refl
 buffer_is kind.Buffer = refl
 buffer_is kind.Push = refl
@@ -131,6 +131,7 @@ module _ (stage : Stage) (env : Env) (fine : IsEnv env) (top : IsTop stage env.s
     pub flat : ended ≡ false → AllByRecursion (IsOne false) members
     pub are : AreBlockMembers structs k members
     pub placed : misplaced_in (rule_of frame.std140) structs (members_of members) (placings_of members) ≡ None
+    pub some : ended ≡ true → 0 < length members
 
   ends : (m : BlockMember) → IsOne false m → IsOne true m
   ends m is = record { name = is.name; known = is.known; low = is.low; type = may_end (is_buffer k) (out-Ty m.ty) is.type; qualifiers = is.qualifiers }
@@ -149,6 +150,7 @@ module _ (stage : Stage) (env : Env) (fine : IsEnv env) (top : IsTop stage env.s
     flat = λ more. all_append (IsOne false) members (m ∷ []) (state.flat refl) (subst (λ (b : Bool). IsOne b m) more is, tt);
     are = are_behind members m (state.flat refl) (true_of last m is);
     placed = placed;
+    some = λ _. omega (arith, length-append members (m ∷ []));
   }
 
   module _ (last : Bool) (q : Qualified) (of_line : IsSaid stage (Member frame.buffer) q) where
@@ -250,6 +252,6 @@ module _ (stage : Stage) (env : Env) (fine : IsEnv env) (top : IsTop stage env.s
       holds_after (State false) (State true) (with_line frame false env line members) (with_lines frame env (two ∷ lines)) (line_state false line members parts.0 state) (λ next is. lines_state two lines next parts.1 is)
 
   -- the members of all lines are those of a block
-  pub all_members : (lines : List Line) → IsTrue (lines_formed lines) → Holds (State true) (with_lines frame env lines [])
+  pub all_members : (lines : List Line) → IsTrue (lines_formed lines) → Holds (λ (members : List BlockMember). State true members × (0 < length members)) (with_lines frame env lines [])
   all_members [] formed = no_more formed
-  all_members (line ∷ lines) formed = lines_state line lines [] (and_parts true (list_all line_formed (line ∷ lines)) formed).1 (record { flat = λ _. tt; are = tt; placed = refl })
+  all_members (line ∷ lines) formed = so (State true) (λ (members : List BlockMember). State true members × (0 < length members)) (with_lines frame env (line ∷ lines) []) (lines_state line lines [] (and_parts true (list_all line_formed (line ∷ lines)) formed).1 (record { flat = λ _. tt; are = tt; placed = refl; some = λ e. no_more e })) (λ members state. (state, state.some refl))

@@ -56,7 +56,7 @@ params_there : (s : Scene) (n : ℕ) (params : List Parameter) (names : Scopes) 
 params_there s n [] names all = all
 params_there s n (p ∷ params) names all = params_there s (n + 1) params (named_if p.name n p.fixed names) (name_there s p.name n p.fixed names all)
 
-types_of_params : (structs : List StructType) (params : List Parameter) → AllByRecursion (λ (p : Parameter). IsVariableType structs p.ty) params → AllByRecursion (λ (p : Direction × Ty). IsVariableType structs p.1) (typed_params params)
+pub types_of_params : (structs : List StructType) (params : List Parameter) → AllByRecursion (λ (p : Parameter). IsVariableType structs p.ty) params → AllByRecursion (λ (p : Direction × Ty). IsVariableType structs p.1) (typed_params params)
 types_of_params structs [] all = tt
 types_of_params structs (p ∷ params) all = (all.0, types_of_params structs params all.1)
 
@@ -87,11 +87,11 @@ entered_is h is =
       };
     }
 
-entered_result : (h : Headed) → IsHeaded h → IsResult (entered h).scene.structs h.result
+pub entered_result : (h : Headed) → IsHeaded h → IsResult (entered h).scene.structs h.result
 unfolding entered
 entered_result h is = is.result
 
-entered_params : (h : Headed) → (entered h).scene.params ≡ typed_params h.params
+pub entered_params : (h : Headed) → (entered h).scene.params ≡ typed_params h.params
 unfolding entered
 entered_params h = refl
 

@@ -72,7 +72,7 @@ stmt_at around result exits s form is stands typed reads inner =
       reads = subst (λ (f : Stmt-F Stmt Arm). AllByRecursion (MayBeRead around) (exprs_of f)) (sym is) reads;
     }) (subst (λ (f : Stmt-F Stmt Arm). AlongAll (IsStepBut around result) (inner_of exits f)) (sym is) inner)
 
-found_last : {X : Type 0} (xs : List X) (y : X) → slice_get (xs ++ y ∷ []) (length xs) ≡ Some y
+pub found_last : {X : Type 0} (xs : List X) (y : X) → slice_get (xs ++ y ∷ []) (length xs) ≡ Some y
 found_last [] y = refl
 found_last (x ∷ xs) y = found_last xs y
 

@@ -84,7 +84,7 @@ module _ (s t : Scene) (fine : IsScene s) (grows : Grows s t) where
   pub params_grow : (params : List (Direction × Ty)) → AllByRecursion (λ (p : Direction × Ty). IsVariableType s.structs p.1) params → AllByRecursion (λ (p : Direction × Ty). IsVariableType t.structs p.1) params
   params_grow params all = all_map (λ (p : Direction × Ty). IsVariableType s.structs p.1) (λ (p : Direction × Ty). IsVariableType t.structs p.1) params (λ p is. variable_grows s t grows p.1 is) all
 
-  sound_grows : (u : Ty) → IsSound (length s.structs) u → IsSound (length t.structs) u
+  pub sound_grows : (u : Ty) → IsSound (length s.structs) u → IsSound (length t.structs) u
   sound_grows u is = sound_stays (length s.structs) (length t.structs) grows.count u is
 
   -- blocks, whose layout stays

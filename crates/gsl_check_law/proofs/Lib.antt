@@ -32,3 +32,6 @@ pub mod Lasting
 pub mod Tops
 pub mod Outer
 pub mod Blocked
+pub mod Blocking
+pub mod Heading
+pub mod Functioned
