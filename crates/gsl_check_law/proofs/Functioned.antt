@@ -235,7 +235,7 @@ pub record FunctionsDone (stage : Stage) (before : Env) (done : List Function ×
   pub top : TopDone stage before done.1
   pub functions : AllByRecursion (FunctionFits done.1.scene) done.0
 
-functions_grow : (s t : Scene) → IsScene s → Grows s t → (functions : List Function) → AllByRecursion (FunctionFits s) functions → AllByRecursion (FunctionFits t) functions
+pub functions_grow : (s t : Scene) → IsScene s → Grows s t → (functions : List Function) → AllByRecursion (FunctionFits s) functions → AllByRecursion (FunctionFits t) functions
 functions_grow s t fine grows functions all = all_map (FunctionFits s) (FunctionFits t) functions (function_grows s t fine grows) all
 
 all_formed_stmts : (all : List Statement) → IsTrue (list_all stmt_formed all) → AllByRecursion IsFormedStmt all

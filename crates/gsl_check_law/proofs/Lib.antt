@@ -35,3 +35,5 @@ pub mod Blocked
 pub mod Blocking
 pub mod Heading
 pub mod Functioned
+pub mod Alone
+pub mod Wholes

@@ -58,7 +58,7 @@ front_of [] y = refl
 front_of (x ∷ xs) y = ap (λ l. x ∷ l) (front_of xs y)
 
 -- globals fit where other lists grow
-fits_stay : (s t : Scene) → IsScene s → Grows s t → t.globals ≡ s.globals → ((number : ℕ) (g : GlobalVar) → slice_get s.globals number ≡ Some g → GlobalFits s number g)
+pub fits_stay : (s t : Scene) → IsScene s → Grows s t → t.globals ≡ s.globals → ((number : ℕ) (g : GlobalVar) → slice_get s.globals number ≡ Some g → GlobalFits s number g)
     → (number : ℕ) (g : GlobalVar) → slice_get t.globals number ≡ Some g → GlobalFits t number g
 fits_stay s t fine grows same all number g at =
     let here : slice_get s.globals number ≡ Some g = ap (λ (gs : List GlobalVar). slice_get gs number) (sym same) ∙ at in
