@@ -37,3 +37,4 @@ pub mod Heading
 pub mod Functioned
 pub mod Alone
 pub mod Wholes
+pub mod Deep
