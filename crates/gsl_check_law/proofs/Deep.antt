@@ -143,10 +143,10 @@ module _ (p : Place) (t : Ty) where
   two_at : (n m : ℕ) (k : ExprKind) (a b : Expr) → fold-ExprKind ℕ ℕ depth_by kind_in k ≡ max (expr_depth a) (expr_depth b) → expr_depth a ≤ n → expr_depth b ≤ m → expr_depth (typed p t k) ≤ max n m
   two_at n m k a b is first second = let whole = depth_of p t k in omega (arith, whole, is, first, second)
 
-  leaf_at : (n : ℕ) (k : ExprKind) → fold-ExprKind ℕ ℕ depth_by kind_in k ≡ 0 → expr_depth (typed p t k) ≤ n
+  pub leaf_at : (n : ℕ) (k : ExprKind) → fold-ExprKind ℕ ℕ depth_by kind_in k ≡ 0 → expr_depth (typed p t k) ≤ n
   leaf_at n k is = let whole = depth_of p t k in omega (arith, whole, is)
 
-  list_at : (n : ℕ) (k : ExprKind) (es : List Expr) → fold-ExprKind ℕ ℕ depth_by kind_in k ≡ deepest (map expr_depth es) → Under n es → expr_depth (typed p t k) ≤ n
+  pub list_at : (n : ℕ) (k : ExprKind) (es : List Expr) → fold-ExprKind ℕ ℕ depth_by kind_in k ≡ deepest (map expr_depth es) → Under n es → expr_depth (typed p t k) ≤ n
   list_at n k es is le = let whole = depth_of p t k in omega (arith, whole, is, le)
 
   as_at : (n : ℕ) (u : Ty) (e : Expr) → expr_depth e ≤ n → expr_depth (as_type u e) ≤ n

@@ -38,3 +38,4 @@ pub mod Functioned
 pub mod Alone
 pub mod Wholes
 pub mod Deep
+pub mod Depths
