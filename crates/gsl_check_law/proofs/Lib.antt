@@ -39,3 +39,4 @@ pub mod Alone
 pub mod Wholes
 pub mod Deep
 pub mod Depths
+pub mod Shallows
