@@ -40,3 +40,5 @@ pub mod Wholes
 pub mod Deep
 pub mod Depths
 pub mod Shallows
+pub mod Lows
+pub mod Lower
