@@ -36,9 +36,10 @@ pub mod Blocking
 pub mod Heading
 pub mod Functioned
 pub mod Alone
-pub mod Wholes
 pub mod Deep
 pub mod Depths
 pub mod Shallows
 pub mod Lows
 pub mod Lower
+pub mod Bounds
+pub mod Wholes

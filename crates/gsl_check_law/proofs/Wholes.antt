@@ -3,7 +3,7 @@ use Rattle.std.proofs.Common.{◌≡◌, refl, sym, ap, ◌∙◌, subst, ℕ, �
 use Rattle.std.specs.List.{AllByRecursion, list_all}
 use Rattle.std.proofs.lemmas.Bool.{and_parts}
 use Rattle.std.proofs.lemmas.Option.{none-some}
-use Rattle.gsl_base.specs.Checked.{Checked, ◌>>=◌}
+use Rattle.gsl_base.specs.Checked.{Checked, ◌>>=◌, Gives}
 use Rattle.gsl_base.specs.declared.stage.Stage.{Stage}
 use Rattle.gsl_base.specs.declared.stage.Stage.TheVariants.{Vertex, Fragment, Compute}
 use Rattle.gsl_syntax.specs.declared.declaration.Decl.{Decl}
@@ -25,22 +25,24 @@ use Rattle.gsl_check_decl.proofs.Gathering.{Holds, holds_after}
 use Rattle.gsl_check_heads.specs.Builtins.{begun_in, built_in, functions, variables}
 use Rattle.gsl_check.specs.Functions.{function}
 use Rattle.gsl_check.specs.Units.{declared_by, declaration, Progress, with_functions, next, all, begun, unit_of, finished, checked}
-use Rattle.gsl_check_law.specs.Formed.{decl_formed, global_formed, IsFormedUnit}
-use Rattle.gsl_check_law.specs.Labels.{HasWords}
+use Rattle.gsl_check_law.specs.Formed.{decl_formed, global_formed, IsFormedUnit, IsParsed}
+use Rattle.gsl_check_law.specs.Labels.{HasWords, HasUnitWords}
 use Rattle.gsl_check_law.specs.Scenes.{IsThere, AreThere, IsEnv}
 use Rattle.gsl_check_law.proofs.Found.{all_append, at_place}
 use Rattle.gsl_check_law.proofs.Longer.{AreDeclared}
 use Rattle.gsl_check_law.proofs.Walked.{stmts_whole}
 use Rattle.gsl_check_law.proofs.Lasting.{Begun, GlobalFits, FunctionFits, body_scene}
 use Rattle.gsl_check_law.proofs.Tops.{IsTop, TopDone}
-use Rattle.gsl_check_law.proofs.Outer.{variables_top, struct_top, top_itself}
+use Rattle.gsl_check_law.proofs.Outer.{variables_top, struct_top, top_itself, two_hold}
 use Rattle.gsl_check_law.proofs.Blocking.{declared_block}
 use Rattle.gsl_check_law.proofs.Functioned.{FunctionsDone, functions_grow, function_top}
 use Rattle.gsl_check_law.proofs.Alone.{alone_top}
+use Rattle.gsl_check_law.proofs.Bounds.{GlobalShallow, FunctionShallow, AllShallow, unit_shallow}
 use Rattle.gsl_tree.specs.Around.{Around}
 use Rattle.gsl_tree.specs.Expressions.{IsExpr, MayBeRead}
 use Rattle.gsl_types.specs.declared.ty.Direction.{Direction}
 use Rattle.gsl_types.specs.declared.ty.Ty.{Ty}
+use Rattle.gsl_check_law.proofs.Rows.{given}
 
 -- ---- so far
 
@@ -125,13 +127,7 @@ unit_is stage unit formed = all_are stage unit (begun stage) formed (begun_is st
 
 -- ---- in the end
 
--- arms stand no deeper in each other than they may, and labels are words
-abbrev pub GlobalShallow : GlobalVar → Type 0
-GlobalShallow g = depth_in g.init ≤ most_deep
-
-abbrev pub FunctionShallow : Function → Type 0
-FunctionShallow f = deepest (map stmt_depth f.body) ≤ most_deep
-
+-- labels are words
 abbrev pub FunctionWords : Function → Type 0
 FunctionWords f = AlongAll HasWords (with_exits outside f.body)
 
@@ -190,3 +186,14 @@ module _ (stage : Stage) (done : Progress) (is : IsSoFar stage done) (low_global
   -- a unit that was declared is well typed
   pub whole : IsUnit stage (unit_of done)
   whole = record { typed = subst (λ (of : Stage). AreWellTyped (unit_lists of (unit_of done))) is.top.of_stage well_typed; sizes = is.top.sizes }
+
+abbrev Units : Stage → TypedUnit → Type 0
+Units stage typed = HasUnitWords typed → IsUnit stage typed
+
+pub checked_whole : (stage : Stage) (unit : List Global) (typed : TypedUnit) → IsParsed unit → checked stage unit ≡ Ok typed → HasUnitWords typed → IsUnit stage typed
+unfolding checked finished
+checked_whole stage unit typed parsed is words =
+    given (Units stage) (all unit (begun stage) >>= (λ done. Ok (unit_of done))) typed
+    (holds_after (λ (done : Progress). IsSoFar stage done × AllShallow done) (Units stage) (all unit (begun stage)) (λ done. Ok (unit_of done))
+    (two_hold (IsSoFar stage) AllShallow (all unit (begun stage)) (unit_is stage unit parsed.formed) (unit_shallow stage unit parsed.shallow))
+    (λ done both spelled. whole stage done both.0 both.1.0 both.1.1 spelled)) is words

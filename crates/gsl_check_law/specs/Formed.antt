@@ -27,6 +27,7 @@ use Rattle.gsl_syntax.specs.declared.expr.Dim.TheFolds.{fold-Expr}
 use Rattle.gsl_syntax.specs.declared.declaration.Init.{Init}
 use Rattle.gsl_syntax.specs.declared.declaration.Init.TheOpen.{Init-F}
 use Rattle.gsl_syntax.specs.declared.declaration.Init.TheFolds.{fold-Init}
+use Rattle.gsl_check_law.specs.Nested.{IsShallow}
 
 abbrev pub all_formed : List Bool → Bool
 all_formed [] = true
@@ -169,3 +170,8 @@ global_formed (global.Function f) = is_name f.name.text && body_formed f.body
 
 abbrev pub IsFormedUnit : List Global → Type 0
 IsFormedUnit unit = IsTrue (list_all global_formed unit)
+
+-- what holds of a unit that a parser gives
+pub record IsParsed (unit : List Global) : Type 0 where
+  pub formed : IsFormedUnit unit
+  pub shallow : IsShallow unit

@@ -1,5 +1,5 @@
 pub mod Scenes
+pub mod Nested
 pub mod Formed
 pub mod Parts
 pub mod Labels
-pub mod Nested

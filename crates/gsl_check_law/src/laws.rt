@@ -18,8 +18,13 @@ ghost use Rattle.gsl_check_expr.specs.Expressions.{expression, taken_expression}
 ghost use Rattle.gsl_check_expr.specs.Initialisers.{value_as};
 ghost use Rattle.gsl_check_stmt.specs.declared.within.Within.{Within};
 ghost use Rattle.gsl_check_stmt.specs.Statements.{statements};
-ghost use Rattle.gsl_check_law.specs.Formed.{IsFormed, IsFormedInit, IsFormedStmt};
-ghost use Rattle.gsl_check_law.specs.Labels.{HasWords, exits_of};
+ghost use Rattle.gsl_base.specs.declared.stage.Stage.{Stage};
+ghost use Rattle.gsl_syntax.specs.declared.statement.Global.{Global};
+ghost use Rattle.gsl_tree.specs.declared.unit.TypedUnit.{TypedUnit};
+ghost use Rattle.gsl_tree.specs.WellTyped.{IsUnit};
+ghost use Rattle.gsl_check.specs.Units.{checked};
+ghost use Rattle.gsl_check_law.specs.Formed.{IsFormed, IsFormedInit, IsFormedStmt, IsParsed};
+ghost use Rattle.gsl_check_law.specs.Labels.{HasWords, HasUnitWords, exits_of};
 ghost use Rattle.gsl_check_law.specs.Parts.{IsPart, IsTaken};
 ghost use Rattle.gsl_check_law.specs.Scenes.{IsEnv};
 
@@ -40,4 +45,9 @@ pub fn initialisers_are_well_typed()
 pub fn statements_are_well_typed()
     ensures typed { (env : Env) (result : Ty) (all : List Statement) (within : Within) (done : List Stmt × Env) → IsEnv env → IsResult env.scene.structs result → AllByRecursion IsFormedStmt all → statements result all within env ≡ Ok done → AlongAll HasWords (with_exits (exits_of within) done.0) → AlongAll (IsStep (around done.1.scene) result) (with_exits (exits_of within) done.0) }
     ensures behind { (env : Env) (result : Ty) (all : List Statement) (within : Within) (done : List Stmt × Env) → IsEnv env → IsResult env.scene.structs result → AllByRecursion IsFormedStmt all → statements result all within env ≡ Ok done → IsEnv done.1 }
+{}
+
+/// The typed unit that the checker answers for a unit that a parser gives is well typed, where the labels of its `switch`es are words.
+pub fn units_are_well_typed()
+    ensures { (stage : Stage) (unit : List Global) (typed : TypedUnit) → IsParsed unit → checked stage unit ≡ Ok typed → HasUnitWords typed → IsUnit stage typed }
 {}

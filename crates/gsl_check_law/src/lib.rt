@@ -8,4 +8,5 @@ mod laws;
 
 pub use laws::{
     expressions_are_well_typed, initialisers_are_well_typed, statements_are_well_typed,
+    units_are_well_typed,
 };
