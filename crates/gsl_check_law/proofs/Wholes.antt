@@ -16,7 +16,7 @@ use Rattle.gsl_tree.specs.declared.unit.GlobalVar.{GlobalVar}
 use Rattle.gsl_tree.specs.declared.unit.TypedUnit.{TypedUnit}
 use Rattle.gsl_tree.specs.Statements.{expr_depth, depth_in, stmt_depth, deepest, most_deep}
 use Rattle.gsl_tree.specs.Trees.{AlongAll, outside, with_exits}
-use Rattle.gsl_tree.specs.WellTyped.{IsUnit, AreWellTyped, IsGlobal, IsInit, IsFunction, unit_lists, Lists, AreSizes, around_init, IsInterface}
+use Rattle.gsl_tree.specs.WellTyped.{IsUnit, AreWellTyped, IsGlobal, IsInit, IsFunction, unit_lists, Lists, AreSizes, around_init, IsInterface, around_body}
 use Rattle.gsl_typing.specs.declared.scene.Scene.{Scene}
 use Rattle.gsl_typing.specs.Scene.{around}
 use Rattle.gsl_names.specs.Scopes.{Scope, Declared}
@@ -26,7 +26,7 @@ use Rattle.gsl_check_heads.specs.Builtins.{begun_in, built_in, functions, variab
 use Rattle.gsl_check.specs.Functions.{function}
 use Rattle.gsl_check.specs.Units.{declared_by, declaration, Progress, with_functions, next, all, begun, unit_of, finished, checked}
 use Rattle.gsl_check_law.specs.Formed.{decl_formed, global_formed, IsFormedUnit, IsParsed}
-use Rattle.gsl_check_law.specs.Labels.{HasWords, HasUnitWords}
+use Rattle.gsl_check_law.specs.Labels.{HasWords}
 use Rattle.gsl_check_law.specs.Scenes.{IsThere, AreThere, IsEnv}
 use Rattle.gsl_check_law.proofs.Found.{all_append, at_place}
 use Rattle.gsl_check_law.proofs.Longer.{AreDeclared}
@@ -43,6 +43,7 @@ use Rattle.gsl_tree.specs.Expressions.{IsExpr, MayBeRead}
 use Rattle.gsl_types.specs.declared.ty.Direction.{Direction}
 use Rattle.gsl_types.specs.declared.ty.Ty.{Ty}
 use Rattle.gsl_check_law.proofs.Rows.{given}
+use Rattle.gsl_check_law.specs.Units.{IsFunctionBut, AreWellTypedBut, IsUnitBut, HasUnitWords}
 
 -- ---- so far
 
@@ -127,11 +128,7 @@ unit_is stage unit formed = all_are stage unit (begun stage) formed (begun_is st
 
 -- ---- in the end
 
--- labels are words
-abbrev pub FunctionWords : Function → Type 0
-FunctionWords f = AlongAll HasWords (with_exits outside f.body)
-
-module _ (stage : Stage) (done : Progress) (is : IsSoFar stage done) (low_globals : AllByRecursion GlobalShallow done.env.scene.globals) (low : AllByRecursion FunctionShallow done.functions) (words : AllByRecursion FunctionWords done.functions) where
+module _ (stage : Stage) (done : Progress) (is : IsSoFar stage done) (low_globals : AllByRecursion GlobalShallow done.env.scene.globals) (low : AllByRecursion FunctionShallow done.functions) where
   abbrev s : Scene
   s = done.env.scene
 
@@ -158,20 +155,12 @@ module _ (stage : Stage) (done : Progress) (is : IsSoFar stage done) (low_global
       let fits = is.top.globals number g at in
       record { name = fits.name; type = fits.type; init = init_whole number g g.init fits.begins (at_place GlobalShallow s.globals number g low_globals at) }
 
-  functions_whole : (all : List Function) → AllByRecursion (FunctionFits s) all → AllByRecursion FunctionShallow all → AllByRecursion FunctionWords all → AllByRecursion (IsFunction lists) all
-  functions_whole [] fits shallow spelled = tt
-  functions_whole (f ∷ all) fits shallow spelled = (
-    record {
-      prototype = fits.0.prototype;
-      declared = fits.0.declared;
-      locals = fits.0.locals;
-      body = stmts_whole (around (body_scene s fits.0.prototype.params f.locals)) fits.0.prototype.result (with_exits outside f.body) fits.0.body spelled.0;
-      depth = shallow.0;
-    },
-    functions_whole all fits.1 shallow.1 spelled.1,
-  )
+  functions_fit : (all : List Function) → AllByRecursion (FunctionFits s) all → AllByRecursion FunctionShallow all → AllByRecursion (IsFunctionBut lists) all
+  functions_fit [] fits shallow = tt
+  functions_fit (f ∷ all) fits shallow =
+      (record { prototype = fits.0.prototype; declared = fits.0.declared; locals = fits.0.locals; body = fits.0.body; depth = shallow.0 }, functions_fit all fits.1 shallow.1)
 
-  well_typed : AreWellTyped lists
+  well_typed : AreWellTypedBut lists
   well_typed = record {
     structs = is.top.structs.0;
     declared = is.top.structs.1;
@@ -180,20 +169,50 @@ module _ (stage : Stage) (done : Progress) (is : IsSoFar stage done) (low_global
     push = is.top.push;
     interfaces = subst (λ (of : Stage). AllByRecursion (IsInterface of s.structs) s.interfaces) (sym is.top.of_stage) is.top.interfaces;
     prototypes = is.top.prototypes;
-    functions = functions_whole done.functions is.functions low words;
+    functions = functions_fit done.functions is.functions low;
   }
 
-  -- a unit that was declared is well typed
-  pub whole : IsUnit stage (unit_of done)
-  whole = record { typed = subst (λ (of : Stage). AreWellTyped (unit_lists of (unit_of done))) is.top.of_stage well_typed; sizes = is.top.sizes }
+  -- a unit that was declared is well typed, but for its labels
+  pub fits_whole : IsUnitBut stage (unit_of done)
+  fits_whole = record { typed = subst (λ (of : Stage). AreWellTypedBut (unit_lists of (unit_of done))) is.top.of_stage well_typed; sizes = is.top.sizes }
 
-abbrev Units : Stage → TypedUnit → Type 0
-Units stage typed = HasUnitWords typed → IsUnit stage typed
-
-pub checked_whole : (stage : Stage) (unit : List Global) (typed : TypedUnit) → IsParsed unit → checked stage unit ≡ Ok typed → HasUnitWords typed → IsUnit stage typed
+-- what the checker answers is well typed, but for its labels
+pub checked_is : (stage : Stage) (unit : List Global) (typed : TypedUnit) → IsParsed unit → checked stage unit ≡ Ok typed → IsUnitBut stage typed
 unfolding checked finished
-checked_whole stage unit typed parsed is words =
-    given (Units stage) (all unit (begun stage) >>= (λ done. Ok (unit_of done))) typed
-    (holds_after (λ (done : Progress). IsSoFar stage done × AllShallow done) (Units stage) (all unit (begun stage)) (λ done. Ok (unit_of done))
+checked_is stage unit typed parsed is =
+    given (IsUnitBut stage) (all unit (begun stage) >>= (λ done. Ok (unit_of done))) typed
+    (holds_after (λ (done : Progress). IsSoFar stage done × AllShallow done) (IsUnitBut stage) (all unit (begun stage)) (λ done. Ok (unit_of done))
     (two_hold (IsSoFar stage) AllShallow (all unit (begun stage)) (unit_is stage unit parsed.formed) (unit_shallow stage unit parsed.shallow))
-    (λ done both spelled. whole stage done both.0 both.1.0 both.1.1 spelled)) is words
+    (λ done both. fits_whole stage done both.0 both.1.0 both.1.1)) is
+
+-- ---- with the labels
+
+functions_whole : (lists : Lists) (all : List Function) → AllByRecursion (IsFunctionBut lists) all → AllByRecursion (λ (f : Function). AlongAll HasWords (with_exits outside f.body)) all → AllByRecursion (IsFunction lists) all
+functions_whole _ [] fits words = tt
+functions_whole lists (f ∷ all) fits words = (
+  record {
+    prototype = fits.0.prototype;
+    declared = fits.0.declared;
+    locals = fits.0.locals;
+    body = stmts_whole (around_body lists fits.0.prototype.params f.locals) fits.0.prototype.result (with_exits outside f.body) fits.0.body words.0;
+    depth = fits.0.depth;
+  },
+  functions_whole lists all fits.1 words.1,
+)
+
+pub unit_whole : (stage : Stage) (typed : TypedUnit) → IsUnitBut stage typed → HasUnitWords typed → IsUnit stage typed
+unit_whole stage unit is words =
+    let t = is.typed in
+    record {
+      typed = record {
+        structs = t.structs;
+        declared = t.declared;
+        globals = t.globals;
+        blocks = t.blocks;
+        push = t.push;
+        interfaces = t.interfaces;
+        prototypes = t.prototypes;
+        functions = functions_whole (unit_lists stage unit) unit.functions t.functions words;
+      };
+      sizes = is.sizes;
+    }

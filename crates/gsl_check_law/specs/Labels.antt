@@ -5,10 +5,8 @@ use Rattle.gsl_types.specs.declared.ty.Ty.{Ty}
 use Rattle.gsl_tree.specs.declared.stmt.Stmt.{Stmt, out-Stmt}
 use Rattle.gsl_tree.specs.declared.stmt.Stmt.TheOpen.{Stmt-F}
 use Rattle.gsl_tree.specs.declared.stmt.Arm.{Arm, out-Arm}
-use Rattle.gsl_tree.specs.declared.unit.Function.{Function}
-use Rattle.gsl_tree.specs.declared.unit.TypedUnit.{TypedUnit}
 use Rattle.gsl_tree.specs.Around.{Around}
-use Rattle.gsl_tree.specs.Trees.{Exits, exprs_of, Along, AlongAll, outside, with_exits, type_of}
+use Rattle.gsl_tree.specs.Trees.{Exits, exprs_of, Along, type_of}
 use Rattle.gsl_tree.specs.Paths.{repeats}
 use Rattle.gsl_tree.specs.Expressions.{IsExpr, IsIndex, MayBeRead}
 use Rattle.gsl_check_stmt.specs.declared.within.Within.{Within}
@@ -64,7 +62,3 @@ ArmsHaveWords _ = Unit {0}
 -- the labels of a `switch` are words
 abbrev pub HasWords : Exits → Stmt → Type 0
 HasWords exits s = ArmsHaveWords (out-Stmt s)
-
--- the labels in the bodies of a unit's functions are words
-abbrev pub HasUnitWords : TypedUnit → Type 0
-HasUnitWords unit = AllByRecursion (λ (f : Function). AlongAll HasWords (with_exits outside f.body)) unit.functions

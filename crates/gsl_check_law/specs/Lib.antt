@@ -3,3 +3,4 @@ pub mod Nested
 pub mod Formed
 pub mod Parts
 pub mod Labels
+pub mod Units

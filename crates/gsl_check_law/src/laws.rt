@@ -24,9 +24,10 @@ ghost use Rattle.gsl_tree.specs.declared.unit.TypedUnit.{TypedUnit};
 ghost use Rattle.gsl_tree.specs.WellTyped.{IsUnit};
 ghost use Rattle.gsl_check.specs.Units.{checked};
 ghost use Rattle.gsl_check_law.specs.Formed.{IsFormed, IsFormedInit, IsFormedStmt, IsParsed};
-ghost use Rattle.gsl_check_law.specs.Labels.{HasWords, HasUnitWords, exits_of};
+ghost use Rattle.gsl_check_law.specs.Labels.{HasWords, exits_of};
 ghost use Rattle.gsl_check_law.specs.Parts.{IsPart, IsTaken};
 ghost use Rattle.gsl_check_law.specs.Scenes.{IsEnv};
+ghost use Rattle.gsl_check_law.specs.Units.{HasUnitWords, IsUnitBut};
 
 /// What an expression stands for is well typed in the scene in which it was asked, and so is what is taken of it, which is not copied
 /// whole where it has many leaves.
@@ -47,7 +48,9 @@ pub fn statements_are_well_typed()
     ensures behind { (env : Env) (result : Ty) (all : List Statement) (within : Within) (done : List Stmt × Env) → IsEnv env → IsResult env.scene.structs result → AllByRecursion IsFormedStmt all → statements result all within env ≡ Ok done → IsEnv done.1 }
 {}
 
-/// The typed unit that the checker answers for a unit that a parser gives is well typed, where the labels of its `switch`es are words.
+/// The typed unit that the checker answers for a unit that a parser gives is well typed, but for the bound of the labels of its
+/// `switch`es; and where these are words it is well typed.
 pub fn units_are_well_typed()
-    ensures { (stage : Stage) (unit : List Global) (typed : TypedUnit) → IsParsed unit → checked stage unit ≡ Ok typed → HasUnitWords typed → IsUnit stage typed }
+    ensures typed { (stage : Stage) (unit : List Global) (typed : TypedUnit) → IsParsed unit → checked stage unit ≡ Ok typed → IsUnitBut stage typed }
+    ensures whole { (stage : Stage) (typed : TypedUnit) → IsUnitBut stage typed → HasUnitWords typed → IsUnit stage typed }
 {}
