@@ -42,4 +42,6 @@ pub mod Shallows
 pub mod Lows
 pub mod Lower
 pub mod Bounds
+pub mod Answering
+pub mod Smalls
 pub mod Wholes

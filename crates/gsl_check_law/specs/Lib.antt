@@ -4,3 +4,4 @@ pub mod Formed
 pub mod Parts
 pub mod Labels
 pub mod Units
+pub mod Small
