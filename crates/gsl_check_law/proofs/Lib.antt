@@ -44,4 +44,5 @@ pub mod Lower
 pub mod Bounds
 pub mod Answering
 pub mod Smalls
+pub mod Knowns
 pub mod Wholes
