@@ -64,10 +64,10 @@ all_of_parts : (around : Around) (es : List Expr) → ThroughoutAll (IsNode arou
 all_of_parts around _ ThroughoutAll.none = tt
 all_of_parts around _ (ThroughoutAll.more e es is rest) = (is, all_of_parts around es rest)
 
-parts_all : (around : Around) (e : Expr) → IsExpr around e → AllByRecursion (IsExpr around) (parts_of (form_of e))
+pub parts_all : (around : Around) (e : Expr) → IsExpr around e → AllByRecursion (IsExpr around) (parts_of (form_of e))
 parts_all around _ (Throughout.whole e node parts) = all_of_parts around (parts_of (form_of e)) parts
 
-type_here : (around : Around) (e : Expr) → IsExpr around e → HasType around (form_of e) (type_of e)
+pub type_here : (around : Around) (e : Expr) → IsExpr around e → HasType around (form_of e) (type_of e)
 type_here around _ (Throughout.whole e node parts) = node.type
 
 module _ (s t : Scene) (fine : IsScene s) (grows : Grows s t) where

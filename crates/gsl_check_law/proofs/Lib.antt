@@ -45,4 +45,5 @@ pub mod Bounds
 pub mod Answering
 pub mod Smalls
 pub mod Knowns
+pub mod Counted
 pub mod Wholes
