@@ -1,6 +1,5 @@
 -- What qualifiers alone declare, the size of the work group, is as a unit's must be.
-use Rattle.std.proofs.Common.{◌≡◌, refl, sym, ap, ◌∙◌, subst, ℕ, ◌≤◌, List, [], ◌∷◌, ◌++◌, map, length, Option, Some, None, is_some, unwrap_or, Bool, true, false, not, ◌&&◌, ◌||◌, IsTrue, nat_le, Ok, arith}
-use Rattle.std.specs.List.{AllByRecursion, list_all}
+use Rattle.std.proofs.Common.{◌≡◌, refl, sym, ap, ◌∙◌, ℕ, List, [], ◌∷◌, ◌++◌, map, length, Option, Some, None, is_some, unwrap_or, not, ◌&&◌, ◌||◌, IsTrue, nat_le, Ok, arith}
 use Rattle.std.proofs.lemmas.Bool.{and_from, le-leb}
 use Rattle.gsl_base.specs.declared.fault.Code.TheVariants.{E0701}
 use Rattle.gsl_base.specs.declared.fault.Place.{Place}
@@ -22,7 +21,7 @@ use Rattle.gsl_check_law.proofs.Rows.{row}
 use Rattle.gsl_check_law.proofs.Found.{all_append}
 use Rattle.gsl_check_law.proofs.Longer.{Grows, front_append}
 use Rattle.gsl_check_law.proofs.Standing.{names_grow}
-use Rattle.gsl_check_law.proofs.Qualified.{Allowed, IsWithin, IsSaid}
+use Rattle.gsl_check_law.proofs.Qualified.{IsWithin, IsSaid}
 use Rattle.gsl_check_law.proofs.Tops.{IsTop, TopDone, fits_stay}
 use Rattle.gsl_check_law.proofs.Outer.{said_here, top_itself}
 

@@ -1,6 +1,5 @@
 -- Operators and built-in functions give words on words.
-use Rattle.std.proofs.Common.{unsigned_abs, ◌≡◌, refl, sym, ap, ◌∙◌, ℕ, zero, suc, ◌+◌, ◌-◌, ◌*◌, ◌^◌, ◌≤◌, ◌<◌, ◌%◌, min, max, ℤ, pos, negsuc, List, [], ◌∷◌, ◌++◌, map, take, length, replicate, slice_index, Bool, true, false, not, ◌&&◌, ◌||◌, ◌==◌, nat_lt, nat_le, arith, if◌then◌else◌}
-use Rattle.std.specs.List.{AllByRecursion, list_any, list_all}
+use Rattle.std.proofs.Common.{unsigned_abs, ℕ, zero, suc, ◌+◌, ◌-◌, ◌^◌, ◌≤◌, ◌<◌, ◌%◌, min, max, ℤ, pos, negsuc, List, [], ◌∷◌, slice_index, Bool, true, false, ◌&&◌, ◌==◌, nat_lt, nat_le, arith, if◌then◌else◌}
 use Rattle.std.specs.Int.{bit_at}
 use Rattle.std.proofs.Math.Nat.{pow-suc}
 use Rattle.std.proofs.lemmas.Nat.{mul-add-lt}

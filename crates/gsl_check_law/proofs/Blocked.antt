@@ -1,14 +1,13 @@
 -- Blocks that are declared are as a unit's must be.
-use Rattle.std.proofs.Common.{◌≡◌, refl, sym, ap, ◌∙◌, subst, ℕ, ◌+◌, ◌≤◌, ◌<◌, List, [], ◌∷◌, ◌++◌, map, length, Option, Some, None, is_none, is_some, unwrap_or, Bool, true, false, not, ◌&&◌, ◌||◌, IsTrue, nat_le, nat_lt, Ok, arith, length-append, Less}
+use Rattle.std.proofs.Common.{◌≡◌, refl, sym, ap, ◌∙◌, subst, ℕ, ◌<◌, List, [], ◌∷◌, ◌++◌, map, length, Option, Some, None, is_some, Bool, true, false, not, ◌&&◌, ◌||◌, IsTrue, Ok, arith, length-append}
 use Rattle.std.specs.List.{AllByRecursion, list_all}
-use Rattle.std.proofs.lemmas.Bool.{and_parts, and_from, leb-true, lt-ltb}
+use Rattle.std.proofs.lemmas.Bool.{and_parts, and_from, leb-true}
 use Rattle.gsl_base.specs.Checked.{Checked, ◌>>=◌}
-use Rattle.gsl_base.specs.declared.fault.Code.TheVariants.{E0403, E0404, E0510, E0706, E0707, E0708, E0709, E0905, E0908}
+use Rattle.gsl_base.specs.declared.fault.Code.TheVariants.{E0403, E0404, E0510, E0708, E0709, E0908}
 use Rattle.gsl_base.specs.declared.stage.Stage.{Stage}
 use Rattle.gsl_syntax.specs.declared.declaration.Name.{Name}
 use Rattle.gsl_syntax.specs.declared.declaration.Declared.{Declared}
 use Rattle.gsl_syntax.specs.declared.declaration.Member.{Member as Line}
-use Rattle.gsl_syntax.specs.declared.declaration.Qual.{Qual}
 use Rattle.gsl_types.specs.Known.{IsSound, sound, sound_kind}
 use Rattle.gsl_types.specs.declared.ty.StructType.{StructType}
 use Rattle.gsl_types.specs.declared.ty.Ty.{Ty}
@@ -17,17 +16,14 @@ use Rattle.gsl_types.specs.declared.ty.Ty.TheFolds.{fold-roll-Ty}
 use Rattle.gsl_types.specs.declared.ty.Ty.TheViews.{out-Ty, roll-Ty, roll-out-Ty}
 use Rattle.gsl_types.specs.declared.ty.Ty.TheVariants as ty
 use Rattle.gsl_types.specs.declared.ty.Ty.TheVariants.{outs-Runtime, rolls-Runtime}
-use Rattle.gsl_layout.specs.Extents.{most_bytes}
 use Rattle.gsl_layout.specs.Measures.{misplaced_in}
-use Rattle.gsl_tree.specs.declared.unit.Block.{Block}
 use Rattle.gsl_tree.specs.declared.unit.BlockKind.{BlockKind}
 use Rattle.gsl_tree.specs.declared.unit.BlockKind.TheVariants as kind
 use Rattle.gsl_tree.specs.declared.unit.BlockMember.{BlockMember}
 use Rattle.gsl_tree.specs.Around.{is_buffer}
-use Rattle.gsl_tree.specs.Expressions.{most_parts}
-use Rattle.gsl_tree.specs.Laying.{rule_of, members_of, placings_of, extent_of}
-use Rattle.gsl_tree.specs.Weights.{height_of, most_high, one_if}
-use Rattle.gsl_tree.specs.WellTyped.{is_plain, is_plain_kind, is_member_kind, is_member_type, has_qualifiers, may_be_std430, push_blocks, is_push, IsNameOr, IsBlock, IsBlockMember, AreBlockMembers}
+use Rattle.gsl_tree.specs.Laying.{rule_of, members_of, placings_of}
+use Rattle.gsl_tree.specs.Weights.{height_of, most_high}
+use Rattle.gsl_tree.specs.WellTyped.{is_plain, is_plain_kind, is_member_kind, is_member_type, IsBlockMember, AreBlockMembers}
 use Rattle.gsl_overload.proofs.Same.{no_more}
 use Rattle.gsl_check_expr.specs.declared.env.Env.{Env}
 use Rattle.gsl_check_expr.specs.declared.writing.Written.{Written}
@@ -35,24 +31,21 @@ use Rattle.gsl_check_expr.specs.declared.writing.Written.TheVariants.{Whole, Ope
 use Rattle.gsl_check_expr.specs.Expressions.{bracket}
 use Rattle.gsl_check_expr.specs.Written.{written_type, declared}
 use Rattle.gsl_check_decl.specs.Declaring.{is_reserved, may_be_had, is_high}
-use Rattle.gsl_check_decl.specs.Globals.{with_block}
 use Rattle.gsl_check_decl.proofs.Gathering.{Holds, holds_after, holds_then}
-use Rattle.gsl_qualifiers.specs.declared.qualified.Role.{Role}
 use Rattle.gsl_qualifiers.specs.declared.qualified.Role.TheVariants.{Member}
 use Rattle.gsl_qualifiers.specs.declared.qualified.Qualified.{Qualified}
-use Rattle.gsl_qualifiers.specs.Qualifiers.{Storage, Fixed, Within, Outward, Both, OfUniform, OfBuffer, block_by, has_memory, qualified, role_of_block, storage_in, says_push}
+use Rattle.gsl_qualifiers.specs.Qualifiers.{qualified}
 use Rattle.gsl_check_blocks.specs.declared.frame.Frame.{Frame}
 use Rattle.gsl_check_blocks.specs.Blocks.{member_type, had_type, is_open, is_taken, is_misplaced_array, offset_place, member_of, is_misplaced, may_be_member, may_stand, with_member, is_end, with_name, with_names, with_line, with_lines, kind_of, is_uniform, frame_of, may_be_instance, text_of, is_block_taken, block_of, may_be_block, block_with, block}
 use Rattle.gsl_check_blocks.specs.Blocks as blocks
-use Rattle.gsl_check_law.specs.Formed.{is_name, has_some, names_formed, line_formed, lines_formed, instance_formed}
+use Rattle.gsl_check_law.specs.Formed.{is_name, has_some, names_formed, line_formed, lines_formed}
 use Rattle.gsl_check_law.specs.Scenes.{IsEnv}
-use Rattle.gsl_check_law.proofs.Rows.{row, not_false, neither, both, so}
+use Rattle.gsl_check_law.proofs.Rows.{row, not_false, both, so}
 use Rattle.gsl_check_law.proofs.Names.{name_is}
 use Rattle.gsl_check_law.proofs.Found.{all_append}
-use Rattle.gsl_check_law.proofs.Topmost.{block_grown}
-use Rattle.gsl_check_law.proofs.Qualified.{Allowed, IsSaid, qualified_said}
-use Rattle.gsl_check_law.proofs.Tops.{IsTop, TopDone, block_top}
-use Rattle.gsl_check_law.proofs.Outer.{within_or, said_here}
+use Rattle.gsl_check_law.proofs.Qualified.{Allowed, IsSaid}
+use Rattle.gsl_check_law.proofs.Tops.{IsTop}
+use Rattle.gsl_check_law.proofs.Outer.{said_here}
 use Rattle.gsl_typing.specs.Rows.{unless}
 
 -- ---- types of members

@@ -1,5 +1,5 @@
 -- Blocks that are declared are as a unit's must be, behind their members.
-use Rattle.std.proofs.Common.{◌≡◌, refl, sym, ap, ◌∙◌, subst, ℕ, ◌+◌, ◌≤◌, ◌<◌, List, [], ◌∷◌, length, Option, Some, None, is_none, unwrap_or, Bool, true, false, not, ◌&&◌, ◌||◌, IsTrue, nat_le, nat_lt, Ok, arith, suc}
+use Rattle.std.proofs.Common.{◌≡◌, refl, sym, subst, ℕ, ◌+◌, ◌≤◌, ◌<◌, List, [], ◌∷◌, length, Option, Some, None, is_none, unwrap_or, Bool, true, false, not, ◌&&◌, ◌||◌, IsTrue, nat_le, nat_lt, Ok, arith}
 use Rattle.std.specs.List.{AllByRecursion}
 use Rattle.std.proofs.lemmas.Bool.{and_parts, leb-true, ltb-false}
 use Rattle.gsl_base.specs.Checked.{Checked, ◌>>=◌}
@@ -26,7 +26,7 @@ use Rattle.gsl_check_decl.specs.Globals.{with_block}
 use Rattle.gsl_check_decl.proofs.Gathering.{Holds, holds_after, holds_then}
 use Rattle.gsl_qualifiers.specs.declared.qualified.Role.{Role}
 use Rattle.gsl_qualifiers.specs.declared.qualified.Qualified.{Qualified}
-use Rattle.gsl_qualifiers.specs.Qualifiers.{Storage, Fixed, Within, Outward, Both, OfUniform, OfBuffer, block_by, has_memory, qualified, role_of_block, storage_in, says_push}
+use Rattle.gsl_qualifiers.specs.Qualifiers.{Storage, Fixed, Within, Outward, Both, OfUniform, OfBuffer, block_by, has_memory, qualified, role_of_block, storage_in}
 use Rattle.gsl_check_blocks.specs.declared.frame.Frame.{Frame}
 use Rattle.gsl_check_blocks.specs.Blocks.{with_lines, kind_of, is_uniform, frame_of, may_be_instance, text_of, is_block_taken, block_of, may_be_block, block_with, block}
 use Rattle.gsl_check_blocks.specs.Blocks as blocks

@@ -1,7 +1,7 @@
 -- What a unit declares is no deeper than it may be, where its syntax tree is not.
-use Rattle.std.proofs.Common.{◌≡◌, refl, sym, ap, ◌∙◌, subst, ℕ, ◌+◌, ◌≤◌, max, List, [], ◌∷◌, ◌++◌, map, length, Option, Some, None, is_none, Bool, true, false, not, ◌||◌, Ok, arith, unwrap_or}
+use Rattle.std.proofs.Common.{ℕ, ◌≤◌, List, [], ◌∷◌, ◌++◌, map, length, Option, Some, None, is_none, Bool, true, false, not, Ok, arith, unwrap_or}
 use Rattle.std.specs.List.{AllByRecursion}
-use Rattle.gsl_base.specs.Checked.{Checked, ◌>>=◌}
+use Rattle.gsl_base.specs.Checked.{◌>>=◌}
 use Rattle.gsl_base.specs.declared.fault.Code.TheVariants.{E0403, E0404, E0504, E0507, E0510, E0701, E0702, E0703}
 use Rattle.gsl_base.specs.declared.fault.Place.{Place}
 use Rattle.gsl_syntax.specs.declared.expr.TypeSpec.{TypeSpec}
@@ -18,14 +18,11 @@ use Rattle.gsl_syntax.specs.declared.statement.Body.TheVariants as body_of
 use Rattle.gsl_syntax.specs.declared.statement.Function.{Function as FunctionTree}
 use Rattle.gsl_syntax.specs.declared.statement.Global.{Global}
 use Rattle.gsl_syntax.specs.declared.statement.Global.TheVariants as global
-use Rattle.gsl_syntax.specs.declared.statement.Stmt.{Stmt as Statement}
 use Rattle.gsl_types.specs.declared.ty.Member.{Member}
 use Rattle.gsl_types.specs.declared.ty.Ty.{Ty}
 use Rattle.gsl_types.specs.declared.ty.Ty.TheVariants as ty
-use Rattle.gsl_tree.specs.declared.expr.Expr.{Expr}
 use Rattle.gsl_tree.specs.declared.folded.Folded.{Folded}
 use Rattle.gsl_tree.specs.declared.folded.Folded.TheVariants.{NotConstant}
-use Rattle.gsl_tree.specs.declared.stmt.Stmt.{Stmt}
 use Rattle.gsl_tree.specs.declared.unit.Block.{Block}
 use Rattle.gsl_tree.specs.declared.unit.Function.{Function}
 use Rattle.gsl_tree.specs.declared.unit.GlobalVar.{GlobalVar}
@@ -51,13 +48,12 @@ use Rattle.gsl_qualifiers.specs.declared.qualified.Role.{Role}
 use Rattle.gsl_qualifiers.specs.declared.qualified.Role.TheVariants.{Variable, Input, Output, Uniform, Buffer, Push, Member as MemberRole, Size, Nothing}
 use Rattle.gsl_qualifiers.specs.declared.qualified.Qualified.{Qualified}
 use Rattle.gsl_qualifiers.specs.Qualifiers.{role_alone, qualified}
-use Rattle.gsl_check_globals.specs.Variables.{Declares, all_declared, declarator, plain_by, begun_by, plain_global, plain_variable, may_begin, known_of, set_variable, begun_variable, interface, begun_interface, may_be_interface, is_no_interface}
+use Rattle.gsl_check_globals.specs.Variables.{Declares, all_declared, declarator, plain_by, begun_by, plain_global, plain_variable, may_begin, set_variable, begun_variable, interface, begun_interface, may_be_interface, is_no_interface}
 use Rattle.gsl_check_globals.specs.Globals.{variables, struct_and_variables, states_none, with_size, sized_at, alone}
 use Rattle.gsl_check_blocks.specs.Blocks as blocks
-use Rattle.gsl_check_heads.specs.declared.parameter.Parameter.{Parameter}
 use Rattle.gsl_check_heads.specs.Heads.{Headed, headed_by, headed, head_number, declared_head, header, params_in, typed_params, may_be_head, is_block, with_number, entered, left}
 use Rattle.gsl_check.specs.Functions.{nowhere, bodied, with_body, function}
-use Rattle.gsl_check.specs.Units.{declared_by, declaration, Progress, with_functions, next, all, begun}
+use Rattle.gsl_check.specs.Units.{declaration, Progress, with_functions, next, all, begun}
 use Rattle.gsl_check_law.specs.Nested.{init_arms, declarator_arms, decl_arms, stmt_arms, body_arms, global_arms, IsShallow}
 use Rattle.gsl_check_law.proofs.Rows.{so}
 use Rattle.gsl_check_law.proofs.Found.{all_append}

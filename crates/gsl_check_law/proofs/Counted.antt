@@ -1,5 +1,5 @@
 -- Arrays in the types of well typed expressions have as many elements as a word counts, and constant expressions have words alone.
-use Rattle.std.proofs.Common.{◌≡◌, refl, sym, ap, ◌∙◌, subst, ℕ, zero, suc, ◌^◌, ◌≤◌, ◌<◌, List, [], ◌∷◌, length, replicate, slice_get, slice_index_or, Option, Some, None, unwrap_or, Bool, ◌&&◌, IsTrue, nat_le, nat_lt, inl, inr, arith, if◌then◌else◌}
+use Rattle.std.proofs.Common.{◌≡◌, refl, sym, ap, ◌∙◌, subst, ℕ, zero, suc, ◌^◌, ◌≤◌, ◌<◌, List, [], ◌∷◌, length, replicate, slice_get, slice_index_or, Option, Some, None, unwrap_or, Bool, IsTrue, nat_le, nat_lt, inl, inr, arith, if◌then◌else◌}
 use Rattle.std.specs.List.{AllByRecursion}
 use Rattle.std.proofs.lemmas.Bool.{and_parts, and_from, ltb-true, lt-ltb, leb-true}
 use Rattle.std.proofs.lemmas.Option.{none-some}
@@ -19,7 +19,7 @@ use Rattle.gsl_types.specs.declared.ty.Ty.TheVariants.{rolls-Void, rolls-One, ro
 use Rattle.gsl_values.specs.declared.value.Value.{Value}
 use Rattle.gsl_values.specs.declared.value.Value.TheOpen.{Value-F}
 use Rattle.gsl_values.specs.declared.value.Value.TheViews.{out-Value, roll-Value, roll-out-Value}
-use Rattle.gsl_values.specs.declared.value.Value.TheVariants.{Word, Many, rolls-Word, rolls-Many}
+use Rattle.gsl_values.specs.declared.value.Value.TheVariants.{rolls-Word, rolls-Many}
 use Rattle.gsl_overload.proofs.Same.{no_more}
 use Rattle.gsl_tree.specs.declared.expr.Expr.{Expr}
 use Rattle.gsl_tree.specs.declared.expr.ExprKind.{ExprKind}
@@ -34,12 +34,12 @@ use Rattle.gsl_tree.specs.declared.unit.GlobalVar.{GlobalVar}
 use Rattle.gsl_tree.specs.declared.unit.Interface.{Interface}
 use Rattle.gsl_tree.specs.declared.unit.Prototype.{Prototype}
 use Rattle.gsl_tree.specs.Around.{Around, stage_var_type, member_in}
-use Rattle.gsl_tree.specs.Constants.{constant_of, known_at}
-use Rattle.gsl_tree.specs.Expressions.{IsExpr, IsNode, HasType, IsConst, IsBuildKind, most_parts, types_of, element_kind, element_of, has_length_kind, last_type}
-use Rattle.gsl_tree.specs.Operations.{length_kind, length_of}
+use Rattle.gsl_tree.specs.Constants.{constant_of}
+use Rattle.gsl_tree.specs.Expressions.{IsExpr, IsNode, HasType, IsConst, IsBuildKind, most_parts, types_of, element_kind, element_of, last_type}
+use Rattle.gsl_tree.specs.Operations.{length_kind}
 use Rattle.gsl_tree.specs.Shapes.{Shape, of_shape}
 use Rattle.gsl_tree.specs.Trees.{type_of, form_of, parts_of, Throughout, ThroughoutAll}
-use Rattle.gsl_tree.specs.Values.{is_value_of, is_word_of, is_scalar, is_scalar_layer, has_parts, has_parts_layer, all_pass}
+use Rattle.gsl_tree.specs.Values.{is_value_of, is_word_of, is_scalar, is_scalar_layer, has_parts_layer, all_pass}
 use Rattle.gsl_tree.proofs.Nodes.{value_of_one, value_of_vector}
 use Rattle.gsl_typing.specs.declared.scene.Scene.{Scene}
 use Rattle.gsl_typing.specs.Scene.{around}

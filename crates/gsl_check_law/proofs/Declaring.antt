@@ -58,7 +58,7 @@ use Rattle.gsl_check_law.proofs.Standing.{variable_grows, result_grows, names_gr
 use Rattle.gsl_check_law.specs.Formed.{struct_formed, names_formed, is_name}
 use Rattle.gsl_tree.specs.Expressions.{most_parts}
 use Rattle.gsl_types.proofs.Longer.{numbered_push, longer_known}
-use Rattle.gsl_overload.proofs.Same.{no_more, same_is}
+use Rattle.gsl_overload.proofs.Same.{no_more}
 use Rattle.gsl_check_law.proofs.Names.{name_is}
 use Rattle.gsl_layout.specs.Measures.{measuring}
 
@@ -221,12 +221,15 @@ module _ (env : Env) (fine : IsEnv env) where
       let types = all_map (λ (m : Member). IsName m.name × IsVariableType scene.structs m.ty) (λ (m : Member). IsVariableType scene.structs m.ty) members (λ m is. is.1) all in
       let earlier = all_map (λ (m : Member). IsVariableType scene.structs m.ty) (λ (m : Member). IsSound count m.ty) members (λ m is. is.known) types in (
         longer_known scene.structs are.0 s some earlier refl,
-        all_append (IsStructDeclared (scene.structs ++ s ∷ [])) scene.structs (s ∷ []) (all_map (IsStructDeclared scene.structs) (IsStructDeclared (scene.structs ++ s ∷ [])) scene.structs (struct_stays s) are.1) (record {
-          name = named;
-          count = few;
-          names = all_map (λ (m : Member). IsName m.name × IsVariableType scene.structs m.ty) (λ (m : Member). IsName m.name) members (λ m is. is.0) all;
-          types = all_map (λ (m : Member). IsVariableType scene.structs m.ty) (λ (m : Member). IsVariableType (scene.structs ++ s ∷ []) m.ty) members (λ m is. variable_stays s m.ty is) types;
-        }, tt),
+        all_append (IsStructDeclared (scene.structs ++ s ∷ [])) scene.structs (s ∷ []) (all_map (IsStructDeclared scene.structs) (IsStructDeclared (scene.structs ++ s ∷ [])) scene.structs (struct_stays s) are.1) (
+          record {
+            name = named;
+            count = few;
+            names = all_map (λ (m : Member). IsName m.name × IsVariableType scene.structs m.ty) (λ (m : Member). IsName m.name) members (λ m is. is.0) all;
+            types = all_map (λ (m : Member). IsVariableType scene.structs m.ty) (λ (m : Member). IsVariableType (scene.structs ++ s ∷ []) m.ty) members (λ m is. variable_stays s m.ty is) types;
+          },
+          tt,
+        ),
       )
 
   module _ (after : Scene) (grows : Grows scene after) where

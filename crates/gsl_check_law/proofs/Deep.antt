@@ -1,7 +1,7 @@
 -- Arms of typed expressions stand no deeper within each other than those of their syntax trees.
-use Rattle.std.proofs.Common.{◌||◌, not, is_none, unwrap_or, Result, Err, slice_index_or, ◌≡◌, refl, sym, ap, ◌∙◌, subst, ℕ, ◌+◌, ◌≤◌, max, List, [], ◌∷◌, ◌++◌, map, length, Option, Some, None, Bool, true, false, Ok, arith, if◌then◌else◌}
+use Rattle.std.proofs.Common.{◌||◌, not, is_none, unwrap_or, Result, Err, slice_index_or, ◌≡◌, refl, ◌∙◌, ℕ, ◌+◌, ◌≤◌, max, List, [], ◌∷◌, map, Option, Some, None, Bool, true, false, Ok, arith, if◌then◌else◌}
 use Rattle.std.specs.List.{AllByRecursion}
-use Rattle.gsl_base.specs.Checked.{Checked, ◌>>=◌}
+use Rattle.gsl_base.specs.Checked.{Checked}
 use Rattle.gsl_base.specs.declared.fault.Place.{Place}
 use Rattle.gsl_syntax.specs.declared.operator.AssignOp.{AssignOp}
 use Rattle.gsl_syntax.specs.declared.operator.AssignOp.TheVariants as assign_sign
@@ -11,7 +11,6 @@ use Rattle.gsl_syntax.specs.declared.operator.PostfixOp.{PostfixOp}
 use Rattle.gsl_syntax.specs.declared.operator.PostfixOp.TheVariants as postfix_sign
 use Rattle.gsl_syntax.specs.declared.operator.UnaryOp.{UnaryOp as UnarySign}
 use Rattle.gsl_syntax.specs.declared.operator.UnaryOp.TheVariants as unary_sign
-use Rattle.gsl_types.specs.declared.ty.Direction.{Direction}
 use Rattle.gsl_types.specs.declared.ty.Direction.TheVariants.{In, Out, InOut}
 use Rattle.gsl_types.specs.declared.ty.Member.{Member}
 use Rattle.gsl_types.specs.declared.ty.Ty.{Ty}
@@ -25,7 +24,6 @@ use Rattle.gsl_overload.specs.Identity.{identical}
 use Rattle.gsl_tree.specs.declared.expr.Expr.{Expr}
 use Rattle.gsl_tree.specs.declared.expr.ExprKind.{ExprKind}
 use Rattle.gsl_tree.specs.declared.expr.ExprKind.TheVariants as kind
-use Rattle.gsl_tree.specs.declared.expr.ExprKind.TheOpen.{ExprKind-F}
 use Rattle.gsl_tree.specs.declared.expr.ExprKind.TheFolds.{fold-ExprKind, fold-roll-Expr}
 use Rattle.gsl_tree.specs.declared.expr.LogicOp.{LogicOp}
 use Rattle.gsl_tree.specs.declared.expr.LogicOp.TheVariants.{And, Or, Xor}
@@ -36,7 +34,7 @@ use Rattle.gsl_tree.specs.Trees.{typed, type_of, place_of}
 use Rattle.gsl_tree.proofs.Folds as at
 use Rattle.gsl_typing.specs.declared.scene.Scene.{Scene}
 use Rattle.gsl_typing.specs.declared.scene.Part.{Part}
-use Rattle.gsl_typing.specs.Rows.{Row, fault, unless}
+use Rattle.gsl_typing.specs.Rows.{Row, unless}
 use Rattle.gsl_typing.specs.Conversions.{as_type}
 use Rattle.gsl_typing.specs.Operators.{operands, fitted, operation, comparison, equality, truths, logic, binary, operand, one_operand, plus, counter, step, unary, postfix, storable, assignment, updates, update, assigned, chosen_type, choice, comma}
 use Rattle.gsl_typing.specs.Scene.{type_in, made}
@@ -50,7 +48,7 @@ use Rattle.gsl_calls.specs.Calls.{as_argument, as_arguments, types_in, params_of
 use Rattle.gsl_calls.specs.Candidates.{candidates}
 use Rattle.gsl_overload.specs.declared.choice.Choice.{Choice}
 use Rattle.gsl_overload.specs.declared.choice.Choice.TheVariants.{NoMatch, Ambiguous}
-use Rattle.gsl_check_decl.proofs.Gathering.{Holds, holds_after, holds_then}
+use Rattle.gsl_check_decl.proofs.Gathering.{Holds, holds_then}
 use Rattle.gsl_check_law.specs.Nested.{binary_arms}
 use Rattle.gsl_tree.specs.Expressions.{boolean}
 use Rattle.gsl_base.specs.declared.fault.Code.TheVariants.{E0503, E0506, E0507, E0508, E0509, E0510, E0606, E0904}

@@ -1,5 +1,5 @@
 -- Typed expressions and what initialisers give are no deeper than their syntax trees.
-use Rattle.std.proofs.Common.{◌≡◌, refl, sym, ap, ◌∙◌, subst, ℕ, ◌+◌, ◌≤◌, max, List, [], ◌∷◌, ◌++◌, map, length, Option, Some, None, Bool, true, false, Ok, arith, if◌then◌else◌}
+use Rattle.std.proofs.Common.{◌≡◌, sym, subst, ℕ, ◌+◌, ◌≤◌, max, List, [], ◌∷◌, ◌++◌, map, Option, Some, None, Bool, true, false, Ok, arith, if◌then◌else◌}
 use Rattle.std.specs.List.{AllByRecursion}
 use Rattle.gsl_base.specs.Checked.{Checked, ◌>>=◌}
 use Rattle.gsl_base.specs.declared.fault.Place.{Place}
@@ -9,51 +9,40 @@ use Rattle.gsl_syntax.specs.declared.expr.TypeSpec.{TypeSpec}
 use Rattle.gsl_syntax.specs.declared.expr.Dim.TheOpen.{Expr-F}
 use Rattle.gsl_syntax.specs.declared.expr.Dim.TheFolds.{fold-roll-Expr, ind-Expr, map-Expr}
 use Rattle.gsl_syntax.specs.declared.expr.Dim.TheViews.{roll-Expr}
-use Rattle.gsl_syntax.specs.declared.declaration.Init.{Init}
-use Rattle.gsl_syntax.specs.declared.declaration.Init.TheOpen.{Init-F}
-use Rattle.gsl_syntax.specs.declared.declaration.Init.TheFolds.{fold-roll-Init, ind-Init, map-Init}
-use Rattle.gsl_syntax.specs.declared.declaration.Init.TheViews.{roll-Init}
-use Rattle.gsl_types.specs.declared.ty.Direction.{Direction}
 use Rattle.gsl_types.specs.declared.ty.Ty.{Ty}
 use Rattle.gsl_types.specs.declared.ty.Ty.TheVariants as ty
-use Rattle.gsl_types.specs.declared.ty.Ty.TheOpen.{Ty-F}
-use Rattle.gsl_types.specs.declared.ty.Ty.TheViews.{out-Ty}
 use Rattle.gsl_types.specs.declared.ty.Scalar.TheVariants.{Bool as Boolean, Int, Uint}
 use Rattle.gsl_values.specs.declared.value.Value.TheVariants.{Word, Many}
 use Rattle.gsl_names.specs.declared.entry.Entry.{Entry}
 use Rattle.gsl_names.specs.declared.entry.Entry.TheVariants as entry
 use Rattle.gsl_names.specs.Scopes.{find, all_of}
-use Rattle.gsl_tree.specs.declared.expr.Expr.{Expr, out-Expr}
-use Rattle.gsl_tree.specs.declared.expr.ExprKind.{ExprKind, Built}
+use Rattle.gsl_tree.specs.declared.expr.Expr.{Expr}
+use Rattle.gsl_tree.specs.declared.expr.ExprKind.{ExprKind}
 use Rattle.gsl_tree.specs.declared.expr.ExprKind.TheVariants as kind
-use Rattle.gsl_tree.specs.declared.expr.ExprKind.TheViews.{roll-out-Expr}
-use Rattle.gsl_tree.specs.declared.expr.ExprKind.TheFolds.{fold-ExprKind, fold-roll-Expr as depth-roll-Expr}
+use Rattle.gsl_tree.specs.declared.expr.ExprKind.TheFolds.{fold-ExprKind}
 use Rattle.gsl_tree.specs.declared.unit.LocalSize.{LocalSize}
-use Rattle.gsl_tree.specs.Around.{uvec3, stage_var_type, block_member}
+use Rattle.gsl_tree.specs.Around.{uvec3, stage_var_type}
 use Rattle.gsl_tree.specs.Paths.{kind_in}
 use Rattle.gsl_tree.specs.Statements.{deepest, depth_by, expr_depth}
-use Rattle.gsl_tree.specs.Trees.{place_of, typed}
+use Rattle.gsl_tree.specs.Trees.{place_of}
 use Rattle.gsl_tree.proofs.Folds as at
 use Rattle.gsl_typing.specs.declared.scene.Scene.{Scene}
 use Rattle.gsl_typing.specs.declared.scene.Part.{Part}
 use Rattle.gsl_typing.specs.Rows.{fault}
 use Rattle.gsl_typing.specs.Operators.{binary, unary, postfix, assigned, choice, comma}
-use Rattle.gsl_typing.specs.Scene.{around, type_in, made}
+use Rattle.gsl_typing.specs.Scene.{type_in}
 use Rattle.gsl_typing.specs.Uses.{whole}
-use Rattle.gsl_makers.specs.Constructors.{build}
 use Rattle.gsl_makers.specs.Paths.{index, member, method}
 use Rattle.gsl_check_expr.specs.declared.brackets.Dimensions.{Dimensions}
 use Rattle.gsl_check_expr.specs.declared.env.Env.{Env}
-use Rattle.gsl_check_expr.specs.declared.writing.Written.{Written}
 use Rattle.gsl_check_expr.specs.InOrder.{each}
-use Rattle.gsl_check_expr.specs.Named.{literal, variable, named, named_by, size_value, param_type, global_type, member_type, interface_type}
+use Rattle.gsl_check_expr.specs.Named.{literal, variable, named, named_by, size_value}
 use Rattle.gsl_check_expr.specs.Sizes.{Bracket, dimensions, with_dimensions, is_plain_name}
-use Rattle.gsl_check_expr.specs.Callees.{basic_type, Base, Keyword, Name, Callee, count_of, functions_in, functions, bare, called_entry, called_base, called}
+use Rattle.gsl_check_expr.specs.Callees.{basic_type, Base, Keyword, Name, Callee, count_of, functions_in, functions, called_entry, called_base, called}
 use Rattle.gsl_check_expr.specs.Expressions.{Answer, taken, dim_by, callee_by, by_parts, in_row, call_answer, behind, sequence, member_answer, answer, callee, bracket, expression, taken_expression}
-use Rattle.gsl_check_expr.specs.Initialisers.{as_of, listed_by, listed, part_type, parts_from, by_items, value_as, initial, needed, count_in}
 use Rattle.gsl_check_decl.proofs.Gathering.{Holds, holds_after, holds_then}
-use Rattle.gsl_check_law.specs.Nested.{binary_arms, rest_arms, expr_arms_by, expr_arms, init_arms_by, init_arms}
-use Rattle.gsl_check_law.proofs.Deep.{At, AllAt, Under, at_more, all_more, depth_of, leaf_at, list_at, binary_deep, assigned_deep, choice_deep, comma_deep, index_deep, whole_deep, unary_deep, postfix_deep, member_deep, method_deep, block_member_deep, build_deep, call_deep, built_deep}
+use Rattle.gsl_check_law.specs.Nested.{binary_arms, rest_arms, expr_arms_by, expr_arms}
+use Rattle.gsl_check_law.proofs.Deep.{At, AllAt, Under, at_more, leaf_at, list_at, binary_deep, assigned_deep, choice_deep, comma_deep, index_deep, whole_deep, unary_deep, postfix_deep, member_deep, method_deep, block_member_deep, build_deep, call_deep, built_deep}
 use Rattle.gsl_check_law.proofs.Rows.{so}
 use Rattle.gsl_base.specs.declared.fault.Code.TheVariants.{E0402}
 use Rattle.gsl_calls.specs.Calls.{built}

@@ -1,8 +1,7 @@
 -- Functions of a unit, with their bodies, are as they must be but for the bounds of their labels and of their depth.
-use Rattle.std.proofs.Common.{◌≡◌, refl, sym, ap, ◌∙◌, subst, ℕ, ◌+◌, ◌≤◌, ◌<◌, List, [], ◌∷◌, ◌++◌, map, length, slice_get, Option, Some, None, Bool, IsTrue, ◌&&◌, Ok, arith}
+use Rattle.std.proofs.Common.{◌≡◌, refl, sym, ap, ◌∙◌, subst, ℕ, ◌+◌, ◌<◌, List, [], ◌∷◌, ◌++◌, length, slice_get, Option, Some, None, Bool, IsTrue, ◌&&◌, Ok, arith}
 use Rattle.std.specs.List.{AllByRecursion, list_all}
 use Rattle.std.proofs.lemmas.Bool.{and_parts}
-use Rattle.gsl_base.specs.Checked.{Checked, ◌>>=◌}
 use Rattle.gsl_base.specs.declared.stage.Stage.{Stage}
 use Rattle.gsl_syntax.specs.declared.declaration.Name.{Name}
 use Rattle.gsl_syntax.specs.declared.statement.Stmt.{Stmt as Statement}
@@ -22,7 +21,7 @@ use Rattle.gsl_tree.specs.declared.unit.GlobalVar.{GlobalVar}
 use Rattle.gsl_tree.specs.declared.unit.Interface.{Interface}
 use Rattle.gsl_tree.specs.declared.unit.Prototype.{Prototype}
 use Rattle.gsl_tree.specs.Trees.{outside, with_exits, AlongAll}
-use Rattle.gsl_tree.specs.WellTyped.{IsVariableType, IsResult}
+use Rattle.gsl_tree.specs.WellTyped.{IsVariableType}
 use Rattle.gsl_typing.specs.declared.scene.Scene.{Scene}
 use Rattle.gsl_typing.specs.Scene.{around}
 use Rattle.gsl_check_expr.specs.declared.env.Env.{Env}
@@ -38,7 +37,7 @@ use Rattle.gsl_check_law.specs.Formed.{is_name, stmt_formed, body_formed, IsForm
 use Rattle.gsl_check_law.specs.Labels.{IsStepBut}
 use Rattle.gsl_check_law.specs.Scenes.{IsScene, IsEnv, IsHead, HasVariables}
 use Rattle.gsl_check_law.proofs.Found.{all_map, all_append}
-use Rattle.gsl_check_law.proofs.Longer.{Grows, grows_then, grows_itself}
+use Rattle.gsl_check_law.proofs.Longer.{Grows}
 use Rattle.gsl_check_law.proofs.Standing.{stmts_grow, names_grow, variable_grows, result_grows}
 use Rattle.gsl_check_law.proofs.Declarators.{DidAll}
 use Rattle.gsl_check_law.proofs.Walked.{statements_are}
@@ -101,6 +100,7 @@ only_structs s t u same grows = subst Wanted same of_structs
   where
     Wanted : List StructType → Type 0
     Wanted structs = Grows (record u { structs = structs }) (record u { structs = t.structs })
+
     of_structs : Wanted s.structs
     of_structs = record {
       stage = refl;

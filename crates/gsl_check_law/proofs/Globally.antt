@@ -1,5 +1,5 @@
 -- What a global variable begins as is well typed, and has the value that is kept beside it.
-use Rattle.std.proofs.Common.{◌≡◌, refl, sym, ap, ◌∙◌, subst, [], ◌∷◌, ◌++◌, Option, Some, None, is_none, Bool, true, false, not, IsTrue, Ok, if◌then◌else◌}
+use Rattle.std.proofs.Common.{◌≡◌, refl, sym, ap, ◌∙◌, subst, [], ◌∷◌, Option, Some, None, is_none, Bool, true, false, not, IsTrue, Ok, if◌then◌else◌}
 use Rattle.std.proofs.lemmas.Option.{none-some, cond_some}
 use Rattle.gsl_base.specs.declared.fault.Place.{Place}
 use Rattle.gsl_base.specs.declared.fault.Code.TheVariants.{E0403, E0404, E0504, E0507, E0510, E0601, E0602, E0604, E0908}
@@ -8,7 +8,7 @@ use Rattle.gsl_types.specs.declared.ty.Ty.{Ty}
 use Rattle.gsl_types.specs.declared.ty.Ty.TheVariants as ty
 use Rattle.gsl_values.specs.declared.value.Value.{Value}
 use Rattle.gsl_overload.specs.Identity.{identical}
-use Rattle.gsl_overload.proofs.Same.{no_more, same_is}
+use Rattle.gsl_overload.proofs.Same.{no_more}
 use Rattle.gsl_tree.specs.declared.expr.Expr.{Expr}
 use Rattle.gsl_tree.specs.declared.expr.ExprKind.TheVariants as kind
 use Rattle.gsl_tree.specs.declared.folded.Folded.{Folded}

@@ -1,10 +1,9 @@
 -- What is well typed stays so where lists grow at their ends.
-use Rattle.std.proofs.Common.{◌≡◌, refl, sym, ap, ◌∙◌, subst, ℕ, zero, suc, ◌≤◌, List, [], ◌∷◌, ◌++◌, map, length, slice_get, Option, Some, None, unwrap_or, Bool, not, ◌&&◌, ◌||◌, IsTrue, nat_le, inl, inr, arith}
+use Rattle.std.proofs.Common.{◌≡◌, refl, sym, ap, ◌∙◌, subst, ℕ, zero, suc, ◌≤◌, List, [], ◌∷◌, map, length, slice_get, Option, Some, None, unwrap_or, Bool, not, ◌&&◌, ◌||◌, IsTrue, nat_le, inl, inr}
 use Rattle.std.specs.List.{AllByRecursion}
 use Rattle.std.proofs.lemmas.Option.{none-some}
 use Rattle.gsl_types.specs.Known.{IsSound}
 use Rattle.gsl_types.proofs.Layers.{sound_stays}
-use Rattle.gsl_types.specs.Leaves.{told_leaves}
 use Rattle.gsl_types.specs.declared.ty.Direction.{Direction}
 use Rattle.gsl_types.specs.declared.ty.Direction.TheVariants.{In, Out, InOut}
 use Rattle.gsl_types.specs.declared.ty.Ty.{Ty}
@@ -27,8 +26,7 @@ use Rattle.gsl_tree.specs.Constants.{constant_of, known_at}
 use Rattle.gsl_tree.specs.Paths.{test_of, kind_in, unreadable_by, writable_by, is_unreadable, is_writable, is_variable, is_output, is_whole_copy, is_small, is_aggregate, read_parts, written_parts, params_at, going_in, coming_out, repeats}
 use Rattle.gsl_values.specs.Vectors.{components as picked}
 use Rattle.gsl_tree.specs.Trees.{type_of, form_of, parts_of, Throughout, ThroughoutAll}
-use Rattle.gsl_tree.specs.Values.{is_value_of}
-use Rattle.gsl_tree.specs.Weights.{height_of, most_high}
+use Rattle.gsl_tree.specs.Weights.{most_high}
 use Rattle.gsl_tree.specs.Expressions.{IsExpr, IsNode, HasType, IsBuildKind, IsArgument, AreArguments, MayBeRead, MayBeWritten}
 use Rattle.gsl_typing.specs.declared.scene.Scene.{Scene}
 use Rattle.gsl_typing.specs.Scene.{around}

@@ -1,5 +1,5 @@
 -- Heads of functions that are declared are as a unit's must be, and are those of their functions.
-use Rattle.std.proofs.Common.{◌≡◌, refl, sym, ap, ◌∙◌, subst, ℕ, ◌+◌, ◌≤◌, ◌<◌, ◌⊎◌, inl, inr, List, [], ◌∷◌, ◌++◌, map, length, slice_get, Option, Some, None, unwrap_or, Bool, true, false, not, ◌&&◌, ◌||◌, IsTrue, nat_le, Ok, arith, if◌then◌else◌, zero-add, suc}
+use Rattle.std.proofs.Common.{◌≡◌, refl, sym, ap, ◌∙◌, subst, ℕ, ◌+◌, ◌≤◌, inl, inr, List, [], ◌∷◌, ◌++◌, map, length, slice_get, Option, Some, None, unwrap_or, Bool, true, false, not, ◌&&◌, ◌||◌, IsTrue, nat_le, Ok, arith, if◌then◌else◌, zero-add, suc}
 use Rattle.std.specs.List.{AllByRecursion}
 use Rattle.std.specs.Str.{bytes_eq}
 use Rattle.std.proofs.lemmas.Bool.{and_parts, leb-true}
@@ -32,7 +32,6 @@ use Rattle.gsl_check_decl.specs.Globals.{with_head}
 use Rattle.gsl_check_decl.proofs.Gathering.{Holds, holds_after, holds_then}
 use Rattle.gsl_qualifiers.specs.declared.qualified.Role.TheVariants.{Nothing}
 use Rattle.gsl_qualifiers.specs.Qualifiers.{qualified}
-use Rattle.gsl_check_heads.specs.declared.parameter.Said.{Said}
 use Rattle.gsl_check_heads.specs.declared.parameter.Parameter.{Parameter}
 use Rattle.gsl_check_heads.specs.Builtins.{names_function}
 use Rattle.gsl_check_heads.specs.Heads.{said, has_param, may_be_unnamed, may_be_param, param_with, named_as, param, params_from, params_in, typed_params, same_types, same_direction, same_directions, is_of, number_from, head_number, disagrees_by, head_at, disagrees, has_body_of, is_block, is_other_main, is_other, is_no_result, most_params, may_be_head, headed_by, headed, Headed, with_number, declared_head, header}

@@ -1,11 +1,10 @@
 -- What is known of an expression before a run has words below 2^32 alone, where its leaves have.
-use Rattle.std.proofs.Common.{◌≡◌, refl, sym, ap, ◌∙◌, subst, ℕ, ◌^◌, ◌<◌, List, [], ◌∷◌, map, Option, Some, None, Bool, true, false, ◌==◌, arith, if◌then◌else◌}
+use Rattle.std.proofs.Common.{◌≡◌, sym, subst, ℕ, ◌^◌, ◌<◌, List, [], ◌∷◌, map, Option, Some, None, Bool, true, false, ◌==◌, arith, if◌then◌else◌}
 use Rattle.std.specs.List.{AllByRecursion}
 use Rattle.gsl_types.specs.declared.ty.Ty.{Ty}
 use Rattle.gsl_values.specs.declared.value.Value.{Value}
 use Rattle.gsl_values.specs.declared.value.Value.TheVariants.{Word}
-use Rattle.gsl_values.specs.Word.{word_of_bool}
-use Rattle.gsl_tree.specs.declared.expr.Expr.{Expr, out-Expr}
+use Rattle.gsl_tree.specs.declared.expr.Expr.{Expr}
 use Rattle.gsl_tree.specs.declared.expr.ExprKind.{ExprKind, out-ExprKind}
 use Rattle.gsl_tree.specs.declared.expr.ExprKind.TheVariants as kind
 use Rattle.gsl_tree.specs.declared.expr.ExprKind.TheVariants.{outs-Const, outs-Local, outs-Global, outs-Member, outs-Index, outs-Swizzle, outs-Length, outs-Unary, outs-Binary, outs-Logic, outs-Choose, outs-Built, outs-Build, outs-Convert, rolls-Const, rolls-Local, rolls-Global, rolls-Param, rolls-BlockMember, rolls-Stage, rolls-Interface, rolls-Member, rolls-Index, rolls-Swizzle, rolls-Length, rolls-Unary, rolls-Binary, rolls-Logic, rolls-Choose, rolls-Assign, rolls-Update, rolls-Step, rolls-Call, rolls-Built, rolls-Build, rolls-Convert, rolls-Comma}
@@ -28,7 +27,7 @@ use Rattle.gsl_tree.proofs.Steps as at
 use Rattle.gsl_check_law.specs.Labels.{AreWords}
 use Rattle.gsl_check_law.specs.Small.{IsSmall, IsSmallFolded}
 use Rattle.gsl_check_law.proofs.Answering.{truth_word}
-use Rattle.gsl_check_law.proofs.Smalls.{AllSmall, SmallGiven, SmallOr, word_small, word_in_small, unary_small, binary_small, build_small, builtin_small, index_small, member_small, swizzle_small}
+use Rattle.gsl_check_law.proofs.Smalls.{AllSmall, SmallOr, word_small, word_in_small, unary_small, binary_small, build_small, builtin_small, index_small, member_small, swizzle_small}
 
 -- ---- drawing
 

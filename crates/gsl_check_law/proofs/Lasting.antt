@@ -1,7 +1,7 @@
 -- What a unit has so far is as it should be, and stays so where its lists grow.
-use Rattle.std.proofs.Common.{◌≡◌, refl, sym, ap, ◌∙◌, subst, ℕ, zero, suc, ◌≤◌, ◌<◌, Bool, List, [], ◌∷◌, take, length, slice_get, Option, Some, None, unwrap_or, arith}
+use Rattle.std.proofs.Common.{◌≡◌, refl, sym, ap, ◌∙◌, subst, ℕ, zero, suc, ◌≤◌, Bool, List, [], ◌∷◌, take, length, slice_get, Option, Some, None, unwrap_or, arith}
 use Rattle.std.specs.List.{AllByRecursion}
-use Rattle.std.proofs.lemmas.Option.{none-some, slice_get_within}
+use Rattle.std.proofs.lemmas.Option.{none-some}
 use Rattle.gsl_base.specs.declared.stage.Stage.{Stage}
 use Rattle.gsl_types.specs.Known.{IsSound}
 use Rattle.gsl_types.specs.Structs.{numbered, members_meaning}
@@ -9,7 +9,6 @@ use Rattle.gsl_types.proofs.Layers.{sound_stays}
 use Rattle.gsl_types.proofs.Structs.{members_agree}
 use Rattle.gsl_types.specs.declared.ty.Direction.{Direction}
 use Rattle.gsl_types.specs.declared.ty.Member.{Member}
-use Rattle.gsl_types.specs.declared.ty.StructType.{StructType}
 use Rattle.gsl_types.specs.declared.ty.Ty.{Ty}
 use Rattle.gsl_values.specs.declared.value.Value.{Value}
 use Rattle.gsl_layout.specs.Measures.{measuring, grouped}
@@ -35,7 +34,7 @@ use Rattle.gsl_tree.specs.WellTyped.{IsName, IsVariableType, IsBlock, IsBlockMem
 use Rattle.gsl_typing.specs.declared.scene.Scene.{Scene}
 use Rattle.gsl_typing.specs.Scene.{around}
 use Rattle.gsl_check_law.specs.Labels.{IsStepBut}
-use Rattle.gsl_check_law.specs.Scenes.{IsScene, IsHead}
+use Rattle.gsl_check_law.specs.Scenes.{IsScene}
 use Rattle.gsl_check_law.proofs.Found.{all_map}
 use Rattle.gsl_check_law.proofs.Growing.{expr_grows, read_grows}
 use Rattle.gsl_check_law.proofs.Longer.{Front, Grows}

@@ -1,7 +1,7 @@
 -- Loops and `switch`es are no deeper than their syntax trees, and so are all statements.
-use Rattle.std.proofs.Common.{◌≡◌, refl, sym, ap, ◌∙◌, subst, ℕ, ◌+◌, ◌≤◌, max, List, [], ◌∷◌, ◌++◌, map, length, Option, Some, None, is_some, Bool, true, false, not, ◌&&◌, Ok, arith, if◌then◌else◌, Less}
+use Rattle.std.proofs.Common.{◌≡◌, sym, subst, ℕ, ◌+◌, ◌≤◌, max, List, [], ◌∷◌, ◌++◌, map, Option, Some, None, is_some, Bool, true, false, not, ◌&&◌, Ok, arith, if◌then◌else◌}
 use Rattle.std.specs.List.{AllByRecursion}
-use Rattle.gsl_base.specs.Checked.{Checked, ◌>>=◌}
+use Rattle.gsl_base.specs.Checked.{◌>>=◌}
 use Rattle.gsl_base.specs.declared.fault.Code.TheVariants.{E0507, E0511, E0908}
 use Rattle.gsl_base.specs.declared.fault.Place.{Place}
 use Rattle.gsl_syntax.specs.declared.expr.Expr.{Expr as Phrase}
@@ -25,7 +25,7 @@ use Rattle.gsl_typing.specs.Uses.{is_unread}
 use Rattle.gsl_makers.specs.Paths.{is_index}
 use Rattle.gsl_check_expr.specs.declared.env.Env.{Env}
 use Rattle.gsl_check_expr.specs.Expressions.{taken_expression}
-use Rattle.gsl_check_decl.specs.Steps.{Step, in_turn, opened, closed}
+use Rattle.gsl_check_decl.specs.Steps.{Step, opened, closed}
 use Rattle.gsl_check_decl.specs.Declarations.{declaration}
 use Rattle.gsl_check_decl.specs.Declaring.{is_empty}
 use Rattle.gsl_check_decl.proofs.Gathering.{Holds, holds_after, holds_then}

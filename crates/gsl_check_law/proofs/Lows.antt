@@ -1,45 +1,32 @@
 -- Typed statements are no deeper than their syntax trees.
-use Rattle.std.proofs.Common.{◌≡◌, refl, sym, ap, ◌∙◌, subst, ℕ, ◌+◌, ◌≤◌, max, List, [], ◌∷◌, ◌++◌, map, length, Option, Some, None, is_some, Bool, true, false, not, ◌&&◌, Ok, arith, if◌then◌else◌, Less}
+use Rattle.std.proofs.Common.{◌≡◌, ℕ, ◌+◌, ◌≤◌, max, List, [], ◌∷◌, Option, Some, None, Bool, true, false, not, ◌&&◌, Ok, arith, if◌then◌else◌}
 use Rattle.std.specs.List.{AllByRecursion}
 use Rattle.gsl_base.specs.Checked.{Checked, ◌>>=◌}
 use Rattle.gsl_base.specs.declared.fault.Code.{Code}
-use Rattle.gsl_base.specs.declared.fault.Code.TheVariants.{E0504, E0507, E0510, E0511, E0512, E0513, E0514, E0908}
+use Rattle.gsl_base.specs.declared.fault.Code.TheVariants.{E0504, E0507, E0510, E0511, E0512, E0513, E0514}
 use Rattle.gsl_base.specs.declared.fault.Place.{Place}
 use Rattle.gsl_syntax.specs.declared.expr.Expr.{Expr as Phrase}
-use Rattle.gsl_syntax.specs.declared.statement.ForInit.{ForInit}
-use Rattle.gsl_syntax.specs.declared.statement.ForInit.TheVariants as for_init
-use Rattle.gsl_syntax.specs.declared.statement.Stmt.{Stmt as Syntax}
-use Rattle.gsl_syntax.specs.declared.statement.Stmt.TheOpen.{Stmt-F}
-use Rattle.gsl_syntax.specs.declared.statement.Stmt.TheViews.{roll-Stmt}
-use Rattle.gsl_syntax.specs.declared.statement.Stmt.TheFolds.{fold-roll-Stmt, ind-Stmt, map-Stmt}
-use Rattle.gsl_types.specs.declared.ty.Ty.{Ty, Void}
+use Rattle.gsl_types.specs.declared.ty.Ty.{Ty}
 use Rattle.gsl_tree.specs.declared.expr.Expr.{Expr}
 use Rattle.gsl_tree.specs.declared.stmt.Stmt.{Stmt}
 use Rattle.gsl_tree.specs.declared.stmt.Stmt.TheVariants as stmt
-use Rattle.gsl_tree.specs.declared.stmt.Stmt.TheFolds.{fold-Arm, fold-roll-Arm}
-use Rattle.gsl_tree.specs.declared.stmt.Stmt.TheViews.{roll-Arm}
-use Rattle.gsl_tree.specs.declared.stmt.Arm.{Arm}
-use Rattle.gsl_tree.specs.Statements.{deepest, expr_depth, depth_in, stmt_depth, stmt_depth_by, arm_depth_by}
+use Rattle.gsl_tree.specs.Statements.{expr_depth, depth_in, stmt_depth, stmt_depth_by, arm_depth_by}
 use Rattle.gsl_tree.proofs.StmtFolds as at
-use Rattle.gsl_typing.specs.declared.scene.Part.{Part}
 use Rattle.gsl_typing.specs.Conversions.{serves_as, as_type}
 use Rattle.gsl_typing.specs.Scene.{type_in}
 use Rattle.gsl_typing.specs.Uses.{is_unread, is_runtime, whole}
 use Rattle.gsl_check_expr.specs.declared.env.Env.{Env}
 use Rattle.gsl_check_expr.specs.Expressions.{expression, taken_expression}
 use Rattle.gsl_check_decl.specs.Steps.{Step, in_turn, opened, closed, scoped}
-use Rattle.gsl_check_decl.specs.Declarations.{declaration}
 use Rattle.gsl_check_decl.proofs.Gathering.{Holds, holds_after, holds_then}
 use Rattle.gsl_check_stmt.specs.declared.within.Within.{Within}
-use Rattle.gsl_check_stmt.specs.declared.gathered.Gathered.{Gathered}
 use Rattle.gsl_check_stmt.specs.Rules.{alone, condition_fault, unless_wrong, broken, continued, discarded, returned, returned_value, is_fragment}
-use Rattle.gsl_check_stmt.specs.Switches.{nothing, last_arm, behind_arm, at_label, with_case, with_default, with_stmt, is_blank, all_arms, default_label, misplaced_case, misplaced_default, switched}
-use Rattle.gsl_check_stmt.specs.Statements.{Label, Case, Default, Answer, in_row, in_part, in_loop, in_switch, still, group, block, Test, tested, tested_if, eval, eval_if, evaluated, stray_case, return_with, header, behind_header, Head, while_head, for_head, loop_of, loop_done, looped, behind_body, do_loop, if_head, if_done, branch, branches, case_label, labelled, stated, item, items, arms, switch_head, switch, by_parts, answer, statement, statements}
-use Rattle.gsl_check_law.specs.Nested.{expr_arms, arms_if, init_part_arms, stmt_arms_by, stmt_arms}
-use Rattle.gsl_check_law.proofs.Rows.{so}
+use Rattle.gsl_check_stmt.specs.Switches.{misplaced_case, misplaced_default}
+use Rattle.gsl_check_stmt.specs.Statements.{in_part, still, group, block, Test, tested, tested_if, eval, eval_if, evaluated, stray_case, return_with, if_head, if_done, branch, branches}
+use Rattle.gsl_check_law.specs.Nested.{expr_arms, arms_if}
 use Rattle.gsl_check_law.proofs.Deep.{skip, At, whole_deep, as_type_depth}
 use Rattle.gsl_check_law.proofs.Depths.{expression_deep, taken_expression_deep}
-use Rattle.gsl_check_law.proofs.Shallows.{Low, LowAll, Lows, low_turns, declaration_low}
+use Rattle.gsl_check_law.proofs.Shallows.{Low, LowAll, Lows, low_turns}
 use Rattle.gsl_base.specs.declared.stage.Stage.{Stage}
 use Rattle.gsl_typing.specs.Rows.{unless, fault}
 use Rattle.gsl_tree.specs.Trees.{place_of}

@@ -1,5 +1,5 @@
 -- Names as a parser gives them are names.
-use Rattle.std.proofs.Common.{◌≡◌, ◌≢◌, sym, ◌∙◌, ap, ℕ, zero, suc, ◌&&◌, Bool, true, false, IsTrue, nat_le, nat_lt, List, [], ◌∷◌, length}
+use Rattle.std.proofs.Common.{◌≢◌, sym, ◌∙◌, ap, ℕ, IsTrue, nat_le, nat_lt, List, [], ◌∷◌, length}
 use Rattle.std.specs.List.{AllByRecursion, list_all}
 use Rattle.std.proofs.lemmas.Bool.{and_parts, leb-true, true≢false}
 use Rattle.gsl_tree.specs.WellTyped.{IsName}

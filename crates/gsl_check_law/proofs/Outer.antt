@@ -1,10 +1,10 @@
 -- Variables, inputs and outputs, structs and sizes that are declared at the top of a unit are as the unit's must be.
-use Rattle.std.proofs.Common.{◌≡◌, refl, sym, ap, ◌∙◌, subst, ℕ, ◌≤◌, ◌<◌, List, [], ◌∷◌, ◌++◌, map, length, Option, Some, None, is_none, is_some, unwrap_or, Bool, true, false, not, ◌&&◌, ◌||◌, IsTrue, nat_le, Ok, arith, length-append, Err}
-use Rattle.std.specs.List.{AllByRecursion, list_all}
-use Rattle.std.proofs.lemmas.Bool.{and_parts, and_from, le-leb, lt-ltb}
+use Rattle.std.proofs.Common.{◌≡◌, refl, sym, ap, ◌∙◌, subst, ℕ, ◌≤◌, List, [], ◌∷◌, map, length, Option, Some, None, is_none, unwrap_or, Bool, true, false, not, ◌&&◌, ◌||◌, IsTrue, Ok, arith, Err}
+use Rattle.std.specs.List.{AllByRecursion}
+use Rattle.std.proofs.lemmas.Bool.{and_parts, lt-ltb}
 use Rattle.gsl_base.specs.Checked.{Checked, ◌>>=◌}
 use Rattle.gsl_base.specs.declared.fault.Code.{Code}
-use Rattle.gsl_base.specs.declared.fault.Code.TheVariants.{E0403, E0404, E0504, E0507, E0510, E0701, E0702, E0703, E0706}
+use Rattle.gsl_base.specs.declared.fault.Code.TheVariants.{E0403, E0404, E0504, E0507, E0510, E0702, E0703, E0706}
 use Rattle.gsl_base.specs.declared.fault.Place.{Place}
 use Rattle.gsl_base.specs.declared.stage.Stage.{Stage}
 use Rattle.gsl_base.specs.declared.stage.Stage.TheVariants.{Vertex, Fragment, Compute}
@@ -35,7 +35,7 @@ use Rattle.gsl_check_expr.specs.Initialisers.{initial, begun_type}
 use Rattle.gsl_check_decl.specs.Declaring.{is_declared, is_reserved, may_be_had}
 use Rattle.gsl_check_decl.specs.Locals.{begun_as}
 use Rattle.gsl_check_decl.specs.Structs.{with_lines, with_struct, may_be_struct, structured}
-use Rattle.gsl_check_decl.specs.Globals.{with_global, with_interface}
+use Rattle.gsl_check_decl.specs.Globals.{with_interface}
 use Rattle.gsl_check_decl.proofs.Gathering.{Holds, holds_after, holds_then, had_sound}
 use Rattle.gsl_qualifiers.specs.declared.qualified.Role.{Role}
 use Rattle.gsl_qualifiers.specs.declared.qualified.Role.TheVariants.{Variable, Input, Output, Uniform, Buffer, Push, Member as MemberRole, Size, Nothing}

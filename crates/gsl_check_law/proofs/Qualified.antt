@@ -1,7 +1,6 @@
 -- What the qualifiers of a declaration at the top of a unit say may stand there, and its values are within their bounds.
-use Rattle.std.proofs.Common.{◌≡◌, refl, sym, ap, ◌∙◌, ℕ, ◌≤◌, Bool, true, false, not, ◌&&◌, ◌||◌, IsTrue, nat_le, List, [], ◌∷◌, Option, Some, None, is_none, is_some, Ok, arith}
+use Rattle.std.proofs.Common.{refl, ℕ, ◌≤◌, Bool, true, false, not, ◌&&◌, ◌||◌, IsTrue, nat_le, List, [], ◌∷◌, Option, Some, None, is_none, is_some, Ok}
 use Rattle.std.proofs.lemmas.Bool.{and_parts, leb-true}
-use Rattle.std.specs.Str.{bytes_eq}
 use Rattle.gsl_base.specs.Checked.{Checked, ◌>>=◌}
 use Rattle.gsl_base.specs.declared.fault.Place.{Place}
 use Rattle.gsl_base.specs.declared.fault.Code.TheVariants.{E0507, E0601, E0602, E0701, E0704, E0705, E0709}
@@ -25,7 +24,7 @@ use Rattle.gsl_qualifiers.specs.declared.qualified.Role.{Role}
 use Rattle.gsl_qualifiers.specs.declared.qualified.Qualified.{Qualified}
 use Rattle.gsl_qualifiers.specs.declared.valued.Valued.{Valued}
 use Rattle.gsl_qualifiers.specs.declared.valued.Valued.TheVariants.{Location, Set, Binding, Offset, Align, SizeX, SizeY, SizeZ}
-use Rattle.gsl_qualifiers.specs.Qualifiers.{may_be_in, may_be_fixed, may_be_flat, may_be_uniform, may_be_buffer, is_output, has_memory, valued, is_block, is_push, is_value_of, is_wrong, stated_value, with_value, flag_by, flag, laid_by, laid, once, stored, qualified_by, qualified_from, unsaid, qualified}
+use Rattle.gsl_qualifiers.specs.Qualifiers.{may_be_in, may_be_fixed, may_be_flat, may_be_uniform, may_be_buffer, is_output, has_memory, valued, is_block, is_push, is_value_of, is_wrong, stated_value, with_value, flag_by, flag, laid_by, laid, once, qualified_by, qualified_from, unsaid, qualified}
 use Rattle.gsl_check_law.proofs.Rows.{row, not_false, neither, both}
 
 -- where this is said it may be

@@ -1,5 +1,5 @@
 -- What initialisers give, and what declarations declare, is no deeper than their syntax trees.
-use Rattle.std.proofs.Common.{◌≡◌, refl, sym, ap, ◌∙◌, subst, ℕ, ◌+◌, ◌≤◌, max, List, [], ◌∷◌, ◌++◌, map, length, Option, Some, None, Bool, true, false, Ok, arith}
+use Rattle.std.proofs.Common.{◌≡◌, sym, ap, ◌∙◌, subst, ℕ, ◌+◌, ◌≤◌, List, [], ◌∷◌, map, length, Option, Some, None, Bool, false, Ok, arith}
 use Rattle.std.specs.List.{AllByRecursion}
 use Rattle.gsl_base.specs.Checked.{Checked, ◌>>=◌}
 use Rattle.gsl_base.specs.declared.fault.Place.{Place}
@@ -12,7 +12,6 @@ use Rattle.gsl_syntax.specs.declared.declaration.Init.{Init}
 use Rattle.gsl_syntax.specs.declared.declaration.Init.TheOpen.{Init-F}
 use Rattle.gsl_syntax.specs.declared.declaration.Init.TheFolds.{fold-roll-Init, ind-Init, map-Init}
 use Rattle.gsl_syntax.specs.declared.declaration.Init.TheViews.{roll-Init}
-use Rattle.gsl_syntax.specs.declared.declaration.Name.{Name}
 use Rattle.gsl_syntax.specs.declared.declaration.Qual.{Qual}
 use Rattle.gsl_syntax.specs.declared.declaration.Struct.{Struct}
 use Rattle.gsl_types.specs.declared.ty.Ty.{Ty}
@@ -46,7 +45,7 @@ use Rattle.gsl_check_decl.specs.Declarations.{variables, struct_and_variables, d
 use Rattle.gsl_check_decl.proofs.Gathering.{Holds, holds_after, holds_then}
 use Rattle.gsl_check_law.specs.Nested.{init_arms_by, init_arms, declarator_arms, decl_arms}
 use Rattle.gsl_check_law.proofs.Rows.{so}
-use Rattle.gsl_check_law.proofs.Deep.{At, AllAt, at_more, all_more, depth_of, as_type_depth, build_deep}
+use Rattle.gsl_check_law.proofs.Deep.{At, AllAt, at_more, depth_of, as_type_depth, build_deep}
 use Rattle.gsl_check_law.proofs.Depths.{taken_expression_deep}
 use Rattle.gsl_base.specs.declared.fault.Code.TheVariants.{E0701}
 

@@ -7,7 +7,6 @@ use Rattle.gsl_types.proofs.Longer.{pushed}
 use Rattle.gsl_tree.specs.declared.expr.Expr.{Expr}
 use Rattle.gsl_tree.specs.declared.folded.Consts.{Consts}
 use Rattle.gsl_tree.specs.declared.folded.Folded.{Folded}
-use Rattle.gsl_tree.specs.declared.folded.Folded.TheVariants.{Known}
 use Rattle.gsl_tree.specs.declared.unit.Block.{Block}
 use Rattle.gsl_tree.specs.declared.unit.GlobalVar.{GlobalVar}
 use Rattle.gsl_tree.specs.declared.unit.Interface.{Interface}

@@ -1,39 +1,39 @@
 -- Whole units are well typed, but for the bounds of labels and of depth.
-use Rattle.std.proofs.Common.{◌≡◌, refl, sym, ap, ◌∙◌, subst, ℕ, ◌≤◌, List, [], ◌∷◌, ◌++◌, map, length, slice_get, Option, Some, None, Bool, true, false, ◌&&◌, IsTrue, Ok, arith}
+use Rattle.std.proofs.Common.{◌≡◌, refl, sym, ap, ◌∙◌, subst, ℕ, ◌≤◌, List, [], ◌∷◌, slice_get, Option, Some, None, IsTrue, Ok, arith}
 use Rattle.std.specs.List.{AllByRecursion, list_all}
 use Rattle.std.proofs.lemmas.Bool.{and_parts}
 use Rattle.std.proofs.lemmas.Option.{none-some}
-use Rattle.gsl_base.specs.Checked.{Checked, ◌>>=◌, Gives}
+use Rattle.gsl_base.specs.Checked.{◌>>=◌}
 use Rattle.gsl_base.specs.declared.stage.Stage.{Stage}
 use Rattle.gsl_base.specs.declared.stage.Stage.TheVariants.{Vertex, Fragment, Compute}
 use Rattle.gsl_syntax.specs.declared.declaration.Decl.{Decl}
 use Rattle.gsl_syntax.specs.declared.declaration.Decl.TheVariants as decl
 use Rattle.gsl_syntax.specs.declared.statement.Global.{Global}
 use Rattle.gsl_syntax.specs.declared.statement.Global.TheVariants as global
-use Rattle.gsl_tree.specs.declared.expr.Expr.{Expr, is-Expr'}
+use Rattle.gsl_tree.specs.declared.expr.Expr.{Expr}
 use Rattle.gsl_tree.specs.declared.unit.Function.{Function}
 use Rattle.gsl_tree.specs.declared.unit.GlobalVar.{GlobalVar}
 use Rattle.gsl_tree.specs.declared.unit.TypedUnit.{TypedUnit}
-use Rattle.gsl_tree.specs.Statements.{expr_depth, depth_in, stmt_depth, deepest, most_deep}
+use Rattle.gsl_tree.specs.Statements.{depth_in, most_deep}
 use Rattle.gsl_tree.specs.Trees.{AlongAll, outside, with_exits}
-use Rattle.gsl_tree.specs.WellTyped.{IsUnit, AreWellTyped, IsGlobal, IsInit, IsFunction, unit_lists, Lists, AreSizes, around_init, IsInterface, around_body}
+use Rattle.gsl_tree.specs.WellTyped.{IsUnit, IsGlobal, IsInit, IsFunction, unit_lists, Lists, AreSizes, around_init, IsInterface, around_body}
 use Rattle.gsl_typing.specs.declared.scene.Scene.{Scene}
 use Rattle.gsl_typing.specs.Scene.{around}
-use Rattle.gsl_names.specs.Scopes.{Scope, Declared}
+use Rattle.gsl_names.specs.Scopes.{Declared}
 use Rattle.gsl_check_expr.specs.declared.env.Env.{Env}
 use Rattle.gsl_check_decl.proofs.Gathering.{Holds, holds_after}
-use Rattle.gsl_check_heads.specs.Builtins.{begun_in, built_in, functions, variables}
+use Rattle.gsl_check_heads.specs.Builtins.{begun_in, functions, variables}
 use Rattle.gsl_check.specs.Functions.{function}
 use Rattle.gsl_check.specs.Units.{declared_by, declaration, Progress, with_functions, next, all, begun, unit_of, finished, checked}
 use Rattle.gsl_check_law.specs.Formed.{decl_formed, global_formed, IsFormedUnit, IsParsed}
 use Rattle.gsl_check_law.specs.Labels.{HasWords}
-use Rattle.gsl_check_law.specs.Scenes.{IsThere, AreThere, IsEnv}
+use Rattle.gsl_check_law.specs.Scenes.{IsThere, IsEnv}
 use Rattle.gsl_check_law.proofs.Found.{all_append, at_place}
 use Rattle.gsl_check_law.proofs.Longer.{AreDeclared}
 use Rattle.gsl_check_law.proofs.Walked.{stmts_whole}
-use Rattle.gsl_check_law.proofs.Lasting.{Begun, GlobalFits, FunctionFits, body_scene}
+use Rattle.gsl_check_law.proofs.Lasting.{Begun, FunctionFits}
 use Rattle.gsl_check_law.proofs.Tops.{IsTop, TopDone}
-use Rattle.gsl_check_law.proofs.Outer.{variables_top, struct_top, top_itself, two_hold}
+use Rattle.gsl_check_law.proofs.Outer.{variables_top, struct_top, two_hold}
 use Rattle.gsl_check_law.proofs.Blocking.{declared_block}
 use Rattle.gsl_check_law.proofs.Functioned.{FunctionsDone, functions_grow, function_top}
 use Rattle.gsl_check_law.proofs.Alone.{alone_top}

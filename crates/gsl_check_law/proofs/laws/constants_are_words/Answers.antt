@@ -1,4 +1,3 @@
-use Rattle.std.specs.Prelude.{◌≡◌}
 use Rattle.std.proofs.Common.{subst}
 use Rattle.gsl_check_law.specs.Small.{IsSmallFolded}
 use Rattle.gsl_check_law.proofs.Counted.{constant_small}
