@@ -99,6 +99,17 @@ module _ (stage : Stage) (env : Env) (fine : IsEnv env) (top : IsTop stage env.s
           locals = fine.scene.locals;
           known = fine.scene.known;
         };
+        counted = record {
+          structs = fine.counted.structs;
+          globals = fine.counted.globals;
+          blocks = fine.counted.blocks;
+          interfaces = fine.counted.interfaces;
+          prototypes = fine.counted.prototypes;
+          params = fine.counted.params;
+          locals = fine.counted.locals;
+          known_globals = fine.counted.known_globals;
+          known_locals = fine.counted.known_locals;
+        };
       };
       grows = grows;
       top = record {

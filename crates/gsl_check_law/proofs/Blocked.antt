@@ -38,7 +38,7 @@ use Rattle.gsl_qualifiers.specs.Qualifiers.{qualified}
 use Rattle.gsl_check_blocks.specs.declared.frame.Frame.{Frame}
 use Rattle.gsl_check_blocks.specs.Blocks.{member_type, had_type, is_open, is_taken, is_misplaced_array, offset_place, member_of, is_misplaced, may_be_member, may_stand, with_member, is_end, with_name, with_names, with_line, with_lines, kind_of, is_uniform, frame_of, may_be_instance, text_of, is_block_taken, block_of, may_be_block, block_with, block}
 use Rattle.gsl_check_blocks.specs.Blocks as blocks
-use Rattle.gsl_check_law.specs.Formed.{is_name, has_some, names_formed, line_formed, lines_formed}
+use Rattle.gsl_check_law.specs.Formed.{is_name, has_some, names_formed, line_formed, lines_formed, spec_formed, dims_formed}
 use Rattle.gsl_check_law.specs.Scenes.{IsEnv}
 use Rattle.gsl_check_law.proofs.Rows.{row, not_false, both, so}
 use Rattle.gsl_check_law.proofs.Names.{name_is}
@@ -47,6 +47,9 @@ use Rattle.gsl_check_law.proofs.Qualified.{Allowed, IsSaid}
 use Rattle.gsl_check_law.proofs.Tops.{IsTop}
 use Rattle.gsl_check_law.proofs.Outer.{said_here}
 use Rattle.gsl_typing.specs.Rows.{unless}
+use Rattle.gsl_check_law.proofs.Lists.{GoodAt}
+use Rattle.gsl_check_law.specs.Small.{IsCounted, is_counted, counted_layer}
+use Rattle.gsl_check_law.proofs.Declaring.{written_good, declared_good}
 
 -- ---- types of members
 
@@ -64,6 +67,10 @@ runtime_sound n e = ap (sound n) (sym (rolls-Runtime e)) ∙ fold-roll-Ty Bool (
 member_sound : (n : ℕ) (t : Written) → IsSound n (had_type t) → IsSound n (member_type t)
 member_sound n (Whole t) is = is
 member_sound n (Open place e) is = runtime_sound n e ∙ is
+
+member_counted : (n : ℕ) (t : Written) → GoodAt n t → IsCounted (member_type t)
+member_counted n (Whole t) is = is.1
+member_counted n (Open place e) is = ap is_counted (sym (rolls-Runtime e)) ∙ fold-roll-Ty Bool counted_layer (Ty-F.Runtime e) ∙ is.1
 
 -- the last part of a test that is not misplaced
 may_be_open : (buffer last : Bool) → not (buffer && last) ≡ false → IsTrue (last && buffer)
@@ -125,6 +132,7 @@ module _ (stage : Stage) (env : Env) (fine : IsEnv env) (top : IsTop stage env.s
     pub are : AreBlockMembers structs k members
     pub placed : misplaced_in (rule_of frame.std140) structs (members_of members) (placings_of members) ≡ None
     pub some : ended ≡ true → 0 < length members
+    pub counted : AllByRecursion (λ (m : BlockMember). IsCounted m.ty) members
 
   ends : (m : BlockMember) → IsOne false m → IsOne true m
   ends m is = record { name = is.name; known = is.known; low = is.low; type = may_end (is_buffer k) (out-Ty m.ty) is.type; qualifiers = is.qualifiers }
@@ -138,12 +146,13 @@ module _ (stage : Stage) (env : Env) (fine : IsEnv env) (top : IsTop stage env.s
   true_of true m is = is
   true_of false m is = ends m is
 
-  state_more : (last : Bool) (members : List BlockMember) (m : BlockMember) → State false members → IsOne last m → misplaced_in (rule_of frame.std140) structs (members_of (members ++ m ∷ [])) (placings_of (members ++ m ∷ [])) ≡ None → State last (members ++ m ∷ [])
-  state_more last members m state is placed = record {
+  state_more : (last : Bool) (members : List BlockMember) (m : BlockMember) → State false members → IsOne last m → IsCounted m.ty → misplaced_in (rule_of frame.std140) structs (members_of (members ++ m ∷ [])) (placings_of (members ++ m ∷ [])) ≡ None → State last (members ++ m ∷ [])
+  state_more last members m state is count_is placed = record {
     flat = λ more. all_append (IsOne false) members (m ∷ []) (state.flat refl) (subst (λ (b : Bool). IsOne b m) more is, tt);
     are = are_behind members m (state.flat refl) (true_of last m is);
     placed = placed;
     some = λ _. omega (arith, length-append members (m ∷ []));
+    counted = all_append (λ (m : BlockMember). IsCounted m.ty) members (m ∷ []) state.counted (count_is, tt);
   }
 
   module _ (last : Bool) (q : Qualified) (of_line : IsSaid stage (Member frame.buffer) q) where
@@ -193,17 +202,18 @@ module _ (stage : Stage) (env : Env) (fine : IsEnv env) (top : IsTop stage env.s
     unfolding is_misplaced
     placed_is members is = none_is _ is
 
-    member_state : (name : Name) (t : Written) (members : List BlockMember) → IsTrue (is_name name.text) → State false members → Holds (State last) (with_member frame last env q name t members)
+    member_state : (name : Name) (t : Written) (members : List BlockMember) → IsTrue (is_name name.text) → GoodAt (length structs) t → State false members → Holds (State last) (with_member frame last env q name t members)
     unfolding with_member
-    member_state name t members formed state =
+    member_state name t members formed good state =
         holds_after (λ _. Had t) (State last) (may_be_member frame last env name t members) (λ _. may_stand env frame q name members (made name t) >>= (λ _. Ok (members ++ made name t ∷ []))) (had_member name t members)
         (λ _ had. holds_after (λ _. Stands members (made name t)) (State last) (may_stand env frame q name members (made name t)) (λ _. Ok (members ++ made name t ∷ [])) (stands_is name members (made name t))
-        (λ _ stands. state_more last members (made name t) state (one_is name t members formed had stands) (placed_is (members ++ made name t ∷ []) stands.0)))
+        (λ _ stands. state_more last members (made name t) state (one_is name t members formed had stands) (member_counted (length structs) t good) (placed_is (members ++ made name t ∷ []) stands.0)))
 
-    name_state : (base : Written) (one : Declared) (members : List BlockMember) → IsTrue (is_name one.name.text) → State false members → Holds (State last) (with_name frame last env q base one members)
+    name_state : (base : Written) (one : Declared) (members : List BlockMember) → GoodAt (length structs) base → IsTrue (is_name one.name.text && dims_formed one.dims) → State false members → Holds (State last) (with_name frame last env q base one members)
     unfolding with_name
-    name_state base one members formed state =
-        holds_then (State last) (declared (map (bracket env) one.dims) base) (λ t. with_member frame last env q one.name t members) (λ t. member_state one.name t members formed state)
+    name_state base one members good formed state =
+        let parts = and_parts (is_name one.name.text) (dims_formed one.dims) formed in
+        holds_after (GoodAt (length structs)) (State last) (declared (map (bracket env) one.dims) base) (λ t. with_member frame last env q one.name t members) (declared_good env fine one.dims base parts.1 good) (λ t is. member_state one.name t members parts.0 is state)
 
   and_true : (b : Bool) → (b && true) ≡ b
   and_true true = refl
@@ -213,28 +223,29 @@ module _ (stage : Stage) (env : Env) (fine : IsEnv env) (top : IsTop stage env.s
   and_false true = refl
   and_false false = refl
 
-  names_state : (last : Bool) (q : Qualified) → IsSaid stage (Member frame.buffer) q → (base : Written) (one : Declared) (more : List Declared) (members : List BlockMember) → IsTrue (names_formed (one ∷ more)) → State false members
+  names_state : (last : Bool) (q : Qualified) → IsSaid stage (Member frame.buffer) q → (base : Written) (one : Declared) (more : List Declared) (members : List BlockMember) → GoodAt (length structs) base → IsTrue (names_formed (one ∷ more)) → State false members
       → Holds (State last) (with_names frame last env q base (one ∷ more) members)
-  names_state last q of_line base one [] members formed state =
-      let parts = and_parts (is_name one.name.text) true formed in
-      holds_after (State (last && true)) (State last) (with_name frame (last && true) env q base one members) (with_names frame last env q base []) (name_state (last && true) q of_line base one members parts.0 state)
+  names_state last q of_line base one [] members good formed state =
+      let parts = and_parts (is_name one.name.text && dims_formed one.dims) true formed in
+      holds_after (State (last && true)) (State last) (with_name frame (last && true) env q base one members) (with_names frame last env q base []) (name_state (last && true) q of_line base one members good parts.0 state)
       (λ next is. subst (λ (b : Bool). State b next) (and_true last) is)
-  names_state last q of_line base one (two ∷ more) members formed state =
-      let parts = and_parts (is_name one.name.text) (names_formed (two ∷ more)) formed in
-      holds_after (State (last && false)) (State last) (with_name frame (last && false) env q base one members) (with_names frame last env q base (two ∷ more)) (name_state (last && false) q of_line base one members parts.0 state)
-      (λ next is. names_state last q of_line base two more next parts.1 (subst (λ (b : Bool). State b next) (and_false last) is))
+  names_state last q of_line base one (two ∷ more) members good formed state =
+      let parts = and_parts (is_name one.name.text && dims_formed one.dims) (names_formed (two ∷ more)) formed in
+      holds_after (State (last && false)) (State last) (with_name frame (last && false) env q base one members) (with_names frame last env q base (two ∷ more)) (name_state (last && false) q of_line base one members good parts.0 state)
+      (λ next is. names_state last q of_line base two more next good parts.1 (subst (λ (b : Bool). State b next) (and_false last) is))
 
-  some_names : (last : Bool) (q : Qualified) → IsSaid stage (Member frame.buffer) q → (base : Written) (names : List Declared) (members : List BlockMember) → IsTrue (has_some names) → IsTrue (names_formed names) → State false members
+  some_names : (last : Bool) (q : Qualified) → IsSaid stage (Member frame.buffer) q → (base : Written) (names : List Declared) (members : List BlockMember) → GoodAt (length structs) base → IsTrue (has_some names) → IsTrue (names_formed names) → State false members
       → Holds (State last) (with_names frame last env q base names members)
-  some_names last q of_line base [] members some formed state = no_more some
-  some_names last q of_line base (one ∷ more) members some formed state = names_state last q of_line base one more members formed state
+  some_names last q of_line base [] members good some formed state = no_more some
+  some_names last q of_line base (one ∷ more) members good some formed state = names_state last q of_line base one more members good formed state
 
   line_state : (last : Bool) (line : Line) (members : List BlockMember) → IsTrue (line_formed line) → State false members → Holds (State last) (with_line frame last env line members)
   unfolding with_line
   line_state last line members formed state =
-      let parts = and_parts (has_some line.names) (names_formed line.names) formed in
+      let parts = and_parts (has_some line.names) (spec_formed line.ty && names_formed line.names) formed in
+      let types = and_parts (spec_formed line.ty) (names_formed line.names) parts.1 in
       holds_after (IsSaid stage (Member frame.buffer)) (State last) (qualified env (Member frame.buffer) line.quals) (λ q. written_type env line.ty >>= (λ base. with_names frame last env q base line.names members)) (said_here stage env fine top (Member frame.buffer) line.quals)
-      (λ q of_line. holds_then (State last) (written_type env line.ty) (λ base. with_names frame last env q base line.names members) (λ base. some_names last q of_line base line.names members parts.0 parts.1 state))
+      (λ q of_line. holds_after (GoodAt (length structs)) (State last) (written_type env line.ty) (λ base. with_names frame last env q base line.names members) (written_good env fine line.ty types.0) (λ base good. some_names last q of_line base line.names members good parts.0 types.1 state))
 
   lines_state : (line : Line) (lines : List Line) (members : List BlockMember) → IsTrue (list_all line_formed (line ∷ lines)) → State false members → Holds (State true) (with_lines frame env (line ∷ lines) members)
   lines_state line [] members formed state =
@@ -247,4 +258,4 @@ module _ (stage : Stage) (env : Env) (fine : IsEnv env) (top : IsTop stage env.s
   -- the members of all lines are those of a block
   pub all_members : (lines : List Line) → IsTrue (lines_formed lines) → Holds (λ (members : List BlockMember). State true members × (0 < length members)) (with_lines frame env lines [])
   all_members [] formed = no_more formed
-  all_members (line ∷ lines) formed = so (State true) (λ (members : List BlockMember). State true members × (0 < length members)) (with_lines frame env (line ∷ lines) []) (lines_state line lines [] (and_parts true (list_all line_formed (line ∷ lines)) formed).1 (record { flat = λ _. tt; are = tt; placed = refl; some = λ e. no_more e })) (λ members state. (state, state.some refl))
+  all_members (line ∷ lines) formed = so (State true) (λ (members : List BlockMember). State true members × (0 < length members)) (with_lines frame env (line ∷ lines) []) (lines_state line lines [] (and_parts true (list_all line_formed (line ∷ lines)) formed).1 (record { flat = λ _. tt; are = tt; placed = refl; some = λ e. no_more e; counted = tt })) (λ members state. (state, state.some refl))

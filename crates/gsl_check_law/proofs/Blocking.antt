@@ -39,6 +39,7 @@ use Rattle.gsl_check_law.proofs.Qualified.{Allowed, IsSaid}
 use Rattle.gsl_check_law.proofs.Tops.{IsTop, TopDone, block_top}
 use Rattle.gsl_check_law.proofs.Outer.{within_or, said_here}
 use Rattle.gsl_check_law.proofs.Blocked.{State, buffer_is, all_members}
+use Rattle.gsl_check_law.specs.Small.{IsCounted}
 
 -- ---- kinds
 
@@ -159,7 +160,7 @@ module _ (stage : Stage) (env : Env) (fine : IsEnv env) (top : IsTop stage env.s
         holds_then (TopDone stage env) (may_be_instance env instance) (λ _. may_be_block env q name instance made >>= (λ _. Ok (with_block made env)))
         (λ _. holds_after (λ _. MayBe) (TopDone stage env) (may_be_block env q name instance made) (λ _. Ok (with_block made env)) block_may
         (λ _ is.
-        let grown = block_grown env fine made (subst (AllByRecursion (λ (m : BlockMember). IsSound (length env.scene.structs) m.ty)) (sym members_made) (members_known members state.are)) in
+        let grown = block_grown env fine made (subst (AllByRecursion (λ (m : BlockMember). IsSound (length env.scene.structs) m.ty)) (sym members_made) (members_known members state.are)) (subst (AllByRecursion (λ (m : BlockMember). IsCounted m.ty)) (sym members_made) state.counted) in
         record { env = grown.0; grows = grown.1; top = block_top stage env fine top made grown.1 is.0 is.1 }))
 
   gathered : (lines : List Line) → IsTrue (lines_formed lines) → Holds Gathered (with_lines frame env lines [])

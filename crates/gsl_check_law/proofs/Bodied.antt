@@ -28,6 +28,7 @@ use Rattle.gsl_check_law.proofs.Longer.{Grows}
 use Rattle.gsl_check_law.proofs.Standing.{with_name}
 use Rattle.gsl_check_law.proofs.Declarators.{DidAll}
 use Rattle.gsl_check_law.proofs.Walked.{statements_are}
+use Rattle.gsl_check_law.specs.Small.{IsCounted}
 
 -- what names stand for hangs on the structs, the heads and the stage
 module _ (s t : Scene) (structs : length s.structs ≤ length t.structs) (prototypes : s.prototypes ≡ t.prototypes) (stage : s.stage ≡ t.stage) where
@@ -60,11 +61,16 @@ pub types_of_params : (structs : List StructType) (params : List Parameter) → 
 types_of_params structs [] all = tt
 types_of_params structs (p ∷ params) all = (all.0, types_of_params structs params all.1)
 
+counts_of_params : (params : List Parameter) → AllByRecursion (λ (p : Parameter). IsCounted p.ty) params → AllByRecursion (λ (p : Direction × Ty). IsCounted p.1) (typed_params params)
+counts_of_params [] all = tt
+counts_of_params (p ∷ params) all = (all.0, counts_of_params params all.1)
+
 -- what is known of a head behind which a body is checked
 pub record IsHeaded (h : Headed) : Type 0 where
   pub env : IsEnv h.env
   pub params : AllByRecursion (λ (p : Parameter). IsVariableType h.env.scene.structs p.ty) h.params
   pub result : IsResult h.env.scene.structs h.result
+  pub counted : AllByRecursion (λ (p : Parameter). IsCounted p.ty) h.params
 
 -- in the scope of the parameters all is sound
 pub entered_is : (h : Headed) → IsHeaded h → IsEnv (entered h)
@@ -84,6 +90,17 @@ entered_is h is =
         params = types_of_params before.structs h.params is.params;
         locals = tt;
         known = is.env.scene.known;
+      };
+      counted = record {
+        structs = is.env.counted.structs;
+        globals = is.env.counted.globals;
+        blocks = is.env.counted.blocks;
+        interfaces = is.env.counted.interfaces;
+        prototypes = is.env.counted.prototypes;
+        params = counts_of_params h.params is.counted;
+        locals = tt;
+        known_globals = is.env.counted.known_globals;
+        known_locals = tt;
       };
     }
 

@@ -56,20 +56,20 @@ use Rattle.gsl_check_law.proofs.Sounds.{type_sound}
 counted_at : (layer : Ty-F Ty) (t : Ty) → roll-Ty layer ≡ t → is_counted t ≡ is_counted (roll-Ty layer)
 counted_at layer t at = ap is_counted (sym at)
 
-void_counted : IsCounted ty.Void
+pub void_counted : IsCounted ty.Void
 void_counted = ap is_counted (sym rolls-Void) ∙ fold-roll-Ty Bool counted_layer Ty-F.Void
 
-one_counted : (s : Scalar) → IsCounted (ty.One s)
+pub one_counted : (s : Scalar) → IsCounted (ty.One s)
 one_counted s = ap is_counted (sym (rolls-One s)) ∙ fold-roll-Ty Bool counted_layer (Ty-F.One s)
 
-vector_counted : (s : Scalar) (n : ℕ) → IsCounted (ty.Vector s n)
+pub vector_counted : (s : Scalar) (n : ℕ) → IsCounted (ty.Vector s n)
 vector_counted s n = ap is_counted (sym (rolls-Vector s n)) ∙ fold-roll-Ty Bool counted_layer (Ty-F.Vector s n)
 
 by_one : (b : Bool) (s : Scalar) (n : ℕ) → IsCounted (if b then ty.One s else ty.Vector s n)
 by_one Bool.true s n = one_counted s
 by_one Bool.false s n = vector_counted s n
 
-shape_counted : (x : Shape) → IsCounted (of_shape x)
+pub shape_counted : (x : Shape) → IsCounted (of_shape x)
 shape_counted x = by_one _ x.0 x.1
 
 element_by : (layer : Ty-F Ty) (t : Ty) → element_kind layer ≡ Some t → IsCounted (roll-Ty layer) → IsCounted t

@@ -33,7 +33,7 @@ use Rattle.gsl_check_heads.specs.Heads.{Headed, named_if, params_named, typed_pa
 use Rattle.gsl_check.specs.Functions.{nowhere, bodied, with_body, function}
 use Rattle.gsl_check.proofs.Keeping.{Keeps, declared_count}
 use Rattle.gsl_check.proofs.Bodies.{statements_keep}
-use Rattle.gsl_check_law.specs.Formed.{is_name, stmt_formed, body_formed, IsFormedStmt}
+use Rattle.gsl_check_law.specs.Formed.{is_name, stmt_formed, body_formed, IsFormedStmt, head_formed}
 use Rattle.gsl_check_law.specs.Labels.{IsStepBut}
 use Rattle.gsl_check_law.specs.Scenes.{IsScene, IsEnv, IsHead, HasVariables}
 use Rattle.gsl_check_law.proofs.Found.{all_map, all_append}
@@ -206,7 +206,17 @@ module _ (stage : Stage) (h : Headed) (is : IsHeaded h) (top : IsTop stage h.env
 
     left_is : IsEnv (left h.env done.1)
     unfolding left
-    left_is = record { names = names_grow outer behind outer_grows h.env.names is.env.names; scene = behind_is }
+    left_is = record { names = names_grow outer behind outer_grows h.env.names is.env.names; scene = behind_is; counted = record {
+      structs = did.env.counted.structs;
+      globals = is.env.counted.globals;
+      blocks = is.env.counted.blocks;
+      interfaces = is.env.counted.interfaces;
+      prototypes = is.env.counted.prototypes;
+      params = is.env.counted.params;
+      locals = is.env.counted.locals;
+      known_globals = is.env.counted.known_globals;
+      known_locals = is.env.counted.known_locals;
+    } }
 
     pub left_top : TopDone stage h.env (left h.env done.1)
     unfolding left
@@ -252,9 +262,9 @@ module _ (stage : Stage) (env : Env) (fine : IsEnv env) (top : IsTop stage env.s
       let whole = top_then stage env h.env made.1 done.done is.0 in
       record { top = whole; functions = all_append (FunctionFits made.1.scene) functions (made.0 ∷ []) (functions_grow env.scene made.1.scene fine.scene whole.grows functions all) (is.1, tt) })
 
-  pub function_top : (f : FunctionTree) → IsTrue (is_name f.name.text && body_formed f.body) → Holds (FunctionsDone stage env) (function f functions env)
+  pub function_top : (f : FunctionTree) → IsTrue (head_formed f && body_formed f.body) → Holds (FunctionsDone stage env) (function f functions env)
   unfolding function
   function_top f formed =
-      let parts = and_parts (is_name f.name.text) (body_formed f.body) formed in
+      let parts = and_parts (head_formed f) (body_formed f.body) formed in
       holds_after (HeadDone stage env) (FunctionsDone stage env) (header env functions f) (λ h. with_body h functions f.name f.body) (header_done stage env fine top functions f parts.0)
       (λ h done. with_body_top h done f.name f.body parts.1)

@@ -1,6 +1,6 @@
 -- Heads of functions that are declared are as a unit's must be, and are those of their functions.
 use Rattle.std.proofs.Common.{◌≡◌, refl, sym, ap, ◌∙◌, subst, ℕ, ◌+◌, ◌≤◌, inl, inr, List, [], ◌∷◌, ◌++◌, map, length, slice_get, Option, Some, None, unwrap_or, Bool, true, false, not, ◌&&◌, ◌||◌, IsTrue, nat_le, Ok, arith, if◌then◌else◌, zero-add, suc}
-use Rattle.std.specs.List.{AllByRecursion}
+use Rattle.std.specs.List.{AllByRecursion, list_all}
 use Rattle.std.specs.Str.{bytes_eq}
 use Rattle.std.proofs.lemmas.Bool.{and_parts, leb-true}
 use Rattle.std.proofs.lemmas.Option.{none-some}
@@ -35,17 +35,19 @@ use Rattle.gsl_qualifiers.specs.Qualifiers.{qualified}
 use Rattle.gsl_check_heads.specs.declared.parameter.Parameter.{Parameter}
 use Rattle.gsl_check_heads.specs.Builtins.{names_function}
 use Rattle.gsl_check_heads.specs.Heads.{said, has_param, may_be_unnamed, may_be_param, param_with, named_as, param, params_from, params_in, typed_params, same_types, same_direction, same_directions, is_of, number_from, head_number, disagrees_by, head_at, disagrees, has_body_of, is_block, is_other_main, is_other, is_no_result, most_params, may_be_head, headed_by, headed, Headed, with_number, declared_head, header}
-use Rattle.gsl_check_law.specs.Formed.{is_name}
+use Rattle.gsl_check_law.specs.Formed.{is_name, params_formed, param_formed, head_formed, spec_formed, dims_formed}
 use Rattle.gsl_check_law.specs.Scenes.{IsEnv}
 use Rattle.gsl_check_law.proofs.Rows.{row, not_false, neither, both}
 use Rattle.gsl_check_law.proofs.Names.{name_is}
 use Rattle.gsl_check_law.proofs.Found.{all_append}
 use Rattle.gsl_check_law.proofs.Declarators.{found_last}
-use Rattle.gsl_check_law.proofs.Declaring.{variable_is}
+use Rattle.gsl_check_law.proofs.Declaring.{variable_is, written_good, IsGood, whole_good, declared_good}
 use Rattle.gsl_check_law.proofs.Topmost.{head_grown}
 use Rattle.gsl_check_law.proofs.Bodied.{IsHeaded, types_of_params}
 use Rattle.gsl_check_law.proofs.Tops.{IsTop, TopDone, head_top}
 use Rattle.gsl_check_law.proofs.Outer.{top_itself}
+use Rattle.gsl_check_law.specs.Small.{IsCounted}
+use Rattle.gsl_check_law.proofs.Lists.{GoodAt}
 
 -- ---- one head twice
 
@@ -87,10 +89,13 @@ number_is from n name params (p ∷ prototypes) at = by_test (number_is (from + 
 
 module _ (env : Env) (fine : IsEnv env) where
   abbrev Variables : List Parameter → Type 0
-  Variables params = AllByRecursion (λ (p : Parameter). IsVariableType env.scene.structs p.ty) params
+  Variables params = AllByRecursion (λ (p : Parameter). IsVariableType env.scene.structs p.ty × IsCounted p.ty) params
 
   abbrev IsParam : Parameter → Type 0
-  IsParam p = IsVariableType env.scene.structs p.ty
+  IsParam p = IsVariableType env.scene.structs p.ty × IsCounted p.ty
+
+  abbrev count : ℕ
+  count = length env.scene.structs
 
   unnamed_may : (place : Place) (t : Ty) → Holds (λ _. IsVariableType env.scene.structs t) (may_be_unnamed env place t)
   unfolding may_be_unnamed
@@ -110,29 +115,31 @@ module _ (env : Env) (fine : IsEnv env) where
       (λ _. row P name.place E0510 (not (may_be_had env.scene t)) high (Ok tt)
       (λ had. row P name.place E0908 (is_high env.scene t) [] (Ok tt) (λ low. variable_is env fine t had low))))
 
-  param_is : (params : List Parameter) (one : Param) → Holds IsParam (param env params one)
+  param_is : (params : List Parameter) (one : Param) → IsTrue (param_formed one) → Holds IsParam (param env params one)
   unfolding param
-  param_is params (param_of.Unnamed quals t) =
+  param_is params (param_of.Unnamed quals t) formed =
       holds_then IsParam (said env quals) (λ q. written_type env t >>= (λ base. whole_type base >>= (λ whole. may_be_unnamed env (callee env t).place whole >>= (λ _. Ok (param_with None q whole)))))
-      (λ q. holds_then IsParam (written_type env t) (λ base. whole_type base >>= (λ whole. may_be_unnamed env (callee env t).place whole >>= (λ _. Ok (param_with None q whole))))
-      (λ base. holds_then IsParam (whole_type base) (λ whole. may_be_unnamed env (callee env t).place whole >>= (λ _. Ok (param_with None q whole)))
-      (λ whole. holds_after (λ _. IsVariableType env.scene.structs whole) IsParam (may_be_unnamed env (callee env t).place whole) (λ _. Ok (param_with None q whole)) (unnamed_may (callee env t).place whole) (λ _ is. is))))
-  param_is params (param_of.Named quals t name dims) =
+      (λ q. holds_after (GoodAt count) IsParam (written_type env t) (λ base. whole_type base >>= (λ whole. may_be_unnamed env (callee env t).place whole >>= (λ _. Ok (param_with None q whole)))) (written_good env fine t formed)
+      (λ base good. holds_after (IsGood count) IsParam (whole_type base) (λ whole. may_be_unnamed env (callee env t).place whole >>= (λ _. Ok (param_with None q whole))) (whole_good count base good)
+      (λ whole fits. holds_after (λ _. IsVariableType env.scene.structs whole) IsParam (may_be_unnamed env (callee env t).place whole) (λ _. Ok (param_with None q whole)) (unnamed_may (callee env t).place whole) (λ _ is. (is, fits.1)))))
+  param_is params (param_of.Named quals t name dims) formed =
+      let parts = and_parts (spec_formed t) (dims_formed dims) formed in
       holds_then IsParam (said env quals) (λ q. written_type env t >>= (λ base. declared (map (bracket env) dims) base >>= (λ w. whole_type w >>= (λ whole. named_as env params name q whole))))
-      (λ q. holds_then IsParam (written_type env t) (λ base. declared (map (bracket env) dims) base >>= (λ w. whole_type w >>= (λ whole. named_as env params name q whole)))
-      (λ base. holds_then IsParam (declared (map (bracket env) dims) base) (λ w. whole_type w >>= (λ whole. named_as env params name q whole))
-      (λ w. holds_then IsParam (whole_type w) (λ whole. named_as env params name q whole)
-      (λ whole. holds_after (λ _. IsVariableType env.scene.structs whole) IsParam (may_be_param env params name whole) (λ _. Ok (param_with (Some name.text) q whole)) (param_may params name whole) (λ _ is. is)))))
+      (λ q. holds_after (GoodAt count) IsParam (written_type env t) (λ base. declared (map (bracket env) dims) base >>= (λ w. whole_type w >>= (λ whole. named_as env params name q whole))) (written_good env fine t parts.0)
+      (λ base good. holds_after (GoodAt count) IsParam (declared (map (bracket env) dims) base) (λ w. whole_type w >>= (λ whole. named_as env params name q whole)) (declared_good env fine dims base parts.1 good)
+      (λ w is. holds_after (IsGood count) IsParam (whole_type w) (λ whole. named_as env params name q whole) (whole_good count w is)
+      (λ whole fits. holds_after (λ _. IsVariableType env.scene.structs whole) IsParam (may_be_param env params name whole) (λ _. Ok (param_with (Some name.text) q whole)) (param_may params name whole) (λ _ has. (has, fits.1))))))
 
-  params_from_are : (items : List Param) (params : List Parameter) → Variables params → Holds Variables (params_from env items params)
-  params_from_are [] params all = all
-  params_from_are (one ∷ more) params all =
-      holds_after IsParam Variables (param env params one) (λ next. params_from env more (params ++ next ∷ [])) (param_is params one)
-      (λ next is. params_from_are more (params ++ next ∷ []) (all_append IsParam params (next ∷ []) all (is, tt)))
+  params_from_are : (items : List Param) (params : List Parameter) → IsTrue (list_all param_formed items) → Variables params → Holds Variables (params_from env items params)
+  params_from_are [] params formed all = all
+  params_from_are (one ∷ more) params formed all =
+      let parts = and_parts (param_formed one) (list_all param_formed more) formed in
+      holds_after IsParam Variables (param env params one) (λ next. params_from env more (params ++ next ∷ [])) (param_is params one parts.0)
+      (λ next is. params_from_are more (params ++ next ∷ []) parts.1 (all_append IsParam params (next ∷ []) all (is, tt)))
 
-  params_in_are : (params : Params) → Holds Variables (params_in env params)
-  params_in_are (params_of.Items items) = params_from_are items [] tt
-  params_in_are (params_of.Void place) = tt
+  params_in_are : (params : Params) → IsTrue (params_formed params) → Holds Variables (params_in env params)
+  params_in_are (params_of.Items items) formed = params_from_are items [] formed tt
+  params_in_are (params_of.Void place) formed = tt
 
 -- ---- heads
 
@@ -148,8 +155,8 @@ pub record HeadDone (stage : Stage) (before : Env) (h : Headed) : Type 0 where
   pub headed : IsHeaded h
   pub head : HeadIs h
 
-module _ (stage : Stage) (env : Env) (fine : IsEnv env) (top : IsTop stage env.scene) (name : Name) (named : IsTrue (is_name name.text)) (result : Ty) (params : List Parameter)
-    (all : AllByRecursion (λ (p : Parameter). IsVariableType env.scene.structs p.ty) params) where
+module _ (stage : Stage) (env : Env) (fine : IsEnv env) (top : IsTop stage env.scene) (name : Name) (named : IsTrue (is_name name.text)) (result : Ty) (count_is : IsCounted result) (params : List Parameter)
+    (all : AllByRecursion (λ (p : Parameter). IsVariableType env.scene.structs p.ty) params) (counts : AllByRecursion (λ (p : Parameter). IsCounted p.ty) params) where
   abbrev types : List (Direction × Ty)
   types = typed_params params
 
@@ -214,11 +221,11 @@ module _ (stage : Stage) (env : Env) (fine : IsEnv env) (top : IsTop stage env.s
   unfolding head_number disagrees
   by_number None at may =
       let fits : IsPrototype env.scene.structs made = record { name = name_is name.text named; result = may.1; params = types_of_params env.scene.structs params all; count = may.2 } in
-      let grown = head_grown env fine made (fits.result, fits.params) in
+      let grown = head_grown env fine made (fits.result, fits.params) count_is in
       let after = with_head made env in
       record {
         done = record { env = grown.0; grows = grown.1; top = head_top stage env fine top made grown.1 fits };
-        headed = record { env = grown.0; params = kept_params all; result = kept_result may.1 };
+        headed = record { env = grown.0; params = kept_params all; result = kept_result may.1; counted = counts };
         head = record { prototype = made; there = new_head made; params = refl; result = refl };
       }
   by_number (Some n) at may =
@@ -229,7 +236,7 @@ module _ (stage : Stage) (env : Env) (fine : IsEnv env) (top : IsTop stage env.s
       let agree = agreed (slice_get env.scene.prototypes n) p here (ap (λ (o : Option ℕ). disagrees_by result types (head_at env.scene.prototypes o)) (sym at) ∙ may.0) in
       record {
         done = top_itself stage env fine top;
-        headed = record { env = fine; params = all; result = may.1 };
+        headed = record { env = fine; params = all; result = may.1; counted = counts };
         head = record { prototype = p; there = here; params = params_are p.params types named_so.1 agree.1; result = same_is p.result result agree.0 };
       }
 
@@ -239,12 +246,20 @@ module _ (stage : Stage) (env : Env) (fine : IsEnv env) (top : IsTop stage env.s
       holds_after (λ _. MayBe) (HeadDone stage env) (may_be_head env functions defined name result types) (λ _. Ok (given (headed made env))) (head_may functions defined)
       (λ _ may. by_number (head_number name.text types env.scene.prototypes) refl may)
 
+both_of : (env : Env) (params : List Parameter) → AllByRecursion (λ (p : Parameter). IsVariableType env.scene.structs p.ty × IsCounted p.ty) params
+    → AllByRecursion (λ (p : Parameter). IsVariableType env.scene.structs p.ty) params × AllByRecursion (λ (p : Parameter). IsCounted p.ty) params
+both_of env [] all = (tt, tt)
+both_of env (p ∷ params) all = let rest = both_of env params all.1 in ((all.0.0, rest.0), (all.0.1, rest.1))
+
 -- a head that is declared is as it must be
-pub header_done : (stage : Stage) (env : Env) → IsEnv env → IsTop stage env.scene → (functions : List Function) (f : FunctionTree) → IsTrue (is_name f.name.text) → Holds (HeadDone stage env) (header env functions f)
+pub header_done : (stage : Stage) (env : Env) → IsEnv env → IsTop stage env.scene → (functions : List Function) (f : FunctionTree) → IsTrue (head_formed f) → Holds (HeadDone stage env) (header env functions f)
 unfolding header
-header_done stage env fine top functions f named =
+header_done stage env fine top functions f formed =
+    let count = length env.scene.structs in
+    let first = and_parts (is_name f.name.text) (spec_formed f.ty && params_formed f.params) formed in
+    let types = and_parts (spec_formed f.ty) (params_formed f.params) first.1 in
     holds_then (HeadDone stage env) (qualified env Nothing f.quals) (λ q. written_type env f.ty >>= (λ base. whole_type base >>= (λ result. params_in env f.params >>= (λ params. declared_head env functions (is_block f.body) f.name result params))))
-    (λ q. holds_then (HeadDone stage env) (written_type env f.ty) (λ base. whole_type base >>= (λ result. params_in env f.params >>= (λ params. declared_head env functions (is_block f.body) f.name result params)))
-    (λ base. holds_then (HeadDone stage env) (whole_type base) (λ result. params_in env f.params >>= (λ params. declared_head env functions (is_block f.body) f.name result params))
-    (λ result. holds_after (Variables env fine) (HeadDone stage env) (params_in env f.params) (λ params. declared_head env functions (is_block f.body) f.name result params) (params_in_are env fine f.params)
-    (λ params all. head_done stage env fine top f.name named result params all functions (is_block f.body)))))
+    (λ q. holds_after (GoodAt count) (HeadDone stage env) (written_type env f.ty) (λ base. whole_type base >>= (λ result. params_in env f.params >>= (λ params. declared_head env functions (is_block f.body) f.name result params))) (written_good env fine f.ty types.0)
+    (λ base good. holds_after (IsGood count) (HeadDone stage env) (whole_type base) (λ result. params_in env f.params >>= (λ params. declared_head env functions (is_block f.body) f.name result params)) (whole_good count base good)
+    (λ result fits. holds_after (Variables env fine) (HeadDone stage env) (params_in env f.params) (λ params. declared_head env functions (is_block f.body) f.name result params) (params_in_are env fine f.params types.1)
+    (λ params all. let both = both_of env params all in head_done stage env fine top f.name first.0 result fits.1 params both.0 both.1 functions (is_block f.body)))))

@@ -19,7 +19,7 @@ use Rattle.gsl_types.specs.declared.ty.Member.{Member}
 use Rattle.gsl_types.specs.declared.ty.Ty.{Ty}
 use Rattle.gsl_types.specs.declared.ty.Ty.TheVariants as ty
 use Rattle.gsl_types.proofs.Layers.{sound_struct}
-use Rattle.gsl_tree.specs.Shapes.{Shape, shape_of, is_integer}
+use Rattle.gsl_tree.specs.Shapes.{Shape, shape_of, is_integer, is_count}
 use Rattle.gsl_tree.specs.declared.unit.Interface.{Interface}
 use Rattle.gsl_tree.specs.WellTyped.{IsInterface, is_flat_right}
 use Rattle.gsl_typing.specs.declared.scene.Part.{Part}
@@ -43,18 +43,19 @@ use Rattle.gsl_qualifiers.specs.declared.qualified.Qualified.{Qualified}
 use Rattle.gsl_qualifiers.specs.Qualifiers.{may_be_flat, qualified}
 use Rattle.gsl_check_globals.specs.Variables.{Declares, all_declared, declarator, plain_by, begun_by, plain_variable, begun_variable, interface, begun_interface, may_be_interface, is_no_interface, is_integer_type, lacks_flat, is_compute}
 use Rattle.gsl_check_globals.specs.Globals.{variables, struct_and_variables}
-use Rattle.gsl_check_law.specs.Formed.{is_name, init_formed, struct_formed, declarator_formed, declarators_formed}
+use Rattle.gsl_check_law.specs.Formed.{is_name, init_formed, struct_formed, declarator_formed, declarators_formed, dims_formed, spec_formed}
 use Rattle.gsl_check_law.specs.Parts.{IsTaken}
 use Rattle.gsl_check_law.specs.Scenes.{IsEnv}
 use Rattle.gsl_check_law.proofs.Rows.{row, so, not_false, neither}
 use Rattle.gsl_check_law.proofs.Names.{name_is}
 use Rattle.gsl_check_law.proofs.Lists.{GoodAt, initial_typed}
 use Rattle.gsl_check_law.proofs.Longer.{Grows, grows_itself, grows_then}
-use Rattle.gsl_check_law.proofs.Declaring.{at_more, written_good, declared_good, structured_is, StructDone}
+use Rattle.gsl_check_law.proofs.Declaring.{at_more, written_good, declared_good, structured_is, StructDone, struct_counted, IsGood, whole_good}
 use Rattle.gsl_check_law.proofs.Topmost.{interface_grown}
 use Rattle.gsl_check_law.proofs.Globally.{GlobalDone, plain_done, begun_done}
 use Rattle.gsl_check_law.proofs.Qualified.{Allowed, IsWithin, IsSaid, qualified_said}
 use Rattle.gsl_check_law.proofs.Tops.{IsTop, TopDone, global_top, interface_top, structs_top}
+use Rattle.gsl_check_law.specs.Small.{IsCounted}
 
 -- what is refused in the end gives nothing
 pub never_given : {A : Type 0} (P : A → Type 0) (place : Place) (rows : List Row) (code : Code) → Holds P (unless place rows (fault place code))
@@ -109,9 +110,9 @@ module _ (stage : Stage) (env : Env) (fine : IsEnv env) (top : IsTop stage env.s
         flat = flat_right stage output q.flat more.0 parts.1 said.0;
       }
 
-  interface_done : (output : Bool) (q : Qualified) (name : Name) (t : Ty) → IsSaid stage (role_for output) q → IsTrue (is_name name.text) → Holds (TopDone stage env) (interface output q name t env)
+  interface_done : (output : Bool) (q : Qualified) (name : Name) (t : Ty) → IsSaid stage (role_for output) q → IsTrue (is_name name.text) → IsCounted t → Holds (TopDone stage env) (interface output q name t env)
   unfolding interface may_be_interface
-  interface_done output q name t said formed =
+  interface_done output q name t said formed count_is =
       let P = λ (_ : Unit {0}). IsInterface stage env.scene.structs (made output q name t) in
       let node : Checked (Unit {0}) = Ok tt in
       let last = (E0706, is_none q.location) ∷ [] in
@@ -126,7 +127,7 @@ module _ (stage : Stage) (env : Env) (fine : IsEnv env) (top : IsTop stage env.s
       (λ right. row P name.place E0706 (is_none q.location) [] node
       (λ _. fits output q name t said formed had right))))))
       (λ _ is.
-      let grown = interface_grown env fine (made output q name t) is.known in
+      let grown = interface_grown env fine (made output q name t) is.known count_is in
       record { env = grown.0; grows = grown.1; top = interface_top stage env fine top (made output q name t) grown.1 is })
 
   begun_refused : (output : Bool) (q : Qualified) (name : Name) (w : Written) (x : Part) → Holds (TopDone stage env) (begun_interface output q name w x env)
@@ -144,33 +145,33 @@ module _ (stage : Stage) (env : Env) (fine : IsEnv env) (top : IsTop stage env.s
     top = subst (λ (e : Env). IsTop stage e.scene) (sym is.is) (global_top stage env fine top is.g is.folded (subst (λ (e : Env). Grows env.scene e.scene) is.is is.grows) is.name is.type is.begins);
   }
 
-  plain_top : (fixed : Bool) (name : Name) (t : Ty) → IsTrue (is_name name.text) → Holds (TopDone stage env) (plain_variable fixed name t env)
-  plain_top fixed name t formed = so (GlobalDone env) (TopDone stage env) (plain_variable fixed name t env) (plain_done env fine fixed name t formed) global_done
+  plain_top : (fixed : Bool) (name : Name) (t : Ty) → IsTrue (is_name name.text) → IsCounted t → Holds (TopDone stage env) (plain_variable fixed name t env)
+  plain_top fixed name t formed count_is = so (GlobalDone env) (TopDone stage env) (plain_variable fixed name t env) (plain_done env fine fixed name t formed count_is) global_done
 
-  begun_top : (fixed : Bool) (name : Name) (w : Written) (x : Part) → IsTrue (is_name name.text) → IsTaken env.scene x → Holds (TopDone stage env) (begun_variable fixed name w x env)
-  begun_top fixed name w x formed taken = so (GlobalDone env) (TopDone stage env) (begun_variable fixed name w x env) (begun_done env fine fixed name w x formed taken) global_done
+  begun_top : (fixed : Bool) (name : Name) (w : Written) (x : Part) → IsTrue (is_name name.text) → GoodAt (length env.scene.structs) w → IsTaken env.scene x → Holds (TopDone stage env) (begun_variable fixed name w x env)
+  begun_top fixed name w x formed good taken = so (GlobalDone env) (TopDone stage env) (begun_variable fixed name w x env) (begun_done env fine fixed name w x formed good taken) global_done
 
-  plain_by_top : (role : Role) (q : Qualified) (name : Name) (t : Ty) → IsSaid stage role q → IsTrue (is_name name.text) → Holds (TopDone stage env) (plain_by role q name t env)
-  plain_by_top Variable q name t said formed = plain_top q.fixed name t formed
-  plain_by_top Input q name t said formed = interface_done false q name t said formed
-  plain_by_top Output q name t said formed = interface_done true q name t said formed
-  plain_by_top Uniform q name t said formed = plain_top q.fixed name t formed
-  plain_by_top Buffer q name t said formed = plain_top q.fixed name t formed
-  plain_by_top Push q name t said formed = plain_top q.fixed name t formed
-  plain_by_top (MemberRole in_buffer) q name t said formed = plain_top q.fixed name t formed
-  plain_by_top Size q name t said formed = plain_top q.fixed name t formed
-  plain_by_top Nothing q name t said formed = plain_top q.fixed name t formed
+  plain_by_top : (role : Role) (q : Qualified) (name : Name) (t : Ty) → IsSaid stage role q → IsTrue (is_name name.text) → IsCounted t → Holds (TopDone stage env) (plain_by role q name t env)
+  plain_by_top Variable q name t said formed count_is = plain_top q.fixed name t formed count_is
+  plain_by_top Input q name t said formed count_is = interface_done false q name t said formed count_is
+  plain_by_top Output q name t said formed count_is = interface_done true q name t said formed count_is
+  plain_by_top Uniform q name t said formed count_is = plain_top q.fixed name t formed count_is
+  plain_by_top Buffer q name t said formed count_is = plain_top q.fixed name t formed count_is
+  plain_by_top Push q name t said formed count_is = plain_top q.fixed name t formed count_is
+  plain_by_top (MemberRole in_buffer) q name t said formed count_is = plain_top q.fixed name t formed count_is
+  plain_by_top Size q name t said formed count_is = plain_top q.fixed name t formed count_is
+  plain_by_top Nothing q name t said formed count_is = plain_top q.fixed name t formed count_is
 
-  begun_by_top : (role : Role) (q : Qualified) (name : Name) (w : Written) (x : Part) → IsTrue (is_name name.text) → IsTaken env.scene x → Holds (TopDone stage env) (begun_by role q name w x env)
-  begun_by_top Variable q name w x formed taken = begun_top q.fixed name w x formed taken
-  begun_by_top Input q name w x formed taken = begun_refused false q name w x
-  begun_by_top Output q name w x formed taken = begun_refused true q name w x
-  begun_by_top Uniform q name w x formed taken = begun_top q.fixed name w x formed taken
-  begun_by_top Buffer q name w x formed taken = begun_top q.fixed name w x formed taken
-  begun_by_top Push q name w x formed taken = begun_top q.fixed name w x formed taken
-  begun_by_top (MemberRole in_buffer) q name w x formed taken = begun_top q.fixed name w x formed taken
-  begun_by_top Size q name w x formed taken = begun_top q.fixed name w x formed taken
-  begun_by_top Nothing q name w x formed taken = begun_top q.fixed name w x formed taken
+  begun_by_top : (role : Role) (q : Qualified) (name : Name) (w : Written) (x : Part) → IsTrue (is_name name.text) → GoodAt (length env.scene.structs) w → IsTaken env.scene x → Holds (TopDone stage env) (begun_by role q name w x env)
+  begun_by_top Variable q name w x formed good taken = begun_top q.fixed name w x formed good taken
+  begun_by_top Input q name w x formed good taken = begun_refused false q name w x
+  begun_by_top Output q name w x formed good taken = begun_refused true q name w x
+  begun_by_top Uniform q name w x formed good taken = begun_top q.fixed name w x formed good taken
+  begun_by_top Buffer q name w x formed good taken = begun_top q.fixed name w x formed good taken
+  begun_by_top Push q name w x formed good taken = begun_top q.fixed name w x formed good taken
+  begun_by_top (MemberRole in_buffer) q name w x formed good taken = begun_top q.fixed name w x formed good taken
+  begun_by_top Size q name w x formed good taken = begun_top q.fixed name w x formed good taken
+  begun_by_top Nothing q name w x formed good taken = begun_top q.fixed name w x formed good taken
 
 -- ---- one after the other
 
@@ -196,14 +197,17 @@ module _ (stage : Stage) (few : ℕ) where
     declarator_top : (d : Declarator) → IsTrue (declarator_formed d) → Does (declarator role q base d)
     unfolding declarator
     declarator_top (declarator_of.Plain name dims) formed env fine top le =
-        holds_then (TopDone stage env) (declared (map (bracket env) dims) base) (λ t. whole_type t >>= (λ whole. plain_by role q name whole env))
-        (λ t. holds_then (TopDone stage env) (whole_type t) (λ whole. plain_by role q name whole env) (λ whole. plain_by_top stage env fine top role q name whole said formed))
+        let parts = and_parts (is_name name.text) (dims_formed dims) formed in
+        let count = length env.scene.structs in
+        holds_after (GoodAt count) (TopDone stage env) (declared (map (bracket env) dims) base) (λ t. whole_type t >>= (λ whole. plain_by role q name whole env)) (declared_good env fine dims base parts.1 (at_more few count base le good))
+        (λ t is. holds_after (IsGood count) (TopDone stage env) (whole_type t) (λ whole. plain_by role q name whole env) (whole_good count t is) (λ whole fits. plain_by_top stage env fine top role q name whole said parts.0 fits.1))
     declarator_top (declarator_of.Initialised name dims init) formed env fine top le =
-        let parts = and_parts (is_name name.text) (init_formed init) formed in
+        let first = and_parts (is_name name.text) (dims_formed dims && init_formed init) formed in
+        let parts = and_parts (dims_formed dims) (init_formed init) first.1 in
         holds_after (GoodAt (length env.scene.structs)) (TopDone stage env) (declared (map (bracket env) dims) base) (λ t. initial env t init >>= (λ x. begun_by role q name t x env))
-        (declared_good env fine dims base (at_more few (length env.scene.structs) base le good))
+        (declared_good env fine dims base parts.0 (at_more few (length env.scene.structs) base le good))
         (λ t is. holds_after (IsTaken env.scene) (TopDone stage env) (initial env t init) (λ x. begun_by role q name t x env) (initial_typed env fine t init is parts.1)
-        (λ x taken. begun_by_top stage env fine top role q name t x parts.0 taken))
+        (λ x taken. begun_by_top stage env fine top role q name t x first.0 is taken))
 
     declarators_top : (all : List Declarator) → IsTrue (declarators_formed all) → AllByRecursion Does (map (declarator role q base) all)
     declarators_top [] formed = tt
@@ -218,12 +222,13 @@ module _ (stage : Stage) (env : Env) (fine : IsEnv env) (top : IsTop stage env.s
   pub said_here : (role : Role) (quals : List Qual) → Holds (IsSaid stage role) (qualified env role quals)
   said_here role quals = subst (λ (s : Stage). Holds (IsSaid s role) (qualified env role quals)) top.of_stage (qualified_said env role quals)
 
-  pub variables_top : (role : Role) (quals : List Qual) (t : TypeSpec) (all : List Declarator) → IsTrue (declarators_formed all) → Holds (TopDone stage env) (variables role quals t all env)
+  pub variables_top : (role : Role) (quals : List Qual) (t : TypeSpec) (all : List Declarator) → IsTrue (spec_formed t && declarators_formed all) → Holds (TopDone stage env) (variables role quals t all env)
   unfolding variables
   variables_top role quals t all formed =
+      let parts = and_parts (spec_formed t) (declarators_formed all) formed in
       holds_after (IsSaid stage role) (TopDone stage env) (qualified env role quals) (λ q. written_type env t >>= (λ base. all_declared (map (declarator role q base) all) env)) (said_here role quals)
-      (λ q said. holds_after (GoodAt here) (TopDone stage env) (written_type env t) (λ base. all_declared (map (declarator role q base) all) env) (written_good env fine t)
-      (λ base good. steps_top stage here (map (declarator role q base) all) (declarators_top stage here role q said base good all formed) env fine top (omega arith)))
+      (λ q said. holds_after (GoodAt here) (TopDone stage env) (written_type env t) (λ base. all_declared (map (declarator role q base) all) env) (written_good env fine t parts.0)
+      (λ base good. steps_top stage here (map (declarator role q base) all) (declarators_top stage here role q said base good all parts.1) env fine top (omega arith)))
 
   abbrev OnlyStructs : ℕ × Env → Type 0
   OnlyStructs done = done.1.scene ≡ record env.scene { structs = done.1.scene.structs }
@@ -257,5 +262,5 @@ module _ (stage : Stage) (env : Env) (fine : IsEnv env) (top : IsTop stage env.s
       let behind = struct_done done is.0 is.1 in
       let known : IsSound few (ty.Struct done.0) = sound_struct few done.0 ∙ lt-ltb done.0 few is.0.1 in
       so (TopDone stage done.1) (TopDone stage env) (all_declared (map (declarator role q (Whole (ty.Struct done.0))) all) done.1)
-      (steps_top stage few (map (declarator role q (Whole (ty.Struct done.0))) all) (declarators_top stage few role q said (Whole (ty.Struct done.0)) known all parts.1) done.1 behind.env behind.top (omega arith))
+      (steps_top stage few (map (declarator role q (Whole (ty.Struct done.0))) all) (declarators_top stage few role q said (Whole (ty.Struct done.0)) (known, struct_counted done.0) all parts.1) done.1 behind.env behind.top (omega arith))
       (λ last more. top_then stage env done.1 last behind more)))

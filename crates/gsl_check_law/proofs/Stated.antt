@@ -54,7 +54,7 @@ use Rattle.gsl_check_law.proofs.Declarators.{Did, DidAll, Does, stmt_at, turns}
 -- ---- scopes
 
 pub opened_env : (env : Env) → IsEnv env → IsEnv (opened env)
-opened_env env fine = record { names = (tt, fine.names); scene = fine.scene }
+opened_env env fine = record { names = (tt, fine.names); scene = fine.scene; counted = fine.counted }
 
 outer_there : (s : Scene) (names : Scopes) → AllByRecursion (AreThere s) names → AllByRecursion (AreThere s) (outer names)
 outer_there s [] all = tt
@@ -65,7 +65,7 @@ ended_there s names true all = outer_there s names all
 ended_there s names false all = all
 
 pub closed_env : (env : Env) → IsEnv env → IsEnv (closed env)
-closed_env env fine = record { names = ended_there env.scene env.names (nat_lt 1 (length env.names)) fine.names; scene = fine.scene }
+closed_env env fine = record { names = ended_there env.scene env.names (nat_lt 1 (length env.names)) fine.names; scene = fine.scene; counted = fine.counted }
 
 -- ---- single expressions
 

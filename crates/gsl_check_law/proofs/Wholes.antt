@@ -105,6 +105,7 @@ begun_is stage = record {
   env = record {
     names = (tt, (all_append (λ (d : Declared). IsThere (first_scene stage) d.1) functions (variables stage) (functions_there stage) (variables_there stage), tt));
     scene = record { structs = tt; globals = tt; blocks = tt; interfaces = tt; prototypes = tt; sizes = tt; params = tt; locals = tt; known = refl };
+    counted = record { structs = tt; globals = tt; blocks = tt; interfaces = tt; prototypes = tt; params = tt; locals = tt; known_globals = tt; known_locals = tt };
   };
   top = record {
     of_stage = refl;

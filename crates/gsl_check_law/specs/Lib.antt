@@ -1,7 +1,7 @@
+pub mod Small
 pub mod Scenes
 pub mod Nested
 pub mod Formed
 pub mod Parts
 pub mod Labels
 pub mod Units
-pub mod Small
