@@ -4,7 +4,7 @@ use Rattle.std.specs.List.{AllByRecursion}
 use Rattle.std.proofs.lemmas.Bool.{and_parts}
 use Rattle.gsl_syntax.specs.declared.statement.Stmt.{Stmt as Syntax}
 use Rattle.gsl_syntax.specs.declared.statement.Stmt.TheOpen.{Stmt-F}
-use Rattle.gsl_syntax.specs.declared.statement.Stmt.TheViews.{roll-Stmt}
+use Rattle.gsl_syntax.specs.declared.statement.Stmt.TheViews.{roll-Stmt, roll-out-Stmt, out-Stmt as out-Syntax}
 use Rattle.gsl_syntax.specs.declared.statement.Stmt.TheFolds.{fold-roll-Stmt, ind-Stmt, map-Stmt}
 use Rattle.gsl_types.specs.declared.ty.Ty.{Ty}
 use Rattle.gsl_tree.specs.Around.{Around}
@@ -23,7 +23,7 @@ use Rattle.gsl_check_law.specs.Scenes.{IsEnv}
 use Rattle.gsl_check_law.proofs.Declarators.{DidAll, turns, declaration_typed}
 use Rattle.gsl_check_law.proofs.Stated.{HasResult, keeps_result, StepIs, Stands, empty_is, evaluated_is, broken_is, continued_is, discarded_is, returned_is, return_is, stray_is, default_is, block_is, branch_is, branches_is}
 use Rattle.gsl_check_law.proofs.Looped.{while_is, for_is, do_is}
-use Rattle.gsl_check_law.proofs.Switching.{switch_is}
+use Rattle.gsl_check_law.proofs.Switching.{LabelIs, switch_is}
 
 module _ (result : Ty) where
   abbrev AnswerIs : Answer → Type 0
@@ -46,17 +46,43 @@ module _ (result : Ty) where
   unfolding stmt_formed
   formed x is = sym (fold-roll-Stmt Bool stmt_formed_by x) ∙ is
 
+  label_by : (within : Within) (x : Stmt-F Syntax) → IsTrue (stmt_formed_by (map-Stmt Syntax Bool stmt_formed x)) → LabelIs result within (by_parts result (map-Stmt Syntax Answer (answer result) x)).label
+  label_by within (Stmt-F.Case place e) is = is
+  label_by within (Stmt-F.Empty place) is = tt
+  label_by within (Stmt-F.Block place all) is = tt
+  label_by within (Stmt-F.Decl d) is = tt
+  label_by within (Stmt-F.Expr e) is = tt
+  label_by within (Stmt-F.If place test body) is = tt
+  label_by within (Stmt-F.IfElse place test body other) is = tt
+  label_by within (Stmt-F.Switch place e all) is = tt
+  label_by within (Stmt-F.Default place) is = tt
+  label_by within (Stmt-F.While place test body) is = tt
+  label_by within (Stmt-F.Do place body test) is = tt
+  label_by within (Stmt-F.For place init test step body) is = tt
+  label_by within (Stmt-F.Break place) is = tt
+  label_by within (Stmt-F.Continue place) is = tt
+  label_by within (Stmt-F.Discard place) is = tt
+  label_by within (Stmt-F.Return place) is = tt
+  label_by within (Stmt-F.ReturnValue place e) is = tt
+
+  label_at : (within : Within) (x : Stmt-F Syntax) → IsFormedStmt (roll-Stmt x) → LabelIs result within (answer result (roll-Stmt x)).label
+  unfolding answer
+  label_at within x is = subst (λ (a : Answer). LabelIs result within a.label) (sym (fold-roll-Stmt Answer (by_parts result) x)) (label_by within x (formed x is))
+
+  label_is : (within : Within) (s : Syntax) → IsFormedStmt s → LabelIs result within (answer result s).label
+  label_is within s is = subst (λ (z : Syntax). LabelIs result within (answer result z).label) (roll-out-Stmt s) (label_at within (out-Syntax s) (subst IsFormedStmt (sym (roll-out-Stmt s)) is))
+
   rows : (within : Within) (children : List Child) → IsTrue (all_formed (map stmt_formed (map tree_of children))) → AllByRecursion (StepIs result (exits_of within)) (map (λ (a : Answer). a.step (in_row within)) (map (answer result) (map tree_of children)))
   rows within [] is = tt
   rows within (c ∷ children) is =
       let parts = and_parts (stmt_formed c.0) (all_formed (map stmt_formed (map tree_of children))) is in
       (c.1 parts.0 (in_row within), rows within children parts.1)
 
-  all_switched : (within : Within) (children : List Child) → IsTrue (all_formed (map stmt_formed (map tree_of children))) → AllByRecursion (λ (a : Answer). StepIs result (exits_of (in_switch within)) (a.step (in_switch within))) (map (answer result) (map tree_of children))
+  all_switched : (within : Within) (children : List Child) → IsTrue (all_formed (map stmt_formed (map tree_of children))) → AllByRecursion (λ (a : Answer). StepIs result (exits_of (in_switch within)) (a.step (in_switch within)) × LabelIs result within a.label) (map (answer result) (map tree_of children))
   all_switched within [] is = tt
   all_switched within (c ∷ children) is =
       let parts = and_parts (stmt_formed c.0) (all_formed (map stmt_formed (map tree_of children))) is in
-      (c.1 parts.0 (in_switch within), all_switched within children parts.1)
+      ((c.1 parts.0 (in_switch within), label_is within c.0 parts.0), all_switched within children parts.1)
 
   by_layer : (y : Stmt-F Child) → Sound (roll-Stmt (map-Stmt Child Syntax tree_of y))
   by_layer (Stmt-F.Empty place) is = opens (Stmt-F.Empty place) (λ within. empty_is result within)

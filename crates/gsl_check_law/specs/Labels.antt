@@ -16,9 +16,14 @@ use Rattle.gsl_tree.specs.Statements.{MayStand, labels_of, defaults_in, one_more
 abbrev pub exits_of : Within → Exits
 exits_of within = record { breaks = within.breaks; continues = within.continues }
 
+-- numbers that are words
+abbrev pub AreWords : List ℕ → Type 0
+AreWords words = AllByRecursion (λ word. word < 2 ^ 32) words
+
 -- an arm begins with a label, and has a statement behind its labels
 pub record IsArmBut (arm : Arm) : Type 0 where
   pub labelled : 0 < one_more (out-Arm arm).is_default (length (out-Arm arm).labels)
+  pub words : AreWords (out-Arm arm).labels
   pub filled : 0 < length (out-Arm arm).body
 
 -- the labels of a `switch` differ, and at most one is `default`
@@ -51,9 +56,6 @@ abbrev pub IsStmtBut : Around → Ty → Exits → Stmt → Type 0
 IsStmtBut around result exits s = Along (IsStepBut around result) exits s
 
 -- ---- the labels
-
-abbrev pub AreWords : List ℕ → Type 0
-AreWords words = AllByRecursion (λ word. word < 2 ^ 32) words
 
 abbrev pub ArmsHaveWords : Stmt-F Stmt Arm → Type 0
 ArmsHaveWords (Stmt-F.Switch selector arms) = AllByRecursion (λ (arm : Arm). AreWords (out-Arm arm).labels) arms
