@@ -31,7 +31,7 @@ use Rattle.gsl_check_expr.specs.declared.writing.Written.TheVariants.{Whole, Ope
 use Rattle.gsl_check_expr.specs.Expressions.{bracket}
 use Rattle.gsl_check_expr.specs.Written.{written_type, declared}
 use Rattle.gsl_check_decl.specs.Declaring.{is_reserved, may_be_had, is_high}
-use Rattle.gsl_check_decl.proofs.Gathering.{Holds, holds_after, holds_then}
+use Rattle.gsl_check_decl.proofs.Gathering.{Holds, holds_after}
 use Rattle.gsl_qualifiers.specs.declared.qualified.Role.TheVariants.{Member}
 use Rattle.gsl_qualifiers.specs.declared.qualified.Qualified.{Qualified}
 use Rattle.gsl_qualifiers.specs.Qualifiers.{qualified}

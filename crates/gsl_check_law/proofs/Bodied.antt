@@ -21,7 +21,6 @@ use Rattle.gsl_check_heads.specs.declared.parameter.Parameter.{Parameter}
 use Rattle.gsl_check_heads.specs.Heads.{Headed, typed_params, named_if, params_named, entered, left}
 use Rattle.gsl_check.specs.Functions.{nowhere, bodied}
 use Rattle.gsl_check_law.specs.Formed.{IsFormedStmt}
-use Rattle.gsl_check_law.specs.Labels.{IsStepBut}
 use Rattle.gsl_check_law.specs.Scenes.{IsScene, IsThere, AreThere, IsEnv}
 use Rattle.gsl_check_law.proofs.Found.{all_map}
 use Rattle.gsl_check_law.proofs.Longer.{Grows}
@@ -29,6 +28,7 @@ use Rattle.gsl_check_law.proofs.Standing.{with_name}
 use Rattle.gsl_check_law.proofs.Declarators.{DidAll}
 use Rattle.gsl_check_law.proofs.Walked.{statements_are}
 use Rattle.gsl_check_law.specs.Small.{IsCounted}
+use Rattle.gsl_tree.specs.Statements.{IsStep}
 
 -- what names stand for hangs on the structs, the heads and the stage
 module _ (s t : Scene) (structs : length s.structs ≤ length t.structs) (prototypes : s.prototypes ≡ t.prototypes) (stage : s.stage ≡ t.stage) where
@@ -112,7 +112,7 @@ pub entered_params : (h : Headed) → (entered h).scene.params ≡ typed_params 
 unfolding entered
 entered_params h = refl
 
--- a body that is well typed in the scene at its end, but for the bound of its labels
+-- a body that is well typed in the scene at its end
 pub record IsBodied (h : Headed) (f : Function) : Type 0 where
   pub scene : Scene
   pub fine : IsScene scene
@@ -120,7 +120,7 @@ pub record IsBodied (h : Headed) (f : Function) : Type 0 where
   pub locals : scene.locals ≡ f.locals
   pub number : f.prototype ≡ h.number
   pub grows : Grows (entered h).scene scene
-  pub body : AlongAll (IsStepBut (around scene) h.result) (with_exits outside f.body)
+  pub body : AlongAll (IsStep (around scene) h.result) (with_exits outside f.body)
 
 pub body_is : (h : Headed) (name : Name) (body : List Statement) → IsHeaded h → AllByRecursion IsFormedStmt body → Holds (λ (done : Function × Env). IsBodied h done.0) (bodied h name body)
 body_is h name body is formed =

@@ -28,7 +28,6 @@ use Rattle.gsl_tree.specs.declared.stmt.Arm.{Arm}
 use Rattle.gsl_tree.specs.Around.{Around}
 use Rattle.gsl_tree.specs.Trees.{Exits, exprs_of, inner_of, with_exits, Along, AlongAll}
 use Rattle.gsl_tree.specs.Expressions.{IsExpr, MayBeRead}
-use Rattle.gsl_check_law.specs.Labels.{IsStepBut, IsStmtBut, MayStandBut}
 use Rattle.gsl_tree.specs.WellTyped.{IsVariableType}
 use Rattle.gsl_typing.specs.declared.scene.Scene.{Scene}
 use Rattle.gsl_typing.specs.declared.scene.Part.{Part}
@@ -63,17 +62,18 @@ use Rattle.gsl_check_law.proofs.Declaring.{at_more, written_good, declared_good,
 use Rattle.gsl_check_law.specs.Small.{IsCounted, IsSmallFolded}
 use Rattle.gsl_tree.specs.Constants.{constant_of}
 use Rattle.gsl_check_law.proofs.Counted.{constant_small, type_counted}
+use Rattle.gsl_tree.specs.Statements.{IsStep, IsStmt, MayStand}
 
 -- ---- statements from their forms
 
-pub stmt_at : (around : Around) (result : Ty) (exits : Exits) (s : Stmt) (form : Stmt-F Stmt Arm) → out-Stmt s ≡ form → MayStandBut around result exits form → AllByRecursion (IsExpr around) (exprs_of form)
-    → AllByRecursion (MayBeRead around) (exprs_of form) → AlongAll (IsStepBut around result) (inner_of exits form) → IsStmtBut around result exits s
+pub stmt_at : (around : Around) (result : Ty) (exits : Exits) (s : Stmt) (form : Stmt-F Stmt Arm) → out-Stmt s ≡ form → MayStand around result exits form → AllByRecursion (IsExpr around) (exprs_of form)
+    → AllByRecursion (MayBeRead around) (exprs_of form) → AlongAll (IsStep around result) (inner_of exits form) → IsStmt around result exits s
 stmt_at around result exits s form is stands typed reads inner =
     Along.whole exits s (record {
-      stands = subst (MayStandBut around result exits) (sym is) stands;
+      stands = subst (MayStand around result exits) (sym is) stands;
       typed = subst (λ (f : Stmt-F Stmt Arm). AllByRecursion (IsExpr around) (exprs_of f)) (sym is) typed;
       reads = subst (λ (f : Stmt-F Stmt Arm). AllByRecursion (MayBeRead around) (exprs_of f)) (sym is) reads;
-    }) (subst (λ (f : Stmt-F Stmt Arm). AlongAll (IsStepBut around result) (inner_of exits f)) (sym is) inner)
+    }) (subst (λ (f : Stmt-F Stmt Arm). AlongAll (IsStep around result) (inner_of exits f)) (sym is) inner)
 
 pub found_last : {X : Type 0} (xs : List X) (y : X) → slice_get (xs ++ y ∷ []) (length xs) ≡ Some y
 found_last [] y = refl
@@ -83,12 +83,12 @@ found_last (x ∷ xs) y = found_last xs y
 pub record Did (result : Ty) (exits : Exits) (before : Env) (done : Stmt × Env) : Type 0 where
   pub env : IsEnv done.1
   pub grows : Grows before.scene done.1.scene
-  pub stmt : IsStmtBut (around done.1.scene) result exits done.0
+  pub stmt : IsStmt (around done.1.scene) result exits done.0
 
 pub record DidAll (result : Ty) (exits : Exits) (before : Env) (done : List Stmt × Env) : Type 0 where
   pub env : IsEnv done.1
   pub grows : Grows before.scene done.1.scene
-  pub stmts : AlongAll (IsStepBut (around done.1.scene) result) (with_exits exits done.0)
+  pub stmts : AlongAll (IsStep (around done.1.scene) result) (with_exits exits done.0)
 
 module _ (result : Ty) (exits : Exits) where
   behind : (env : Env) (first : Stmt × Env) (rest : List Stmt × Env) → Did result exits env first → DidAll result exits first.1 rest → DidAll result exits env (first.0 ∷ rest.0, rest.1)
@@ -218,7 +218,7 @@ module _ (result : Ty) (exits : Exits) where
       let parts = and_parts (declarator_formed d) (declarators_formed all) formed in
       (declarator_typed few fixed base d good parts.0, all_declarators few fixed base all good parts.1)
 
-  only_one : (around : Around) (one : Stmt) → AlongAll (IsStepBut around result) (with_exits exits (one ∷ [])) → IsStmtBut around result exits one
+  only_one : (around : Around) (one : Stmt) → AlongAll (IsStep around result) (with_exits exits (one ∷ [])) → IsStmt around result exits one
   only_one around one (AlongAll.more _ _ is rest) = is
 
   -- ---- declarations

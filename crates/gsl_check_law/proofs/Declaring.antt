@@ -45,7 +45,7 @@ use Rattle.gsl_check_decl.specs.Declaring.{is_reserved, may_be_had, is_high, is_
 use Rattle.gsl_check_decl.specs.Locals.{with_local}
 use Rattle.gsl_check_decl.specs.Structs.{has_member, may_be_member, with_member, with_names, with_line, with_lines, struct_of, height_over, with_struct, may_be_struct, structured, is_too_large}
 use Rattle.gsl_check_decl.specs.Structs as structs
-use Rattle.gsl_check_decl.proofs.Gathering.{Holds, holds_after, holds_then}
+use Rattle.gsl_check_decl.proofs.Gathering.{Holds, holds_after}
 use Rattle.gsl_check_law.specs.Scenes.{IsHead, HasVariables, IsEnv}
 use Rattle.gsl_check_law.proofs.Rows.{row, not_false, both, there, neither}
 use Rattle.gsl_check_law.proofs.Found.{all_append, all_map}
@@ -421,9 +421,9 @@ module _ (env : Env) (fine : IsEnv env) where
 
 -- ---- the type of what begins as a value
 
-sized_counted : (count : ℕ) (w : Written) (from u : Ty) → GoodAt count w → IsCounted from → sized_as w from ≡ Some u → IsCounted u
-sized_counted count (Whole t) from u good is at = subst IsCounted (ap (λ o. unwrap_or o t) at) good.1
-sized_counted count (Open place e) from u good is at = by_layer (out-Ty from) (ap is_counted (roll-out-Ty from) ∙ is) at
+sized_counted : (all : ℕ) (w : Written) (from u : Ty) → GoodAt all w → IsCounted from → sized_as w from ≡ Some u → IsCounted u
+sized_counted all (Whole t) from u good is at = subst IsCounted (ap (λ o. unwrap_or o t) at) good.1
+sized_counted all (Open place e) from u good is at = by_layer (out-Ty from) (ap is_counted (roll-out-Ty from) ∙ is) at
   where
     by_layer : (layer : Ty-F Ty) → IsCounted (roll-Ty layer) → array_as e layer ≡ Some u → IsCounted u
     by_layer Ty-F.Void known found = elim (none-some u found) [ ]
@@ -435,9 +435,9 @@ sized_counted count (Open place e) from u good is at = by_layer (out-Ty from) (a
     by_layer (Ty-F.Runtime a) known found = elim (none-some u found) [ ]
     by_layer (Ty-F.Struct n) known found = elim (none-some u found) [ ]
 
-served_counted : (count : ℕ) (w : Written) (x : Part) (t : Ty) (o : Option Ty) → sized_as w (type_in x) ≡ o → GoodAt count w → IsCounted (type_in x) → served x o ≡ Some t → IsCounted t
-served_counted count w x t None at good is found = elim (none-some t found) [ ]
-served_counted count w x t (Some u) at good is found = subst IsCounted (cond_some (serves_as (type_in x) u) u t found).1 (sized_counted count w (type_in x) u good is at)
+served_counted : (all : ℕ) (w : Written) (x : Part) (t : Ty) (o : Option Ty) → sized_as w (type_in x) ≡ o → GoodAt all w → IsCounted (type_in x) → served x o ≡ Some t → IsCounted t
+served_counted all w x t None at good is found = elim (none-some t found) [ ]
+served_counted all w x t (Some u) at good is found = subst IsCounted (cond_some (serves_as (type_in x) u) u t found).1 (sized_counted all w (type_in x) u good is at)
 
 pub begun_counted : (count : ℕ) (w : Written) (x : Part) (t : Ty) → GoodAt count w → IsCounted (type_in x) → begun_type w x ≡ Some t → IsCounted t
 unfolding begun_type

@@ -33,8 +33,7 @@ use Rattle.gsl_check_heads.specs.Heads.{Headed, named_if, params_named, typed_pa
 use Rattle.gsl_check.specs.Functions.{nowhere, bodied, with_body, function}
 use Rattle.gsl_check.proofs.Keeping.{Keeps, declared_count}
 use Rattle.gsl_check.proofs.Bodies.{statements_keep}
-use Rattle.gsl_check_law.specs.Formed.{is_name, stmt_formed, body_formed, IsFormedStmt, head_formed}
-use Rattle.gsl_check_law.specs.Labels.{IsStepBut}
+use Rattle.gsl_check_law.specs.Formed.{stmt_formed, body_formed, IsFormedStmt, head_formed}
 use Rattle.gsl_check_law.specs.Scenes.{IsScene, IsEnv, IsHead, HasVariables}
 use Rattle.gsl_check_law.proofs.Found.{all_map, all_append}
 use Rattle.gsl_check_law.proofs.Longer.{Grows}
@@ -48,6 +47,7 @@ use Rattle.gsl_check_law.proofs.Outer.{two_hold, top_then}
 use Rattle.gsl_check_law.proofs.Heading.{HeadIs, HeadDone, header_done}
 use Rattle.gsl_types.specs.Known.{IsSound}
 use Rattle.gsl_tree.specs.declared.unit.LocalSize.{LocalSize}
+use Rattle.gsl_tree.specs.Statements.{IsStep}
 
 -- ---- scopes
 
@@ -185,7 +185,7 @@ module _ (stage : Stage) (h : Headed) (is : IsHeaded h) (top : IsTop stage h.env
       locals = λ k x at. at;
     }
 
-    typed_body : AlongAll (IsStepBut (around body) h.result) (with_exits outside done.0)
+    typed_body : AlongAll (IsStep (around body) h.result) (with_exits outside done.0)
     typed_body = stmts_grow last body did.env.scene body_grows h.result (with_exits outside done.0) did.stmts
 
     abbrev made : Function
@@ -200,8 +200,8 @@ module _ (stage : Stage) (h : Headed) (is : IsHeaded h) (top : IsTop stage h.env
       declared = head.there;
       params = subst (AllByRecursion (λ (p : Direction × Ty). IsVariableType more p.1)) (sym head.params) types_behind;
       locals = did.env.scene.locals;
-      body = subst (λ (ps : List (Direction × Ty)). AlongAll (IsStepBut (around (body_scene behind ps last.locals)) head.prototype.result) (with_exits outside done.0)) (sym head.params)
-          (subst (λ (r : Ty). AlongAll (IsStepBut (around body) r) (with_exits outside done.0)) (sym head.result) typed_body);
+      body = subst (λ (ps : List (Direction × Ty)). AlongAll (IsStep (around (body_scene behind ps last.locals)) head.prototype.result) (with_exits outside done.0)) (sym head.params)
+          (subst (λ (r : Ty). AlongAll (IsStep (around body) r) (with_exits outside done.0)) (sym head.result) typed_body);
     }
 
     left_is : IsEnv (left h.env done.1)

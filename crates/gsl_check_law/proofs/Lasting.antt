@@ -33,12 +33,12 @@ use Rattle.gsl_tree.specs.Weights.{most_high}
 use Rattle.gsl_tree.specs.WellTyped.{IsName, IsVariableType, IsBlock, IsBlockMember, AreBlockMembers, IsInterface, IsPrototype}
 use Rattle.gsl_typing.specs.declared.scene.Scene.{Scene}
 use Rattle.gsl_typing.specs.Scene.{around}
-use Rattle.gsl_check_law.specs.Labels.{IsStepBut}
 use Rattle.gsl_check_law.specs.Scenes.{IsScene}
 use Rattle.gsl_check_law.proofs.Found.{all_map}
 use Rattle.gsl_check_law.proofs.Growing.{expr_grows, read_grows}
 use Rattle.gsl_check_law.proofs.Longer.{Front, Grows}
 use Rattle.gsl_check_law.proofs.Standing.{stmts_grow, variable_grows, result_grows}
+use Rattle.gsl_tree.specs.Statements.{IsStep}
 
 -- ---- what is there
 
@@ -57,13 +57,13 @@ pub record GlobalFits (s : Scene) (number : ℕ) (g : GlobalVar) : Type 0 where
 abbrev pub body_scene : Scene → List (Direction × Ty) → List Ty → Scene
 body_scene s params locals = record s { params = params; locals = locals; consts = record s.consts { locals = [] } }
 
--- a function whose body is well typed, but for the bound of its labels
+-- a function whose body is well typed
 pub record FunctionFits (s : Scene) (f : Function) : Type 0 where
   pub prototype : Prototype
   pub declared : slice_get s.prototypes f.prototype ≡ Some prototype
   pub params : AllByRecursion (λ (param : Direction × Ty). IsVariableType s.structs param.1) prototype.params
   pub locals : AllByRecursion (IsVariableType s.structs) f.locals
-  pub body : AlongAll (IsStepBut (around (body_scene s prototype.params f.locals)) prototype.result) (with_exits outside f.body)
+  pub body : AlongAll (IsStep (around (body_scene s prototype.params f.locals)) prototype.result) (with_exits outside f.body)
 
 -- ---- lists that begin alike
 

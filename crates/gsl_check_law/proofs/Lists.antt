@@ -46,7 +46,7 @@ use Rattle.gsl_check_law.specs.Parts.{IsPart, IsTaken}
 use Rattle.gsl_check_law.specs.Scenes.{IsScene, IsEnv}
 use Rattle.gsl_check_law.proofs.Rows.{given, holds_of}
 use Rattle.gsl_check_law.proofs.Found.{at_place}
-use Rattle.gsl_check_law.proofs.Types.{sound_shape, shape_back, IsCount}
+use Rattle.gsl_check_law.proofs.Types.{sound_shape, shape_back}
 use Rattle.gsl_check_law.proofs.Parts.{test_node}
 use Rattle.gsl_check_law.proofs.Building.{PartsSound, HasSoundParts, AllTaken, reads_of, exprs_of, build_is, build_typed, converted_few, Buildable}
 use Rattle.gsl_check_law.proofs.Sizing.{void_sound, array_parts}

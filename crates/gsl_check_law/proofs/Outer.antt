@@ -19,7 +19,7 @@ use Rattle.gsl_types.specs.declared.ty.Member.{Member}
 use Rattle.gsl_types.specs.declared.ty.Ty.{Ty}
 use Rattle.gsl_types.specs.declared.ty.Ty.TheVariants as ty
 use Rattle.gsl_types.proofs.Layers.{sound_struct}
-use Rattle.gsl_tree.specs.Shapes.{Shape, shape_of, is_integer, is_count}
+use Rattle.gsl_tree.specs.Shapes.{Shape, shape_of, is_integer}
 use Rattle.gsl_tree.specs.declared.unit.Interface.{Interface}
 use Rattle.gsl_tree.specs.WellTyped.{IsInterface, is_flat_right}
 use Rattle.gsl_typing.specs.declared.scene.Part.{Part}

@@ -8,7 +8,7 @@ use Rattle.gsl_syntax.specs.declared.expr.Expr.{Expr as Syntax}
 use Rattle.gsl_syntax.specs.declared.expr.TypeSpec.{TypeSpec}
 use Rattle.gsl_syntax.specs.declared.expr.Dim.{Dim}
 use Rattle.gsl_syntax.specs.declared.expr.Dim.TheOpen.{Expr-F, TypeSpec-F, Dim-F}
-use Rattle.gsl_syntax.specs.declared.expr.Dim.TheFolds.{fold-roll-Expr, fold-roll-TypeSpec, fold-roll-Dim, fold-Expr, ind-Expr, ind-TypeSpec, ind-Dim, map-Expr, map-TypeSpec, map-Dim}
+use Rattle.gsl_syntax.specs.declared.expr.Dim.TheFolds.{fold-roll-Expr, fold-roll-TypeSpec, fold-roll-Dim, ind-Expr, ind-TypeSpec, ind-Dim, map-Expr, map-TypeSpec, map-Dim}
 use Rattle.gsl_syntax.specs.declared.expr.Dim.TheViews.{roll-Expr, roll-TypeSpec, roll-Dim}
 use Rattle.gsl_types.specs.declared.ty.Scalar.TheVariants.{Bool as Boolean, Int, Uint}
 use Rattle.gsl_tree.specs.declared.expr.Expr.{Expr}
@@ -30,7 +30,7 @@ use Rattle.gsl_check_expr.specs.InOrder.{each}
 use Rattle.gsl_check_expr.specs.Sizes.{Bracket, size_in, dimensions}
 use Rattle.gsl_check_expr.specs.Callees.{Callee, called}
 use Rattle.gsl_check_expr.specs.Expressions.{Answer, taken, dim_by, callee_by, by_parts, in_row, call_answer, behind, sequence, member_answer, answer, callee, bracket, expression, taken_expression}
-use Rattle.gsl_check_decl.proofs.Gathering.{Holds, holds_after, holds_then}
+use Rattle.gsl_check_decl.proofs.Gathering.{Holds, holds_after}
 use Rattle.gsl_check_law.specs.Formed.{all_formed, rest_formed, some_formed, formed_by, is_formed, IsFormed, spec_formed, dim_formed, spec_formed_by, dim_formed_by}
 use Rattle.gsl_check_law.specs.Parts.{IsPart, IsTaken}
 use Rattle.gsl_check_law.specs.Scenes.{IsEnv}

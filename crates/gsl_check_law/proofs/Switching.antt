@@ -20,7 +20,7 @@ use Rattle.gsl_tree.specs.Constants.{constant_of}
 use Rattle.gsl_tree.specs.Trees.{Exits, Placed, with_exits, bodies, AlongAll}
 use Rattle.gsl_tree.specs.Trees as trees
 use Rattle.gsl_tree.specs.Paths.{repeats}
-use Rattle.gsl_tree.specs.Statements.{labels_of, defaults_in, one_more, most_labels}
+use Rattle.gsl_tree.specs.Statements.{labels_of, defaults_in, one_more, most_labels, IsArm, AreArms, IsStep, IsStmt}
 use Rattle.gsl_typing.specs.declared.scene.Scene.{Scene}
 use Rattle.gsl_typing.specs.declared.scene.Part.{Part}
 use Rattle.gsl_typing.specs.Scene.{around, type_in}
@@ -32,13 +32,13 @@ use Rattle.gsl_check_expr.specs.Expressions.{taken_expression}
 use Rattle.gsl_check_expr.specs.Sizes.{is_not_constant, is_left_open, word_of}
 use Rattle.gsl_check_decl.specs.Declaring.{is_empty}
 use Rattle.gsl_check_decl.specs.Steps.{opened, closed}
-use Rattle.gsl_check_decl.proofs.Gathering.{Holds, holds_then, holds_after}
+use Rattle.gsl_check_decl.proofs.Gathering.{Holds, holds_after}
 use Rattle.gsl_check_stmt.specs.declared.within.Within.{Within}
 use Rattle.gsl_check_stmt.specs.declared.gathered.Gathered.{Gathered}
 use Rattle.gsl_check_stmt.specs.Switches.{nothing, last_arm, behind_arm, at_label, with_case, with_default, with_stmt, is_blank, all_arms, is_known, has_word, constant_word, case_word, default_label, is_arm, are_arms, has_many, switched}
 use Rattle.gsl_check_stmt.specs.Statements.{Label, Case, Default, Answer, case_label, labelled, stated, item, items, arms, switch_head, switch, in_switch}
 use Rattle.gsl_check_law.specs.Formed.{IsFormed}
-use Rattle.gsl_check_law.specs.Labels.{exits_of, IsStepBut, IsStmtBut, IsArmBut, AreArmsBut, AreWords}
+use Rattle.gsl_check_law.specs.Labels.{exits_of, AreWords}
 use Rattle.gsl_check_law.specs.Parts.{IsTaken}
 use Rattle.gsl_check_law.specs.Scenes.{IsScene, IsEnv}
 use Rattle.gsl_check_law.proofs.Rows.{row, not_false, both}
@@ -181,12 +181,12 @@ front_words : (xs ys : List ℕ) → AreWords (xs ++ ys) → AreWords xs × AreW
 front_words [] ys all = (tt, all)
 front_words (x ∷ xs) ys all = let rest = front_words xs ys all.1 in ((all.0, rest.0), rest.1)
 
-arm_is : (a : Arm) → IsTrue (is_arm a) → AreWords (out-Arm a).labels → IsArmBut a
+arm_is : (a : Arm) → IsTrue (is_arm a) → AreWords (out-Arm a).labels → IsArm a
 arm_is a is words =
     let parts = and_parts (not (is_empty (out-Arm a).labels) || (out-Arm a).is_default) (not (is_empty (out-Arm a).body)) is in
     record { labelled = labels_some (out-Arm a).is_default (out-Arm a).labels parts.0; words = words; filled = some_is (out-Arm a).body parts.1 }
 
-all_arms_are : (all : List Arm) → IsTrue (list_all is_arm all) → AreWords (labels_of all) → AllByRecursion IsArmBut all
+all_arms_are : (all : List Arm) → IsTrue (list_all is_arm all) → AreWords (labels_of all) → AllByRecursion IsArm all
 all_arms_are [] is words = tt
 all_arms_are (a ∷ all) is words =
     let parts = and_parts (is_arm a) (list_all is_arm all) is in
@@ -226,7 +226,7 @@ one_default : (b : Bool) → one_more b 0 ≤ 1
 one_default true = omega arith
 one_default false = omega arith
 
-arms_are : (g : Gathered) → Labelled g → IsTrue (are_arms (all_arms g)) → has_many g.words g.has_default ≡ false → AreArmsBut (all_arms g)
+arms_are : (g : Gathered) → Labelled g → IsTrue (are_arms (all_arms g)) → has_many g.words g.has_default ≡ false → AreArms (all_arms g)
 unfolding are_arms has_many
 arms_are g is each few =
     let all = together g is in
@@ -256,14 +256,14 @@ module _ (result : Ty) (within : Within) where
     env : IsEnv done.1
     grows : Grows before.scene done.1.scene
     labelled : Labelled done.0
-    arms : AlongAll (IsStepBut (around done.1.scene) result) (with_exits inner (bodies done.0.arms))
-    body : AlongAll (IsStepBut (around done.1.scene) result) (with_exits inner done.0.body)
+    arms : AlongAll (IsStep (around done.1.scene) result) (with_exits inner (bodies done.0.arms))
+    body : AlongAll (IsStep (around done.1.scene) result) (with_exits inner done.0.body)
 
   -- behind a label
-  moved : (before : Env) (g : Gathered) (env : Env) (b : Bool) → Read before (g, env) → AlongAll (IsStepBut (around env.scene) result) (with_exits inner (bodies (if b then g else behind_arm g).arms)) × AlongAll (IsStepBut (around env.scene) result) (with_exits inner (if b then g else behind_arm g).body)
+  moved : (before : Env) (g : Gathered) (env : Env) (b : Bool) → Read before (g, env) → AlongAll (IsStep (around env.scene) result) (with_exits inner (bodies (if b then g else behind_arm g).arms)) × AlongAll (IsStep (around env.scene) result) (with_exits inner (if b then g else behind_arm g).body)
   moved before g env true is = (is.arms, is.body)
   moved before g env false is =
-      (subst (λ l. AlongAll (IsStepBut (around env.scene) result) (with_exits inner l)) (sym (bodies_push g.arms (last_arm g))) (with_append inner (bodies g.arms) g.body (IsStepBut (around env.scene) result) is.arms is.body), AlongAll.none)
+      (subst (λ l. AlongAll (IsStep (around env.scene) result) (with_exits inner l)) (sym (bodies_push g.arms (last_arm g))) (with_append inner (bodies g.arms) g.body (IsStep (around env.scene) result) is.arms is.body), AlongAll.none)
 
   read_case : (before : Env) (g : Gathered) (env : Env) (w : ℕ) → w < 2 ^ 32 → Read before (g, env) → has_word g.words w ≡ false → Read before (with_case g w, env)
   unfolding with_case
@@ -288,7 +288,7 @@ module _ (result : Ty) (within : Within) where
         grows = grows_then before.scene env.scene done.1.scene is.grows did.grows;
         labelled = stmt_labelled g done.0 is.labelled;
         arms = grow (with_exits inner (bodies g.arms)) is.arms;
-        body = with_append inner g.body (done.0 ∷ []) (IsStepBut (around done.1.scene) result) (grow (with_exits inner g.body) is.body) (AlongAll.more (inner, done.0) [] did.stmt AlongAll.none);
+        body = with_append inner g.body (done.0 ∷ []) (IsStep (around done.1.scene) result) (grow (with_exits inner g.body) is.body) (AlongAll.more (inner, done.0) [] did.stmt AlongAll.none);
       }
 
   known_new : (f : Folded) (h : Bool) → (is_known f && h) ≡ false → is_not_constant f ≡ false → is_left_open f ≡ false → h ≡ false
@@ -356,12 +356,12 @@ module _ (result : Ty) (within : Within) where
   }
 
   switched_is : (before : Env) (place : Place) (selector : Part) (g : Gathered) (env : Env) → IsTaken before.scene selector → IsScene before.scene → Read before (g, env)
-      → Holds (λ (s : Stmt). IsStmtBut (around env.scene) result exits s) (switched env.scene place selector g)
+      → Holds (λ (s : Stmt). IsStmt (around env.scene) result exits s) (switched env.scene place selector g)
   unfolding switched
   switched_is before place selector g env taken fine is =
-      row (λ (s : Stmt). IsStmtBut (around env.scene) result exits s) place E0507 (is_unread env.scene selector) ((E0511, not (is_index selector && are_arms (all_arms g))) ∷ (E0908, has_many g.words g.has_default) ∷ []) (Ok (stmt.Switch selector.expr (all_arms g)))
-      (λ read. row (λ (s : Stmt). IsStmtBut (around env.scene) result exits s) place E0511 (not (is_index selector && are_arms (all_arms g))) ((E0908, has_many g.words g.has_default) ∷ []) (Ok (stmt.Switch selector.expr (all_arms g)))
-      (λ right. row (λ (s : Stmt). IsStmtBut (around env.scene) result exits s) place E0908 (has_many g.words g.has_default) [] (Ok (stmt.Switch selector.expr (all_arms g)))
+      row (λ (s : Stmt). IsStmt (around env.scene) result exits s) place E0507 (is_unread env.scene selector) ((E0511, not (is_index selector && are_arms (all_arms g))) ∷ (E0908, has_many g.words g.has_default) ∷ []) (Ok (stmt.Switch selector.expr (all_arms g)))
+      (λ read. row (λ (s : Stmt). IsStmt (around env.scene) result exits s) place E0511 (not (is_index selector && are_arms (all_arms g))) ((E0908, has_many g.words g.has_default) ∷ []) (Ok (stmt.Switch selector.expr (all_arms g)))
+      (λ right. row (λ (s : Stmt). IsStmt (around env.scene) result exits s) place E0908 (has_many g.words g.has_default) [] (Ok (stmt.Switch selector.expr (all_arms g)))
       (λ few.
       let parts = both (is_index selector) (are_arms (all_arms g)) right in
       let here = taken_grows before.scene env.scene fine is.grows selector taken in
@@ -369,7 +369,7 @@ module _ (result : Ty) (within : Within) where
       let all = together g is.labelled in
       stmt_at (around env.scene) result exits (stmt.Switch selector.expr (all_arms g)) (Stmt-F.Switch selector.expr (all_arms g)) (outs-Switch selector.expr (all_arms g))
       (index_is selector parts.0, arms_are g is.labelled parts.1 few) (here.part.expr, tt) (reads, tt)
-      (subst (λ l. AlongAll (IsStepBut (around env.scene) result) (with_exits inner l)) (sym all.bodies_are) (with_append inner (bodies g.arms) g.body (IsStepBut (around env.scene) result) is.arms is.body)))))
+      (subst (λ l. AlongAll (IsStep (around env.scene) result) (with_exits inner l)) (sym all.bodies_are) (with_append inner (bodies g.arms) g.body (IsStep (around env.scene) result) is.arms is.body)))))
 
   pub switch_is : (place : Place) (e : Phrase) (answers : List Answer) → IsFormed e → AllByRecursion StandsIn answers → StepIs result exits (switch place e answers within)
   unfolding switch switch_head arms
@@ -380,5 +380,5 @@ module _ (result : Ty) (within : Within) where
       (λ head is. subst (λ (h : Env). Holds (Did result exits env) (items (in_switch within) (type_in head.0) answers nothing h >>= (λ done. arms place head.0 done.0 done.1))) is.1
       (holds_after (Read (opened env)) (Did result exits env) (items (in_switch within) (type_in head.0) answers nothing (opened env)) (λ done. arms place head.0 done.0 done.1)
       (items_read (opened env) (type_in head.0) answers nothing (opened env) has all (record { env = opened_env env fine; grows = grows_itself env.scene; labelled = nothing_labelled; arms = AlongAll.none; body = AlongAll.none }))
-      (λ done read. holds_after (λ (s : Stmt). IsStmtBut (around done.1.scene) result exits s) (Did result exits env) (switched done.1.scene place head.0 done.0) (λ s. Ok (s, closed done.1)) (switched_is (opened env) place head.0 done.0 done.1 is.0 fine.scene read)
+      (λ done read. holds_after (λ (s : Stmt). IsStmt (around done.1.scene) result exits s) (Did result exits env) (switched done.1.scene place head.0 done.0) (λ s. Ok (s, closed done.1)) (switched_is (opened env) place head.0 done.0 done.1 is.0 fine.scene read)
       (λ s typed. record { env = closed_env done.1 read.env; grows = read.grows; stmt = typed }))))

@@ -7,18 +7,12 @@ use Rattle.gsl_syntax.specs.declared.statement.Stmt.TheOpen.{Stmt-F}
 use Rattle.gsl_syntax.specs.declared.statement.Stmt.TheViews.{roll-Stmt, roll-out-Stmt, out-Stmt as out-Syntax}
 use Rattle.gsl_syntax.specs.declared.statement.Stmt.TheFolds.{fold-roll-Stmt, ind-Stmt, map-Stmt}
 use Rattle.gsl_types.specs.declared.ty.Ty.{Ty}
-use Rattle.gsl_tree.specs.Around.{Around}
-use Rattle.gsl_tree.specs.declared.stmt.Stmt.{Stmt, out-Stmt}
-use Rattle.gsl_tree.specs.declared.stmt.Stmt.TheOpen as tree
-use Rattle.gsl_tree.specs.declared.stmt.Arm.{Arm, out-Arm}
-use Rattle.gsl_tree.specs.Trees.{Exits, Placed, inner_of, Along, AlongAll}
-use Rattle.gsl_tree.specs.Statements.{IsArm, MayStand, IsStep, IsStmt}
 use Rattle.gsl_check_expr.specs.declared.env.Env.{Env}
 use Rattle.gsl_check_decl.proofs.Gathering.{Holds}
 use Rattle.gsl_check_stmt.specs.declared.within.Within.{Within}
 use Rattle.gsl_check_stmt.specs.Statements.{Answer, answer, statement, statements, by_parts, in_row, in_switch}
 use Rattle.gsl_check_law.specs.Formed.{all_formed, stmt_formed_by, stmt_formed, IsFormedStmt, is_formed, init_part_formed, formed_if}
-use Rattle.gsl_check_law.specs.Labels.{exits_of, IsArmBut, MayStandBut, IsStepBut, IsStmtBut, AreWords, ArmsHaveWords, HasWords}
+use Rattle.gsl_check_law.specs.Labels.{exits_of}
 use Rattle.gsl_check_law.specs.Scenes.{IsEnv}
 use Rattle.gsl_check_law.proofs.Declarators.{DidAll, turns, declaration_typed}
 use Rattle.gsl_check_law.proofs.Stated.{HasResult, keeps_result, StepIs, Stands, empty_is, evaluated_is, broken_is, continued_is, discarded_is, returned_is, return_is, stray_is, default_is, block_is, branch_is, branches_is}
@@ -129,33 +123,3 @@ module _ (result : Ty) where
   -- what statements in a row stand for is well typed
   pub statements_are : (all : List Syntax) (within : Within) → AllByRecursion IsFormedStmt all → (env : Env) → IsEnv env → HasResult result env → Holds (DidAll result (exits_of within) env) (statements result all within env)
   statements_are all within is env fine has = turns result (exits_of within) (HasResult result) (keeps_result result) (map (λ s. statement result s within) all) (all_stand within all is) env fine has
-
--- ---- with the labels
-
-arms_whole : (arms : List Arm) → AllByRecursion IsArmBut arms → AllByRecursion (λ (arm : Arm). AreWords (out-Arm arm).labels) arms → AllByRecursion IsArm arms
-arms_whole [] all words = tt
-arms_whole (a ∷ arms) all words = (record { labelled = all.0.labelled; words = words.0; filled = all.0.filled }, arms_whole arms all.1 words.1)
-
-stands_whole : (around : Around) (result : Ty) (exits : Exits) (form : tree.Stmt-F Stmt Arm) → MayStandBut around result exits form → ArmsHaveWords form → MayStand around result exits form
-stands_whole around result exits tree.Stmt-F.Empty is words = is
-stands_whole around result exits (tree.Stmt-F.Eval e) is words = is
-stands_whole around result exits (tree.Stmt-F.Declare n init) is words = is
-stands_whole around result exits (tree.Stmt-F.Group stmts) is words = is
-stands_whole around result exits (tree.Stmt-F.If test then other) is words = is
-stands_whole around result exits (tree.Stmt-F.Loop test step body last) is words = is
-stands_whole around result exits (tree.Stmt-F.Switch e arms) is words =
-    (is.0, record { each = arms_whole arms is.1.each words; differ = is.1.differ; default = is.1.default; count = is.1.count })
-stands_whole around result exits tree.Stmt-F.Break is words = is
-stands_whole around result exits tree.Stmt-F.Continue is words = is
-stands_whole around result exits (tree.Stmt-F.Return value) is words = is
-stands_whole around result exits tree.Stmt-F.Discard is words = is
-
-module _ (around : Around) (result : Ty) where
-  mutual
-    pub stmt_whole : (exits : Exits) (s : Stmt) → IsStmtBut around result exits s → Along HasWords exits s → IsStmt around result exits s
-    stmt_whole _ _ (Along.whole exits s is inner) (Along.whole _ _ words others) =
-        Along.whole exits s (record { stands = stands_whole around result exits (out-Stmt s) is.stands words; typed = is.typed; reads = is.reads }) (stmts_whole (inner_of exits (out-Stmt s)) inner others)
-
-    pub stmts_whole : (all : List Placed) → AlongAll (IsStepBut around result) all → AlongAll HasWords all → AlongAll (IsStep around result) all
-    stmts_whole _ AlongAll.none words = AlongAll.none
-    stmts_whole _ (AlongAll.more p rest is others) (AlongAll.more _ _ words behind) = AlongAll.more p rest (stmt_whole p.0 p.1 is words) (stmts_whole rest others behind)

@@ -1,4 +1,4 @@
--- Whole units are well typed, but for the bounds of labels and of depth.
+-- Whole units are well typed.
 use Rattle.std.proofs.Common.{◌≡◌, refl, sym, ap, ◌∙◌, subst, ℕ, ◌≤◌, List, [], ◌∷◌, slice_get, Option, Some, None, IsTrue, Ok, arith}
 use Rattle.std.specs.List.{AllByRecursion, list_all}
 use Rattle.std.proofs.lemmas.Bool.{and_parts}
@@ -15,8 +15,7 @@ use Rattle.gsl_tree.specs.declared.unit.Function.{Function}
 use Rattle.gsl_tree.specs.declared.unit.GlobalVar.{GlobalVar}
 use Rattle.gsl_tree.specs.declared.unit.TypedUnit.{TypedUnit}
 use Rattle.gsl_tree.specs.Statements.{depth_in, most_deep}
-use Rattle.gsl_tree.specs.Trees.{AlongAll, outside, with_exits}
-use Rattle.gsl_tree.specs.WellTyped.{IsUnit, IsGlobal, IsInit, IsFunction, unit_lists, Lists, AreSizes, around_init, IsInterface, around_body}
+use Rattle.gsl_tree.specs.WellTyped.{IsUnit, IsGlobal, IsInit, IsFunction, unit_lists, Lists, AreSizes, around_init, IsInterface, AreWellTyped}
 use Rattle.gsl_typing.specs.declared.scene.Scene.{Scene}
 use Rattle.gsl_typing.specs.Scene.{around}
 use Rattle.gsl_names.specs.Scopes.{Declared}
@@ -26,11 +25,9 @@ use Rattle.gsl_check_heads.specs.Builtins.{begun_in, functions, variables}
 use Rattle.gsl_check.specs.Functions.{function}
 use Rattle.gsl_check.specs.Units.{declared_by, declaration, Progress, with_functions, next, all, begun, unit_of, finished, checked}
 use Rattle.gsl_check_law.specs.Formed.{decl_formed, global_formed, IsFormedUnit, IsParsed}
-use Rattle.gsl_check_law.specs.Labels.{HasWords}
 use Rattle.gsl_check_law.specs.Scenes.{IsThere, IsEnv}
 use Rattle.gsl_check_law.proofs.Found.{all_append, at_place}
 use Rattle.gsl_check_law.proofs.Longer.{AreDeclared}
-use Rattle.gsl_check_law.proofs.Walked.{stmts_whole}
 use Rattle.gsl_check_law.proofs.Lasting.{Begun, FunctionFits}
 use Rattle.gsl_check_law.proofs.Tops.{IsTop, TopDone}
 use Rattle.gsl_check_law.proofs.Outer.{variables_top, struct_top, two_hold}
@@ -43,7 +40,6 @@ use Rattle.gsl_tree.specs.Expressions.{IsExpr, MayBeRead}
 use Rattle.gsl_types.specs.declared.ty.Direction.{Direction}
 use Rattle.gsl_types.specs.declared.ty.Ty.{Ty}
 use Rattle.gsl_check_law.proofs.Rows.{given}
-use Rattle.gsl_check_law.specs.Units.{IsFunctionBut, AreWellTypedBut, IsUnitBut, HasUnitWords}
 
 -- ---- so far
 
@@ -156,12 +152,12 @@ module _ (stage : Stage) (done : Progress) (is : IsSoFar stage done) (low_global
       let fits = is.top.globals number g at in
       record { name = fits.name; type = fits.type; init = init_whole number g g.init fits.begins (at_place GlobalShallow s.globals number g low_globals at) }
 
-  functions_fit : (all : List Function) → AllByRecursion (FunctionFits s) all → AllByRecursion FunctionShallow all → AllByRecursion (IsFunctionBut lists) all
+  functions_fit : (all : List Function) → AllByRecursion (FunctionFits s) all → AllByRecursion FunctionShallow all → AllByRecursion (IsFunction lists) all
   functions_fit [] fits shallow = tt
   functions_fit (f ∷ all) fits shallow =
       (record { prototype = fits.0.prototype; declared = fits.0.declared; locals = fits.0.locals; body = fits.0.body; depth = shallow.0 }, functions_fit all fits.1 shallow.1)
 
-  well_typed : AreWellTypedBut lists
+  well_typed : AreWellTyped lists
   well_typed = record {
     structs = is.top.structs.0;
     declared = is.top.structs.1;
@@ -173,47 +169,15 @@ module _ (stage : Stage) (done : Progress) (is : IsSoFar stage done) (low_global
     functions = functions_fit done.functions is.functions low;
   }
 
-  -- a unit that was declared is well typed, but for its labels
-  pub fits_whole : IsUnitBut stage (unit_of done)
-  fits_whole = record { typed = subst (λ (of : Stage). AreWellTypedBut (unit_lists of (unit_of done))) is.top.of_stage well_typed; sizes = is.top.sizes }
+  -- a unit that was declared is well typed
+  pub fits_whole : IsUnit stage (unit_of done)
+  fits_whole = record { typed = subst (λ (of : Stage). AreWellTyped (unit_lists of (unit_of done))) is.top.of_stage well_typed; sizes = is.top.sizes }
 
--- what the checker answers is well typed, but for its labels
-pub checked_is : (stage : Stage) (unit : List Global) (typed : TypedUnit) → IsParsed unit → checked stage unit ≡ Ok typed → IsUnitBut stage typed
+-- what the checker answers is well typed
+pub checked_is : (stage : Stage) (unit : List Global) (typed : TypedUnit) → IsParsed unit → checked stage unit ≡ Ok typed → IsUnit stage typed
 unfolding checked finished
 checked_is stage unit typed parsed is =
-    given (IsUnitBut stage) (all unit (begun stage) >>= (λ done. Ok (unit_of done))) typed
-    (holds_after (λ (done : Progress). IsSoFar stage done × AllShallow done) (IsUnitBut stage) (all unit (begun stage)) (λ done. Ok (unit_of done))
+    given (IsUnit stage) (all unit (begun stage) >>= (λ done. Ok (unit_of done))) typed
+    (holds_after (λ (done : Progress). IsSoFar stage done × AllShallow done) (IsUnit stage) (all unit (begun stage)) (λ done. Ok (unit_of done))
     (two_hold (IsSoFar stage) AllShallow (all unit (begun stage)) (unit_is stage unit parsed.formed) (unit_shallow stage unit parsed.shallow))
     (λ done both. fits_whole stage done both.0 both.1.0 both.1.1)) is
-
--- ---- with the labels
-
-functions_whole : (lists : Lists) (all : List Function) → AllByRecursion (IsFunctionBut lists) all → AllByRecursion (λ (f : Function). AlongAll HasWords (with_exits outside f.body)) all → AllByRecursion (IsFunction lists) all
-functions_whole _ [] fits words = tt
-functions_whole lists (f ∷ all) fits words = (
-  record {
-    prototype = fits.0.prototype;
-    declared = fits.0.declared;
-    locals = fits.0.locals;
-    body = stmts_whole (around_body lists fits.0.prototype.params f.locals) fits.0.prototype.result (with_exits outside f.body) fits.0.body words.0;
-    depth = fits.0.depth;
-  },
-  functions_whole lists all fits.1 words.1,
-)
-
-pub unit_whole : (stage : Stage) (typed : TypedUnit) → IsUnitBut stage typed → HasUnitWords typed → IsUnit stage typed
-unit_whole stage unit is words =
-    let t = is.typed in
-    record {
-      typed = record {
-        structs = t.structs;
-        declared = t.declared;
-        globals = t.globals;
-        blocks = t.blocks;
-        push = t.push;
-        interfaces = t.interfaces;
-        prototypes = t.prototypes;
-        functions = functions_whole (unit_lists stage unit) unit.functions t.functions words;
-      };
-      sizes = is.sizes;
-    }

@@ -4,4 +4,3 @@ pub mod Nested
 pub mod Formed
 pub mod Parts
 pub mod Labels
-pub mod Units

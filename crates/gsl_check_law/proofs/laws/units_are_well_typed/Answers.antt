@@ -1,5 +1,5 @@
-use Rattle.gsl_check_law.proofs.Wholes.{checked_is, unit_whole}
+use Rattle.gsl_check_law.proofs.Wholes.{checked_is}
 use Rattle.gsl_check_law.proofs.laws.units_are_well_typed.Goals as goal
 
 pub returns : goal.returns
-returns c = record { typed = checked_is; whole = unit_whole }
+returns c = checked_is
