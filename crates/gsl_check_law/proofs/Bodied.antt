@@ -21,13 +21,14 @@ use Rattle.gsl_check_heads.specs.declared.parameter.Parameter.{Parameter}
 use Rattle.gsl_check_heads.specs.Heads.{Headed, typed_params, named_if, params_named, entered, left}
 use Rattle.gsl_check.specs.Functions.{nowhere, bodied}
 use Rattle.gsl_check_law.specs.Formed.{IsFormedStmt}
-use Rattle.gsl_check_law.specs.Labels.{IsStepBut}
 use Rattle.gsl_check_law.specs.Scenes.{IsScene, IsThere, AreThere, IsEnv}
 use Rattle.gsl_check_law.proofs.Found.{all_map}
-use Rattle.gsl_check_law.proofs.Growing.{Grows}
+use Rattle.gsl_check_law.proofs.Longer.{Grows}
 use Rattle.gsl_check_law.proofs.Standing.{with_name}
 use Rattle.gsl_check_law.proofs.Declarators.{DidAll}
 use Rattle.gsl_check_law.proofs.Walked.{statements_are}
+use Rattle.gsl_check_law.specs.Small.{IsCounted}
+use Rattle.gsl_tree.specs.Statements.{IsStep}
 
 -- what names stand for hangs on the structs, the heads and the stage
 module _ (s t : Scene) (structs : length s.structs ≤ length t.structs) (prototypes : s.prototypes ≡ t.prototypes) (stage : s.stage ≡ t.stage) where
@@ -56,15 +57,20 @@ params_there : (s : Scene) (n : ℕ) (params : List Parameter) (names : Scopes) 
 params_there s n [] names all = all
 params_there s n (p ∷ params) names all = params_there s (n + 1) params (named_if p.name n p.fixed names) (name_there s p.name n p.fixed names all)
 
-types_of_params : (structs : List StructType) (params : List Parameter) → AllByRecursion (λ (p : Parameter). IsVariableType structs p.ty) params → AllByRecursion (λ (p : Direction × Ty). IsVariableType structs p.1) (typed_params params)
+pub types_of_params : (structs : List StructType) (params : List Parameter) → AllByRecursion (λ (p : Parameter). IsVariableType structs p.ty) params → AllByRecursion (λ (p : Direction × Ty). IsVariableType structs p.1) (typed_params params)
 types_of_params structs [] all = tt
 types_of_params structs (p ∷ params) all = (all.0, types_of_params structs params all.1)
+
+counts_of_params : (params : List Parameter) → AllByRecursion (λ (p : Parameter). IsCounted p.ty) params → AllByRecursion (λ (p : Direction × Ty). IsCounted p.1) (typed_params params)
+counts_of_params [] all = tt
+counts_of_params (p ∷ params) all = (all.0, counts_of_params params all.1)
 
 -- what is known of a head behind which a body is checked
 pub record IsHeaded (h : Headed) : Type 0 where
   pub env : IsEnv h.env
   pub params : AllByRecursion (λ (p : Parameter). IsVariableType h.env.scene.structs p.ty) h.params
   pub result : IsResult h.env.scene.structs h.result
+  pub counted : AllByRecursion (λ (p : Parameter). IsCounted p.ty) h.params
 
 -- in the scope of the parameters all is sound
 pub entered_is : (h : Headed) → IsHeaded h → IsEnv (entered h)
@@ -85,17 +91,28 @@ entered_is h is =
         locals = tt;
         known = is.env.scene.known;
       };
+      counted = record {
+        structs = is.env.counted.structs;
+        globals = is.env.counted.globals;
+        blocks = is.env.counted.blocks;
+        interfaces = is.env.counted.interfaces;
+        prototypes = is.env.counted.prototypes;
+        params = counts_of_params h.params is.counted;
+        locals = tt;
+        known_globals = is.env.counted.known_globals;
+        known_locals = tt;
+      };
     }
 
-entered_result : (h : Headed) → IsHeaded h → IsResult (entered h).scene.structs h.result
+pub entered_result : (h : Headed) → IsHeaded h → IsResult (entered h).scene.structs h.result
 unfolding entered
 entered_result h is = is.result
 
-entered_params : (h : Headed) → (entered h).scene.params ≡ typed_params h.params
+pub entered_params : (h : Headed) → (entered h).scene.params ≡ typed_params h.params
 unfolding entered
 entered_params h = refl
 
--- a body that is well typed in the scene at its end, but for the bound of its labels
+-- a body that is well typed in the scene at its end
 pub record IsBodied (h : Headed) (f : Function) : Type 0 where
   pub scene : Scene
   pub fine : IsScene scene
@@ -103,7 +120,7 @@ pub record IsBodied (h : Headed) (f : Function) : Type 0 where
   pub locals : scene.locals ≡ f.locals
   pub number : f.prototype ≡ h.number
   pub grows : Grows (entered h).scene scene
-  pub body : AlongAll (IsStepBut (around scene) h.result) (with_exits outside f.body)
+  pub body : AlongAll (IsStep (around scene) h.result) (with_exits outside f.body)
 
 pub body_is : (h : Headed) (name : Name) (body : List Statement) → IsHeaded h → AllByRecursion IsFormedStmt body → Holds (λ (done : Function × Env). IsBodied h done.0) (bodied h name body)
 body_is h name body is formed =

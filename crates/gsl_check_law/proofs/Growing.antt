@@ -1,10 +1,9 @@
 -- What is well typed stays so where lists grow at their ends.
-use Rattle.std.proofs.Common.{◌≡◌, refl, sym, ap, ◌∙◌, subst, ℕ, zero, suc, ◌≤◌, List, [], ◌∷◌, ◌++◌, map, length, slice_get, Option, Some, None, unwrap_or, Bool, not, ◌&&◌, ◌||◌, IsTrue, nat_le, inl, inr, arith}
+use Rattle.std.proofs.Common.{◌≡◌, refl, sym, ap, ◌∙◌, subst, ℕ, zero, suc, ◌≤◌, List, [], ◌∷◌, map, length, slice_get, Option, Some, None, unwrap_or, Bool, not, ◌&&◌, ◌||◌, IsTrue, nat_le, inl, inr}
 use Rattle.std.specs.List.{AllByRecursion}
 use Rattle.std.proofs.lemmas.Option.{none-some}
 use Rattle.gsl_types.specs.Known.{IsSound}
 use Rattle.gsl_types.proofs.Layers.{sound_stays}
-use Rattle.gsl_types.specs.Leaves.{told_leaves}
 use Rattle.gsl_types.specs.declared.ty.Direction.{Direction}
 use Rattle.gsl_types.specs.declared.ty.Direction.TheVariants.{In, Out, InOut}
 use Rattle.gsl_types.specs.declared.ty.Ty.{Ty}
@@ -27,78 +26,15 @@ use Rattle.gsl_tree.specs.Constants.{constant_of, known_at}
 use Rattle.gsl_tree.specs.Paths.{test_of, kind_in, unreadable_by, writable_by, is_unreadable, is_writable, is_variable, is_output, is_whole_copy, is_small, is_aggregate, read_parts, written_parts, params_at, going_in, coming_out, repeats}
 use Rattle.gsl_values.specs.Vectors.{components as picked}
 use Rattle.gsl_tree.specs.Trees.{type_of, form_of, parts_of, Throughout, ThroughoutAll}
-use Rattle.gsl_tree.specs.Values.{is_value_of}
-use Rattle.gsl_tree.specs.Weights.{height_of, most_high}
+use Rattle.gsl_tree.specs.Weights.{most_high}
 use Rattle.gsl_tree.specs.Expressions.{IsExpr, IsNode, HasType, IsBuildKind, IsArgument, AreArguments, MayBeRead, MayBeWritten}
 use Rattle.gsl_typing.specs.declared.scene.Scene.{Scene}
 use Rattle.gsl_typing.specs.Scene.{around}
 use Rattle.gsl_check_law.specs.Scenes.{IsScene}
 use Rattle.gsl_check_law.proofs.Constants.{LeafKnown, stays_known}
+use Rattle.gsl_check_law.proofs.Longer.{Grows}
 use Rattle.gsl_check_law.proofs.Places.{in_range_too}
 use Rattle.gsl_check_law.proofs.Sounds.{type_sound}
-
--- what stands in the one list stands there in the other
-abbrev pub Front : {A : Type 0} → List A → List A → Type 0
-Front {A} xs ys = (k : ℕ) (x : A) → slice_get xs k ≡ Some x → slice_get ys k ≡ Some x
-
--- The lists of one scene begin those of another.
-pub record Grows (s t : Scene) : Type 0 where
-  pub stage : s.stage ≡ t.stage
-  pub structs : Front s.structs t.structs
-  pub count : length s.structs ≤ length t.structs
-  pub leaves : (u : Ty) → IsSound (length s.structs) u → told_leaves s.structs u ≡ told_leaves t.structs u
-  pub heights : (u : Ty) → IsSound (length s.structs) u → height_of s.structs u ≡ height_of t.structs u
-  pub values : (u : Ty) (v : Value) → IsSound (length s.structs) u → is_value_of s.structs u v ≡ is_value_of t.structs u v
-  pub globals : Front s.globals t.globals
-  pub blocks : Front s.blocks t.blocks
-  pub interfaces : Front s.interfaces t.interfaces
-  pub prototypes : Front s.prototypes t.prototypes
-  pub sizes : Front s.sizes t.sizes
-  pub params : s.params ≡ t.params
-  pub locals : Front s.locals t.locals
-
-pub grows_itself : (s : Scene) → Grows s s
-grows_itself s = record {
-  stage = refl;
-  structs = λ k x is. is;
-  count = omega arith;
-  leaves = λ u known. refl;
-  heights = λ u known. refl;
-  values = λ u v known. refl;
-  globals = λ k x is. is;
-  blocks = λ k x is. is;
-  interfaces = λ k x is. is;
-  prototypes = λ k x is. is;
-  sizes = λ k x is. is;
-  params = refl;
-  locals = λ k x is. is;
-}
-
-pub grows_then : (s t u : Scene) → Grows s t → Grows t u → Grows s u
-grows_then s t u a b =
-    let first = a.count in
-    let second = b.count in
-    record {
-      stage = a.stage ∙ b.stage;
-      structs = λ k x is. b.structs k x (a.structs k x is);
-      count = omega (arith, first, second);
-      leaves = λ v known. a.leaves v known ∙ b.leaves v (sound_stays (length s.structs) (length t.structs) first v known);
-      heights = λ v known. a.heights v known ∙ b.heights v (sound_stays (length s.structs) (length t.structs) first v known);
-      values = λ v w known. a.values v w known ∙ b.values v w (sound_stays (length s.structs) (length t.structs) first v known);
-      globals = λ k x is. b.globals k x (a.globals k x is);
-      blocks = λ k x is. b.blocks k x (a.blocks k x is);
-      interfaces = λ k x is. b.interfaces k x (a.interfaces k x is);
-      prototypes = λ k x is. b.prototypes k x (a.prototypes k x is);
-      sizes = λ k x is. b.sizes k x (a.sizes k x is);
-      params = a.params ∙ b.params;
-      locals = λ k x is. b.locals k x (a.locals k x is);
-    }
-
--- what is put behind a list leaves what stands in it
-pub front_append : {A : Type 0} (xs ys : List A) → Front xs (xs ++ ys)
-front_append [] ys k x is = elim (none-some x is) [ ]
-front_append (y ∷ xs) ys zero x is = is
-front_append (y ∷ xs) ys (suc k) x is = front_append xs ys k x is
 
 -- ---- a test of an expression, by its form
 
@@ -126,10 +62,10 @@ all_of_parts : (around : Around) (es : List Expr) → ThroughoutAll (IsNode arou
 all_of_parts around _ ThroughoutAll.none = tt
 all_of_parts around _ (ThroughoutAll.more e es is rest) = (is, all_of_parts around es rest)
 
-parts_all : (around : Around) (e : Expr) → IsExpr around e → AllByRecursion (IsExpr around) (parts_of (form_of e))
+pub parts_all : (around : Around) (e : Expr) → IsExpr around e → AllByRecursion (IsExpr around) (parts_of (form_of e))
 parts_all around _ (Throughout.whole e node parts) = all_of_parts around (parts_of (form_of e)) parts
 
-type_here : (around : Around) (e : Expr) → IsExpr around e → HasType around (form_of e) (type_of e)
+pub type_here : (around : Around) (e : Expr) → IsExpr around e → HasType around (form_of e) (type_of e)
 type_here around _ (Throughout.whole e node parts) = node.type
 
 module _ (s t : Scene) (fine : IsScene s) (grows : Grows s t) where

@@ -52,6 +52,7 @@ use Rattle.gsl_check_law.proofs.Building.{PartsSound, HasSoundParts, AllTaken, r
 use Rattle.gsl_check_law.proofs.Sizing.{void_sound, array_parts}
 use Rattle.gsl_check_law.proofs.Building.{sound_parts}
 use Rattle.gsl_check_law.proofs.Phrases.{taken_is}
+use Rattle.gsl_check_law.specs.Small.{IsCounted}
 
 -- ---- a vector as a list of its components
 
@@ -163,8 +164,8 @@ module _ (scene : Scene) (fine : IsScene scene) where
 
 -- a type as it is written, over so many structs
 abbrev pub GoodAt : ℕ → Written → Type 0
-GoodAt count (Whole t) = IsSound count t
-GoodAt count (Open place e) = IsSound count e
+GoodAt count (Whole t) = IsSound count t × IsCounted t
+GoodAt count (Open place e) = IsSound count e × IsCounted e
 
 -- ---- initialisers, by the fold of the syntax tree
 
@@ -215,8 +216,8 @@ module _ (env : Env) (fine : IsEnv env) where
   GoodWritten w = GoodAt (length scene.structs) w
 
   needed_sound : (w : Written) (n : ℕ) → GoodWritten w → HasSoundParts (length scene.structs) (needed w n)
-  needed_sound (Whole t) n is = sound_parts (length scene.structs) t is
-  needed_sound (Open place e) n is = array_parts (length scene.structs) e n is
+  needed_sound (Whole t) n is = sound_parts (length scene.structs) t is.0
+  needed_sound (Open place e) n is = array_parts (length scene.structs) e n is.0
 
   -- what a variable begins as is well typed
   pub initial_typed : (w : Written) (init : Init) → GoodWritten w → IsFormedInit init → Holds (IsTaken scene) (initial env w init)

@@ -23,12 +23,13 @@ use Rattle.gsl_check_stmt.specs.declared.within.Within.{Within}
 use Rattle.gsl_check_stmt.specs.Rules.{unless_wrong}
 use Rattle.gsl_check_stmt.specs.Statements.{Test, Head, tested, tested_if, eval, eval_if, header, behind_header, while_head, for_head, loop_of, loop_done, looped, behind_body, do_loop, in_loop}
 use Rattle.gsl_check_law.specs.Formed.{IsFormed, formed_if, init_part_formed}
-use Rattle.gsl_check_law.specs.Labels.{exits_of, IsStmtBut}
+use Rattle.gsl_check_law.specs.Labels.{exits_of}
 use Rattle.gsl_check_law.specs.Scenes.{IsScene, IsEnv}
-use Rattle.gsl_check_law.proofs.Growing.{Grows, grows_itself, grows_then}
+use Rattle.gsl_check_law.proofs.Longer.{Grows, grows_itself, grows_then}
 use Rattle.gsl_check_law.proofs.Standing.{stmt_grows}
 use Rattle.gsl_check_law.proofs.Declarators.{Did, stmt_at, declaration_typed}
 use Rattle.gsl_check_law.proofs.Stated.{opened_env, closed_env, Readable, TestIs, TestIfIs, StepIfIs, test_if_grows, step_if_grows, tested_is, tested_if_is, eval_reads, eval_if_is, unless_holds, HasResult, keeps_result, StepIs, Stands}
+use Rattle.gsl_tree.specs.Statements.{IsStmt}
 
 module _ (result : Ty) (within : Within) where
   abbrev exits : Exits
@@ -36,7 +37,7 @@ module _ (result : Ty) (within : Within) where
 
   abbrev FirstIs : Scene → Option Stmt → Type 0
   FirstIs scene None = Unit {0}
-  FirstIs scene (Some s) = IsStmtBut (around scene) result exits s
+  FirstIs scene (Some s) = IsStmt (around scene) result exits s
 
   first_grows : (s t : Scene) → IsScene s → Grows s t → (x : Option Stmt) → FirstIs s x → FirstIs t x
   first_grows s t fine grows None is = tt
@@ -82,24 +83,24 @@ module _ (result : Ty) (within : Within) where
 
   -- ---- the loop
 
-  loop_is : (scene : Scene) (place : Place) (test : Option Test) (step : Option Expr) (body : Stmt) → TestIfIs scene test → StepIfIs scene step → IsStmtBut (around scene) result trees.in_loop body
-      → Holds (λ (s : Stmt). IsStmtBut (around scene) result exits s) (loop_of place test step body)
+  loop_is : (scene : Scene) (place : Place) (test : Option Test) (step : Option Expr) (body : Stmt) → TestIfIs scene test → StepIfIs scene step → IsStmt (around scene) result trees.in_loop body
+      → Holds (λ (s : Stmt). IsStmt (around scene) result exits s) (loop_of place test step body)
   unfolding loop_of
   loop_is scene place None None body test_is step_is is = stmt_at (around scene) result exits (stmt.Loop None None body false) (Stmt-F.Loop None None body false) (outs-Loop None None body false) tt tt tt (AlongAll.more (trees.in_loop, body) [] is AlongAll.none)
   loop_is scene place None (Some e) body test_is step_is is =
       stmt_at (around scene) result exits (stmt.Loop None (Some e) body false) (Stmt-F.Loop None (Some e) body false) (outs-Loop None (Some e) body false) tt (step_is.0, tt) (step_is.1, tt) (AlongAll.more (trees.in_loop, body) [] is AlongAll.none)
   loop_is scene place (Some t) None body test_is step_is is =
-      unless_holds (λ (s : Stmt). IsStmtBut (around scene) result exits s) place t.1 (Ok (stmt.Loop (Some t.0) None body false))
+      unless_holds (λ (s : Stmt). IsStmt (around scene) result exits s) place t.1 (Ok (stmt.Loop (Some t.0) None body false))
       (λ none.
       let right = test_is.right none in
       stmt_at (around scene) result exits (stmt.Loop (Some t.0) None body false) (Stmt-F.Loop (Some t.0) None body false) (outs-Loop (Some t.0) None body false) right.1 (test_is.expr, tt) (right.0, tt) (AlongAll.more (trees.in_loop, body) [] is AlongAll.none))
   loop_is scene place (Some t) (Some e) body test_is step_is is =
-      unless_holds (λ (s : Stmt). IsStmtBut (around scene) result exits s) place t.1 (Ok (stmt.Loop (Some t.0) (Some e) body false))
+      unless_holds (λ (s : Stmt). IsStmt (around scene) result exits s) place t.1 (Ok (stmt.Loop (Some t.0) (Some e) body false))
       (λ none.
       let right = test_is.right none in
       stmt_at (around scene) result exits (stmt.Loop (Some t.0) (Some e) body false) (Stmt-F.Loop (Some t.0) (Some e) body false) (outs-Loop (Some t.0) (Some e) body false) right.1 (test_is.expr, (step_is.0, tt)) (right.0, (step_is.1, tt)) (AlongAll.more (trees.in_loop, body) [] is AlongAll.none))
 
-  behind_is : (scene : Scene) (first : Option Stmt) (loop : Stmt) → FirstIs scene first → IsStmtBut (around scene) result exits loop → IsStmtBut (around scene) result exits (behind_header first loop)
+  behind_is : (scene : Scene) (first : Option Stmt) (loop : Stmt) → FirstIs scene first → IsStmt (around scene) result exits loop → IsStmt (around scene) result exits (behind_header first loop)
   behind_is scene None loop first_is is = is
   behind_is scene (Some s) loop first_is is =
       stmt_at (around scene) result exits (stmt.Group (s ∷ loop ∷ [])) (Stmt-F.Group (s ∷ loop ∷ [])) (outs-Group (s ∷ loop ∷ [])) tt tt tt (AlongAll.more (exits, s) ((exits, loop) ∷ []) first_is (AlongAll.more (exits, loop) [] is AlongAll.none))
@@ -111,7 +112,7 @@ module _ (result : Ty) (within : Within) where
       (λ done did.
       let s = head.3.scene in
       let t = done.1.scene in
-      holds_after (λ (x : Stmt). IsStmtBut (around t) result exits x) (Did result exits env) (loop_of place head.1 head.2 done.0) (λ x. Ok (behind_header head.0 x, closed done.1))
+      holds_after (λ (x : Stmt). IsStmt (around t) result exits x) (Did result exits env) (loop_of place head.1 head.2 done.0) (λ x. Ok (behind_header head.0 x, closed done.1))
       (loop_is t place head.1 head.2 done.0 (test_if_grows s t is.env.scene did.grows head.1 is.test) (step_if_grows s t is.env.scene did.grows head.2 is.step) did.stmt)
       (λ x loop. record { env = closed_env done.1 did.env; grows = grows_then env.scene s t is.grows did.grows; stmt = behind_is t head.0 x (first_grows s t is.env.scene did.grows head.0 is.first) loop }))
 

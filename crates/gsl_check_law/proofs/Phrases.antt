@@ -8,7 +8,7 @@ use Rattle.gsl_syntax.specs.declared.expr.Expr.{Expr as Syntax}
 use Rattle.gsl_syntax.specs.declared.expr.TypeSpec.{TypeSpec}
 use Rattle.gsl_syntax.specs.declared.expr.Dim.{Dim}
 use Rattle.gsl_syntax.specs.declared.expr.Dim.TheOpen.{Expr-F, TypeSpec-F, Dim-F}
-use Rattle.gsl_syntax.specs.declared.expr.Dim.TheFolds.{fold-roll-Expr, fold-roll-TypeSpec, fold-roll-Dim, fold-Expr, ind-Expr, ind-TypeSpec, ind-Dim, map-Expr, map-TypeSpec, map-Dim}
+use Rattle.gsl_syntax.specs.declared.expr.Dim.TheFolds.{fold-roll-Expr, fold-roll-TypeSpec, fold-roll-Dim, ind-Expr, ind-TypeSpec, ind-Dim, map-Expr, map-TypeSpec, map-Dim}
 use Rattle.gsl_syntax.specs.declared.expr.Dim.TheViews.{roll-Expr, roll-TypeSpec, roll-Dim}
 use Rattle.gsl_types.specs.declared.ty.Scalar.TheVariants.{Bool as Boolean, Int, Uint}
 use Rattle.gsl_tree.specs.declared.expr.Expr.{Expr}
@@ -30,8 +30,8 @@ use Rattle.gsl_check_expr.specs.InOrder.{each}
 use Rattle.gsl_check_expr.specs.Sizes.{Bracket, size_in, dimensions}
 use Rattle.gsl_check_expr.specs.Callees.{Callee, called}
 use Rattle.gsl_check_expr.specs.Expressions.{Answer, taken, dim_by, callee_by, by_parts, in_row, call_answer, behind, sequence, member_answer, answer, callee, bracket, expression, taken_expression}
-use Rattle.gsl_check_decl.proofs.Gathering.{Holds, holds_after, holds_then}
-use Rattle.gsl_check_law.specs.Formed.{all_formed, rest_formed, some_formed, formed_by, is_formed, IsFormed}
+use Rattle.gsl_check_decl.proofs.Gathering.{Holds, holds_after}
+use Rattle.gsl_check_law.specs.Formed.{all_formed, rest_formed, some_formed, formed_by, is_formed, IsFormed, spec_formed, dim_formed, spec_formed_by, dim_formed_by}
 use Rattle.gsl_check_law.specs.Parts.{IsPart, IsTaken}
 use Rattle.gsl_check_law.specs.Scenes.{IsEnv}
 use Rattle.gsl_check_law.proofs.Parts.{taken_whole}
@@ -40,6 +40,7 @@ use Rattle.gsl_check_law.proofs.Places.{index_typed, member_typed, block_member_
 use Rattle.gsl_check_law.proofs.Building.{AllRead, reads_of, exprs_of}
 use Rattle.gsl_check_law.proofs.Sizing.{GoodBracket, GoodDimensions, IsStated, Positive, size_positive, dimensions_good}
 use Rattle.gsl_check_law.proofs.Naming.{literal_typed, named_typed, called_typed}
+use Rattle.gsl_check_law.proofs.Counted.{constant_small}
 
 -- ---- lists with one more
 
@@ -122,10 +123,10 @@ module _ (env : Env) (fine : IsEnv env) where
   -- ---- by the fold of the syntax tree
 
   abbrev GoodDim : Dim → Type 0
-  GoodDim d = GoodBracket (bracket env d)
+  GoodDim d = IsTrue (dim_formed d) → GoodBracket (bracket env d)
 
   abbrev GoodSpec : TypeSpec → Type 0
-  GoodSpec t = AllByRecursion GoodBracket (callee env t).brackets
+  GoodSpec t = IsTrue (spec_formed t) → AllByRecursion GoodBracket (callee env t).brackets
 
   abbrev Sound : Syntax → Type 0
   Sound e = IsFormed e → Typed (answer env e)
@@ -139,38 +140,45 @@ module _ (env : Env) (fine : IsEnv env) where
   abbrev Spec : Type 0
   Spec = (t : TypeSpec) × GoodSpec t
 
-  sized : (place : Place) (a : Answer) → Holds IsStated (taken env a >>= (λ x. size_in scene place x >>= (λ size. Ok (Some size))))
-  sized place a = holds_then IsStated (taken env a) (λ x. size_in scene place x >>= (λ size. Ok (Some size)))
-      (λ x. holds_after Positive IsStated (size_in scene place x) (λ size. Ok (Some size)) (size_positive scene place x) (λ size is. is))
+  sized : (place : Place) (a : Answer) → Typed a → Holds IsStated (taken env a >>= (λ x. size_in scene place x >>= (λ size. Ok (Some size))))
+  sized place a is = holds_after (IsTaken scene) IsStated (taken env a) (λ x. size_in scene place x >>= (λ size. Ok (Some size))) (taken_typed a is)
+      (λ x taken. holds_after Positive IsStated (size_in scene place x) (λ size. Ok (Some size)) (size_positive scene place x (constant_small scene fine.scene fine.counted x.expr taken.part.expr)) (λ size is. is))
+
+  dim_is : (layer : Dim-F Dim Syntax TypeSpec) → IsTrue (dim_formed (roll-Dim layer)) → IsTrue (dim_formed_by (map-Dim _ _ _ _ _ _ dim_formed is_formed spec_formed layer))
+  unfolding dim_formed is_formed spec_formed
+  dim_is layer is = sym (fold-roll-Dim Bool Bool Bool dim_formed_by formed_by spec_formed_by layer) ∙ is
+
+  spec_is : (layer : TypeSpec-F Dim Syntax TypeSpec) → IsTrue (spec_formed (roll-TypeSpec layer)) → IsTrue (spec_formed_by (map-TypeSpec _ _ _ _ _ _ dim_formed is_formed spec_formed layer))
+  unfolding dim_formed is_formed spec_formed
+  spec_is layer is = sym (fold-roll-TypeSpec Bool Bool Bool dim_formed_by formed_by spec_formed_by layer) ∙ is
 
   dim_layer : (y : Dim-F Size Child Spec) → GoodDim (roll-Dim (map-Dim _ _ _ _ _ _ (λ d. d.0) (λ e. e.0) (λ t. t.0) y))
-  unfolding bracket
-  dim_layer (Dim-F.Open place) = subst GoodBracket (sym (fold-roll-Dim Bracket Answer Callee (dim_by env) (by_parts env) callee_by (Dim-F.Open place))) tt
-  dim_layer (Dim-F.Sized place e) =
-      subst GoodBracket (sym (fold-roll-Dim Bracket Answer Callee (dim_by env) (by_parts env) callee_by (Dim-F.Sized place e.0))) (sized place (answer_of e.0))
-    where
-      answer_of : Syntax → Answer
-      answer_of e = fold-Expr Bracket Answer Callee (dim_by env) (by_parts env) callee_by e
+  unfolding bracket answer callee
+  dim_layer (Dim-F.Open place) is = subst GoodBracket (sym (fold-roll-Dim Bracket Answer Callee (dim_by env) (by_parts env) callee_by (Dim-F.Open place))) tt
+  dim_layer (Dim-F.Sized place e) is =
+      subst GoodBracket (sym (fold-roll-Dim Bracket Answer Callee (dim_by env) (by_parts env) callee_by (Dim-F.Sized place e.0))) (sized place (answer env e.0) (e.1 (dim_is (Dim-F.Sized place e.0) is)))
 
-  all_sizes : (dims : List Size) → AllByRecursion GoodBracket (map (bracket env) (map (λ (d : Size). d.0) dims))
-  all_sizes [] = tt
-  all_sizes (d ∷ dims) = (d.1, all_sizes dims)
+  all_sizes : (dims : List Size) → IsTrue (all_formed (map dim_formed (map (λ (d : Size). d.0) dims))) → AllByRecursion GoodBracket (map (bracket env) (map (λ (d : Size). d.0) dims))
+  all_sizes [] is = tt
+  all_sizes (d ∷ dims) is = let parts = and_parts (dim_formed d.0) (all_formed (map dim_formed (map (λ (d : Size). d.0) dims))) is in (d.1 parts.0, all_sizes dims parts.1)
 
   spec_layer : (y : TypeSpec-F Size Child Spec) → GoodSpec (roll-TypeSpec (map-TypeSpec _ _ _ _ _ _ (λ d. d.0) (λ e. e.0) (λ t. t.0) y))
   unfolding callee bracket
-  spec_layer (TypeSpec-F.Basic place b dims) =
-      subst (λ (c : Callee). AllByRecursion GoodBracket c.brackets) (sym (fold-roll-TypeSpec Bracket Answer Callee (dim_by env) (by_parts env) callee_by (TypeSpec-F.Basic place b (map (λ (d : Size). d.0) dims)))) (all_sizes dims)
-  spec_layer (TypeSpec-F.Named place name dims) =
-      subst (λ (c : Callee). AllByRecursion GoodBracket c.brackets) (sym (fold-roll-TypeSpec Bracket Answer Callee (dim_by env) (by_parts env) callee_by (TypeSpec-F.Named place name (map (λ (d : Size). d.0) dims)))) (all_sizes dims)
+  spec_layer (TypeSpec-F.Basic place b dims) is =
+      let all = map (λ (d : Size). d.0) dims in
+      subst (λ (c : Callee). AllByRecursion GoodBracket c.brackets) (sym (fold-roll-TypeSpec Bracket Answer Callee (dim_by env) (by_parts env) callee_by (TypeSpec-F.Basic place b all))) (all_sizes dims (spec_is (TypeSpec-F.Basic place b all) is))
+  spec_layer (TypeSpec-F.Named place name dims) is =
+      let all = map (λ (d : Size). d.0) dims in
+      subst (λ (c : Callee). AllByRecursion GoodBracket c.brackets) (sym (fold-roll-TypeSpec Bracket Answer Callee (dim_by env) (by_parts env) callee_by (TypeSpec-F.Named place name all))) (all_sizes dims (spec_is (TypeSpec-F.Named place name all) is))
 
   -- an expression by its layer
   opens : (layer : Expr-F Dim Syntax TypeSpec) → Typed (by_parts env (map-Expr _ _ _ _ _ _ (bracket env) (answer env) (callee env) layer)) → Typed (answer env (roll-Expr layer))
   unfolding answer callee bracket
   opens layer is = subst Typed (sym (fold-roll-Expr Bracket Answer Callee (dim_by env) (by_parts env) callee_by layer)) is
 
-  formed : (layer : Expr-F Dim Syntax TypeSpec) → IsFormed (roll-Expr layer) → IsTrue (formed_by (map-Expr _ _ _ _ _ _ (λ (d : Dim). tt) is_formed (λ (t : TypeSpec). tt) layer))
-  unfolding is_formed
-  formed layer is = sym (fold-roll-Expr (Unit {0}) Bool (Unit {0}) (λ _. tt) formed_by (λ _. tt) layer) ∙ is
+  formed : (layer : Expr-F Dim Syntax TypeSpec) → IsFormed (roll-Expr layer) → IsTrue (formed_by (map-Expr _ _ _ _ _ _ dim_formed is_formed spec_formed layer))
+  unfolding is_formed dim_formed spec_formed
+  formed layer is = sym (fold-roll-Expr Bool Bool Bool dim_formed_by formed_by spec_formed_by layer) ∙ is
 
   all_args : (args : List Child) → IsTrue (all_formed (map is_formed (map (λ (e : Child). e.0) args))) → AllByRecursion Typed (map (answer env) (map (λ (e : Child). e.0) args))
   all_args [] is = tt
@@ -206,9 +214,11 @@ module _ (env : Env) (fine : IsEnv env) where
   layer (Expr-F.Unsigned p w) is = opens (Expr-F.Unsigned p w) (literal_typed scene p Uint w (formed (Expr-F.Unsigned p w) is))
   layer (Expr-F.Bool p b) is = opens (Expr-F.Bool p b) (literal_typed scene p Boolean (if b then 1 else 0) (truth_word b))
   layer (Expr-F.Paren p e) is = opens (Expr-F.Paren p e.0) (e.1 (formed (Expr-F.Paren p e.0) is))
-  layer (Expr-F.CallVoid t) is = opens (Expr-F.CallVoid t.0) (call_typed (callee env t.0) [] t.1 tt)
+  layer (Expr-F.CallVoid t) is = opens (Expr-F.CallVoid t.0) (call_typed (callee env t.0) [] (t.1 (formed (Expr-F.CallVoid t.0) is)) tt)
   layer (Expr-F.Call t args) is =
-      opens (Expr-F.Call t.0 (map (λ (e : Child). e.0) args)) (call_typed (callee env t.0) (map (answer env) (map (λ (e : Child). e.0) args)) t.1 (all_args args (formed (Expr-F.Call t.0 (map (λ (e : Child). e.0) args)) is)))
+      let syntax = map (λ (e : Child). e.0) args in
+      let parts = and_parts (spec_formed t.0) (all_formed (map is_formed syntax)) (formed (Expr-F.Call t.0 syntax) is) in
+      opens (Expr-F.Call t.0 syntax) (call_typed (callee env t.0) (map (answer env) syntax) (t.1 parts.0) (all_args args parts.1))
   layer (Expr-F.Index p a i) is =
       let parts = and_parts (is_formed a.0) (is_formed i.0) (formed (Expr-F.Index p a.0 i.0) is) in
       opens (Expr-F.Index p a.0 i.0) (holds_after (IsPart scene) (IsPart scene) (answer env a.0).value (λ x. taken env (answer env i.0) >>= (λ y. index scene p x y)) (a.1 parts.0)
@@ -239,8 +249,8 @@ module _ (env : Env) (fine : IsEnv env) where
   pub taken_is : (e : Syntax) → IsFormed e → Holds (IsTaken scene) (taken_expression env e)
   taken_is e is = taken_typed (answer env e) (answer_typed e is)
 
-  pub bracket_good : (d : Dim) → GoodBracket (bracket env d)
+  pub bracket_good : (d : Dim) → IsTrue (dim_formed d) → GoodBracket (bracket env d)
   bracket_good = ind-Dim GoodDim Sound GoodSpec (λ x y is. subst (λ z. GoodDim (roll-Dim z)) is (dim_layer y)) (λ x y is. subst (λ z. Sound (roll-Expr z)) is (layer y)) (λ x y is. subst (λ z. GoodSpec (roll-TypeSpec z)) is (spec_layer y))
 
-  pub callee_good : (t : TypeSpec) → AllByRecursion GoodBracket (callee env t).brackets
+  pub callee_good : (t : TypeSpec) → IsTrue (spec_formed t) → AllByRecursion GoodBracket (callee env t).brackets
   callee_good = ind-TypeSpec GoodDim Sound GoodSpec (λ x y is. subst (λ z. GoodDim (roll-Dim z)) is (dim_layer y)) (λ x y is. subst (λ z. Sound (roll-Expr z)) is (layer y)) (λ x y is. subst (λ z. GoodSpec (roll-TypeSpec z)) is (spec_layer y))

@@ -1,5 +1,5 @@
 -- Sizes in brackets are at least 1, and types with them are types.
-use Rattle.std.proofs.Common.{sym, ap, ◌∙◌, subst, ℕ, ◌≤◌, ◌^◌, List, [], ◌∷◌, Option, Some, None, Bool, not, IsTrue, nat_le, nat_lt, Ok, arith}
+use Rattle.std.proofs.Common.{sym, ap, ◌∙◌, subst, ℕ, ◌≤◌, ◌^◌, List, [], ◌∷◌, Option, Some, None, Bool, not, IsTrue, nat_le, nat_lt, Ok, arith, ◌<◌, lt-ltb}
 use Rattle.std.specs.List.{AllByRecursion}
 use Rattle.std.proofs.lemmas.Bool.{and_parts, and_from, leb-true, le-leb}
 use Rattle.gsl_base.specs.Checked.{◌>>=◌}
@@ -15,7 +15,7 @@ use Rattle.gsl_types.specs.declared.ty.Ty.TheOpen.{Ty-F}
 use Rattle.gsl_types.specs.declared.ty.Ty.TheFolds.{fold-roll-Ty}
 use Rattle.gsl_types.specs.declared.ty.Ty.TheViews.{out-Ty}
 use Rattle.gsl_types.specs.declared.ty.Ty.TheVariants as ty
-use Rattle.gsl_types.specs.declared.ty.Ty.TheVariants.{rolls-Void, outs-Array}
+use Rattle.gsl_types.specs.declared.ty.Ty.TheVariants.{rolls-Void, outs-Array, rolls-Array}
 use Rattle.gsl_overload.proofs.Same.{no_more}
 use Rattle.gsl_tree.specs.Constants.{constant_of}
 use Rattle.gsl_typing.specs.declared.scene.Scene.{Scene}
@@ -24,12 +24,17 @@ use Rattle.gsl_typing.specs.Scene.{type_in}
 use Rattle.gsl_typing.specs.Uses.{is_unread}
 use Rattle.gsl_check_expr.specs.declared.brackets.Dimensions.{Dimensions}
 use Rattle.gsl_check_expr.specs.declared.brackets.Dimensions.TheVariants.{Plain, Sized}
-use Rattle.gsl_check_expr.specs.Sizes.{is_not_constant, is_left_open, word_of, is_size_kind, size_in, Bracket, stated, stated_size, all_stated, arrayed, dimensions, with_dimensions}
+use Rattle.gsl_check_expr.specs.Sizes.{is_not_constant, is_left_open, word_of, is_size_kind, size_in, Bracket, stated, stated_size, all_stated, arrayed, dimensions, with_dimensions, known_word}
 use Rattle.gsl_check_expr.specs.Callees.{basic_type}
 use Rattle.gsl_check_decl.proofs.Gathering.{Holds, holds_after}
 use Rattle.gsl_check_law.proofs.Rows.{row, not_false}
 use Rattle.gsl_check_law.proofs.Types.{IsCount, sound_shape}
 use Rattle.gsl_check_law.proofs.Building.{PartsSound, HasSoundParts, sound_parts}
+use Rattle.gsl_check_law.specs.Small.{IsCounted, IsSmallFolded, is_counted, counted_layer}
+use Rattle.gsl_tree.specs.declared.folded.Folded.{Folded}
+use Rattle.gsl_tree.specs.declared.folded.Folded.TheVariants.{Known, NotConstant, Free}
+use Rattle.gsl_types.specs.declared.ty.Ty.TheVariants.{rolls-Array}
+use Rattle.gsl_check_law.proofs.Smalls.{word_in_small}
 
 -- ---- a size
 
@@ -44,16 +49,25 @@ size_layer (Ty-F.Runtime e) word is = no_more is
 size_layer (Ty-F.Struct n) word is = no_more is
 
 abbrev pub Positive : ℕ → Type 0
-Positive n = 1 ≤ n
+Positive n = (1 ≤ n) × (n < 2 ^ 32)
 
-pub size_positive : (scene : Scene) (place : Place) (e : Part) → Holds Positive (size_in scene place e)
+known_word_small : (f : Folded) → IsSmallFolded f → known_word f < 2 ^ 32
+known_word_small (Known v) is = word_in_small v is
+known_word_small NotConstant is = omega arith
+known_word_small Free is = omega arith
+
+-- the word of what is known is one
+pub word_of_small : (scene : Scene) (e : Part) → IsSmallFolded (constant_of scene.consts e.expr) → word_of scene e < 2 ^ 32
+word_of_small scene e is = known_word_small (constant_of scene.consts e.expr) is
+
+pub size_positive : (scene : Scene) (place : Place) (e : Part) → IsSmallFolded (constant_of scene.consts e.expr) → Holds Positive (size_in scene place e)
 unfolding size_in
-size_positive scene place e =
+size_positive scene place e small =
     row Positive place E0507 (is_unread scene e) ((E0601, is_not_constant (constant_of scene.consts e.expr)) ∷ (E0602, is_left_open (constant_of scene.consts e.expr)) ∷ (E0603, not (is_size_kind (out-Ty (type_in e)) (word_of scene e))) ∷ []) (Ok (word_of scene e))
     (λ _. row Positive place E0601 (is_not_constant (constant_of scene.consts e.expr)) ((E0602, is_left_open (constant_of scene.consts e.expr)) ∷ (E0603, not (is_size_kind (out-Ty (type_in e)) (word_of scene e))) ∷ []) (Ok (word_of scene e))
     (λ _. row Positive place E0602 (is_left_open (constant_of scene.consts e.expr)) ((E0603, not (is_size_kind (out-Ty (type_in e)) (word_of scene e))) ∷ []) (Ok (word_of scene e))
     (λ _. row Positive place E0603 (not (is_size_kind (out-Ty (type_in e)) (word_of scene e))) [] (Ok (word_of scene e))
-    (λ is. size_layer (out-Ty (type_in e)) (word_of scene e) (not_false _ is)))))
+    (λ is. (size_layer (out-Ty (type_in e)) (word_of scene e) (not_false _ is), word_of_small scene e small)))))
 
 -- ---- brackets
 
@@ -89,8 +103,15 @@ dimensions_good (b ∷ brackets) all =
 
 -- ---- types with brackets
 
+pub array_counted : (e : Ty) (n : ℕ) → n < 2 ^ 32 → IsCounted e → IsCounted (ty.Array e n)
+array_counted e n few is = ap is_counted (sym (rolls-Array e n)) ∙ fold-roll-Ty Bool counted_layer (Ty-F.Array e n) ∙ and_from (nat_lt n (2 ^ 32)) (is_counted e) (lt-ltb n (2 ^ 32) few) is
+
+pub arrayed_counted : (sizes : List ℕ) (e : Ty) → AllByRecursion Positive sizes → IsCounted e → IsCounted (arrayed sizes e)
+arrayed_counted [] e all is = is
+arrayed_counted (n ∷ sizes) e all is = array_counted (arrayed sizes e) n all.0.1 (arrayed_counted sizes e all.1 is)
+
 pub array_sound : (count : ℕ) (e : Ty) (n : ℕ) → Positive n → IsSound count e → IsSound count (ty.Array e n)
-array_sound count e n some is = sound_array count e n ∙ and_from (nat_le 1 n) (sound count e) (le-leb 1 n some) is
+array_sound count e n some is = sound_array count e n ∙ and_from (nat_le 1 n) (sound count e) (le-leb 1 n some.0) is
 
 pub arrayed_sound : (count : ℕ) (sizes : List ℕ) (e : Ty) → AllByRecursion Positive sizes → IsSound count e → IsSound count (arrayed sizes e)
 arrayed_sound count [] e all is = is

@@ -19,18 +19,19 @@ use Rattle.gsl_tree.specs.declared.stmt.Arm.{Arm}
 use Rattle.gsl_tree.specs.Trees.{Exits, Placed, exprs_of, inner_of, Along, AlongAll}
 use Rattle.gsl_tree.specs.Weights.{most_high}
 use Rattle.gsl_tree.specs.Expressions.{IsExpr, MayBeRead}
-use Rattle.gsl_check_law.specs.Labels.{IsStepBut, IsStmtBut, MayStandBut}
 use Rattle.gsl_tree.specs.WellTyped.{IsVariableType, IsResult}
 use Rattle.gsl_typing.specs.declared.scene.Scene.{Scene}
 use Rattle.gsl_typing.specs.Scene.{around}
 use Rattle.gsl_check_law.specs.Scenes.{IsScene, IsThere, AreThere}
 use Rattle.gsl_check_law.proofs.Found.{below, all_map}
-use Rattle.gsl_check_law.proofs.Growing.{Grows, expr_grows, read_grows}
+use Rattle.gsl_check_law.proofs.Longer.{Grows}
+use Rattle.gsl_check_law.proofs.Growing.{expr_grows, read_grows}
+use Rattle.gsl_tree.specs.Statements.{IsStep, IsStmt, MayStand}
 
 -- ---- statements
 
 module _ (s t : Scene) (fine : IsScene s) (grows : Grows s t) (result : Ty) where
-  stands_grows : (exits : Exits) (form : Stmt-F Stmt Arm) → MayStandBut (around s) result exits form → MayStandBut (around t) result exits form
+  stands_grows : (exits : Exits) (form : Stmt-F Stmt Arm) → MayStand (around s) result exits form → MayStand (around t) result exits form
   stands_grows exits Stmt-F.Empty is = is
   stands_grows exits (Stmt-F.Eval e) is = is
   stands_grows exits (Stmt-F.Declare n init) is = (is.0, grows.locals n is.0 is.1, is.2)
@@ -51,7 +52,7 @@ module _ (s t : Scene) (fine : IsScene s) (grows : Grows s t) (result : Ty) wher
   reads_grow [] all reads = tt
   reads_grow (e ∷ es) all reads = (read_grows s t fine grows e all.0 reads.0, reads_grow es all.1 reads.1)
 
-  step_grows : (exits : Exits) (x : Stmt) → IsStepBut (around s) result exits x → IsStepBut (around t) result exits x
+  step_grows : (exits : Exits) (x : Stmt) → IsStep (around s) result exits x → IsStep (around t) result exits x
   step_grows exits x is = record {
     stands = stands_grows exits (out-Stmt x) is.stands;
     typed = typed_grow (exprs_of (out-Stmt x)) is.typed;
@@ -59,10 +60,10 @@ module _ (s t : Scene) (fine : IsScene s) (grows : Grows s t) (result : Ty) wher
   }
 
   mutual
-    pub stmt_grows : (exits : Exits) (x : Stmt) → IsStmtBut (around s) result exits x → IsStmtBut (around t) result exits x
+    pub stmt_grows : (exits : Exits) (x : Stmt) → IsStmt (around s) result exits x → IsStmt (around t) result exits x
     stmt_grows _ _ (Along.whole exits x is inner) = Along.whole exits x (step_grows exits x is) (stmts_grow (inner_of exits (out-Stmt x)) inner)
 
-    pub stmts_grow : (all : List Placed) → AlongAll (IsStepBut (around s) result) all → AlongAll (IsStepBut (around t) result) all
+    pub stmts_grow : (all : List Placed) → AlongAll (IsStep (around s) result) all → AlongAll (IsStep (around t) result) all
     stmts_grow _ AlongAll.none = AlongAll.none
     stmts_grow _ (AlongAll.more p rest is others) = AlongAll.more p rest (stmt_grows p.0 p.1 is) (stmts_grow rest others)
 

@@ -37,7 +37,7 @@ use Rattle.gsl_check_stmt.specs.Rules.{alone, condition_fault, unless_wrong, bro
 use Rattle.gsl_check_stmt.specs.Switches.{misplaced_case, misplaced_default}
 use Rattle.gsl_check_stmt.specs.Statements.{Test, still, group, block, tested, tested_if, eval, eval_if, evaluated, stray_case, return_with, if_head, if_done, branch, branches, in_part}
 use Rattle.gsl_check_law.specs.Formed.{IsFormed, formed_if}
-use Rattle.gsl_check_law.specs.Labels.{IsStmtBut, exits_of}
+use Rattle.gsl_check_law.specs.Labels.{exits_of}
 use Rattle.gsl_check_law.specs.Parts.{IsPart, IsTaken}
 use Rattle.gsl_check_law.specs.Scenes.{IsScene, AreThere, IsEnv}
 use Rattle.gsl_check_law.proofs.Rows.{row, so, not_false}
@@ -46,14 +46,16 @@ use Rattle.gsl_check_law.proofs.Building.{plain_settled}
 use Rattle.gsl_check_law.proofs.Operators.{bool_is, boolean_settled, operand_of}
 use Rattle.gsl_check_law.proofs.Types.{IsSettled}
 use Rattle.gsl_check_law.proofs.Phrases.{answer_typed, taken_is}
-use Rattle.gsl_check_law.proofs.Growing.{Grows, grows_itself, grows_then, expr_grows, read_grows}
+use Rattle.gsl_check_law.proofs.Longer.{Grows, grows_itself, grows_then}
+use Rattle.gsl_check_law.proofs.Growing.{expr_grows, read_grows}
 use Rattle.gsl_check_law.proofs.Standing.{stmt_grows, result_grows}
 use Rattle.gsl_check_law.proofs.Declarators.{Did, DidAll, Does, stmt_at, turns}
+use Rattle.gsl_tree.specs.Statements.{IsStmt}
 
 -- ---- scopes
 
 pub opened_env : (env : Env) → IsEnv env → IsEnv (opened env)
-opened_env env fine = record { names = (tt, fine.names); scene = fine.scene }
+opened_env env fine = record { names = (tt, fine.names); scene = fine.scene; counted = fine.counted }
 
 outer_there : (s : Scene) (names : Scopes) → AllByRecursion (AreThere s) names → AllByRecursion (AreThere s) (outer names)
 outer_there s [] all = tt
@@ -64,7 +66,7 @@ ended_there s names true all = outer_there s names all
 ended_there s names false all = all
 
 pub closed_env : (env : Env) → IsEnv env → IsEnv (closed env)
-closed_env env fine = record { names = ended_there env.scene env.names (nat_lt 1 (length env.names)) fine.names; scene = fine.scene }
+closed_env env fine = record { names = ended_there env.scene env.names (nat_lt 1 (length env.names)) fine.names; scene = fine.scene; counted = fine.counted }
 
 -- ---- single expressions
 
@@ -170,7 +172,7 @@ module _ (result : Ty) where
   Stands step = (within : Within) → StepIs (exits_of within) (step within)
 
   -- what is declared stays as it was
-  stays : (exits : Exits) (env : Env) → IsEnv env → (s : Stmt) → IsStmtBut (around env.scene) result exits s → Did result exits env (s, env)
+  stays : (exits : Exits) (env : Env) → IsEnv env → (s : Stmt) → IsStmt (around env.scene) result exits s → Did result exits env (s, env)
   stays exits env fine s is = record { env = fine; grows = grows_itself env.scene; stmt = is }
 
   module _ (within : Within) where
@@ -189,16 +191,16 @@ module _ (result : Ty) where
     pub broken_is : (place : Place) → StepIs exits (still (broken within place))
     unfolding broken
     broken_is place env fine has =
-        holds_after (λ (s : Stmt). IsStmtBut (around env.scene) result exits s) (Did result exits env) (broken within place) (λ s. Ok (s, env))
-        (row (λ (s : Stmt). IsStmtBut (around env.scene) result exits s) place E0512 (not within.breaks) [] (Ok stmt.Break)
+        holds_after (λ (s : Stmt). IsStmt (around env.scene) result exits s) (Did result exits env) (broken within place) (λ s. Ok (s, env))
+        (row (λ (s : Stmt). IsStmt (around env.scene) result exits s) place E0512 (not within.breaks) [] (Ok stmt.Break)
         (λ may. stmt_at (around env.scene) result exits stmt.Break Stmt-F.Break outs-Break (not_false _ may) tt tt AlongAll.none))
         (λ s is. stays exits env fine s is)
 
     pub continued_is : (place : Place) → StepIs exits (still (continued within place))
     unfolding continued
     continued_is place env fine has =
-        holds_after (λ (s : Stmt). IsStmtBut (around env.scene) result exits s) (Did result exits env) (continued within place) (λ s. Ok (s, env))
-        (row (λ (s : Stmt). IsStmtBut (around env.scene) result exits s) place E0512 (not within.continues) [] (Ok stmt.Continue)
+        holds_after (λ (s : Stmt). IsStmt (around env.scene) result exits s) (Did result exits env) (continued within place) (λ s. Ok (s, env))
+        (row (λ (s : Stmt). IsStmt (around env.scene) result exits s) place E0512 (not within.continues) [] (Ok stmt.Continue)
         (λ may. stmt_at (around env.scene) result exits stmt.Continue Stmt-F.Continue outs-Continue (not_false _ may) tt tt AlongAll.none))
         (λ s is. stays exits env fine s is)
 
@@ -210,16 +212,16 @@ module _ (result : Ty) where
     pub discarded_is : (place : Place) → StepIs exits (λ env. still (discarded env.scene.stage place) env)
     unfolding discarded
     discarded_is place env fine has =
-        holds_after (λ (s : Stmt). IsStmtBut (around env.scene) result exits s) (Did result exits env) (discarded env.scene.stage place) (λ s. Ok (s, env))
-        (row (λ (s : Stmt). IsStmtBut (around env.scene) result exits s) place E0514 (not (is_fragment env.scene.stage)) [] (Ok stmt.Discard)
+        holds_after (λ (s : Stmt). IsStmt (around env.scene) result exits s) (Did result exits env) (discarded env.scene.stage place) (λ s. Ok (s, env))
+        (row (λ (s : Stmt). IsStmt (around env.scene) result exits s) place E0514 (not (is_fragment env.scene.stage)) [] (Ok stmt.Discard)
         (λ may. stmt_at (around env.scene) result exits stmt.Discard Stmt-F.Discard outs-Discard (fragment_is env.scene.stage (not_false _ may)) tt tt AlongAll.none))
         (λ s is. stays exits env fine s is)
 
     pub returned_is : (place : Place) → StepIs exits (still (returned result place))
     unfolding returned
     returned_is place env fine has =
-        holds_after (λ (s : Stmt). IsStmtBut (around env.scene) result exits s) (Did result exits env) (returned result place) (λ s. Ok (s, env))
-        (row (λ (s : Stmt). IsStmtBut (around env.scene) result exits s) place E0513 (not (is_void result)) [] (Ok (stmt.Return None))
+        holds_after (λ (s : Stmt). IsStmt (around env.scene) result exits s) (Did result exits env) (returned result place) (λ s. Ok (s, env))
+        (row (λ (s : Stmt). IsStmt (around env.scene) result exits s) place E0513 (not (is_void result)) [] (Ok (stmt.Return None))
         (λ may. stmt_at (around env.scene) result exits (stmt.Return None) (Stmt-F.Return None) (outs-Return None) (same_is result ty.Void (not_false _ may)) tt tt AlongAll.none))
         (λ s is. stays exits env fine s is)
 
@@ -232,12 +234,12 @@ module _ (result : Ty) where
     serves_result false false is also = no_more (sym also)
     serves_result true s is also = no_more (sym is)
 
-    value_is : (env : Env) → IsEnv env → HasResult env → (place : Place) (x : Part) → IsTaken env.scene x → Holds (λ (s : Stmt). IsStmtBut (around env.scene) result exits s) (returned_value env.scene result place x)
+    value_is : (env : Env) → IsEnv env → HasResult env → (place : Place) (x : Part) → IsTaken env.scene x → Holds (λ (s : Stmt). IsStmt (around env.scene) result exits s) (returned_value env.scene result place x)
     unfolding returned_value
     value_is env fine has place x taken =
-        row (λ (s : Stmt). IsStmtBut (around env.scene) result exits s) place E0504 (not (is_void result) && not (serves_as (type_in x) result)) ((E0507, is_unread env.scene x) ∷ (E0513, is_void result) ∷ []) (Ok (stmt.Return (Some (as_type result x.expr))))
-        (λ serves. row (λ (s : Stmt). IsStmtBut (around env.scene) result exits s) place E0507 (is_unread env.scene x) ((E0513, is_void result) ∷ []) (Ok (stmt.Return (Some (as_type result x.expr))))
-        (λ read. row (λ (s : Stmt). IsStmtBut (around env.scene) result exits s) place E0513 (is_void result) [] (Ok (stmt.Return (Some (as_type result x.expr))))
+        row (λ (s : Stmt). IsStmt (around env.scene) result exits s) place E0504 (not (is_void result) && not (serves_as (type_in x) result)) ((E0507, is_unread env.scene x) ∷ (E0513, is_void result) ∷ []) (Ok (stmt.Return (Some (as_type result x.expr))))
+        (λ serves. row (λ (s : Stmt). IsStmt (around env.scene) result exits s) place E0507 (is_unread env.scene x) ((E0513, is_void result) ∷ []) (Ok (stmt.Return (Some (as_type result x.expr))))
+        (λ read. row (λ (s : Stmt). IsStmt (around env.scene) result exits s) place E0513 (is_void result) [] (Ok (stmt.Return (Some (as_type result x.expr))))
         (λ not_void.
         let y = operand_of env.scene result x taken read (serves_result (is_void result) (serves_as (type_in x) result) not_void serves) (result_settled env.scene has not_void) in
         let apart : result ≢ ty.Void = λ is. true≢false (sym (ap is_void is ∙ same_itself ty.Void) ∙ not_void) in
@@ -247,7 +249,7 @@ module _ (result : Ty) where
     unfolding return_with
     return_is place e formed env fine has =
         holds_after (IsTaken env.scene) (Did result exits env) (taken_expression env e) (λ x. still (returned_value env.scene result place x) env) (taken_is env fine e formed)
-        (λ x taken. holds_after (λ (s : Stmt). IsStmtBut (around env.scene) result exits s) (Did result exits env) (returned_value env.scene result place x) (λ s. Ok (s, env)) (value_is env fine has place x taken) (λ s is. stays exits env fine s is))
+        (λ x taken. holds_after (λ (s : Stmt). IsStmt (around env.scene) result exits s) (Did result exits env) (returned_value env.scene result place x) (λ s. Ok (s, env)) (value_is env fine has place x taken) (λ s is. stays exits env fine s is))
 
     pub stray_is : (place : Place) (e : Phrase) → StepIs exits (stray_case place e)
     unfolding stray_case misplaced_case
@@ -281,7 +283,7 @@ module _ (result : Ty) where
 
   -- ---- branches
 
-  if_is : (exits : Exits) (before : Env) (place : Place) (test : Test) (body : Stmt) (after : Env) → IsEnv after → Grows before.scene after.scene → TestIs after.scene test → IsStmtBut (around after.scene) result exits body
+  if_is : (exits : Exits) (before : Env) (place : Place) (test : Test) (body : Stmt) (after : Env) → IsEnv after → Grows before.scene after.scene → TestIs after.scene test → IsStmt (around after.scene) result exits body
       → Holds (Did result exits before) (if_done place test body None after)
   unfolding if_done
   if_is exits before place test body after fine grows test_is is =
@@ -294,8 +296,8 @@ module _ (result : Ty) where
         stmt = stmt_at (around after.scene) result exits (stmt.If test.0 body None) (Stmt-F.If test.0 body None) (outs-If test.0 body None) right.1 (test_is.expr, tt) (right.0, tt) (AlongAll.more (exits, body) [] is AlongAll.none);
       })
 
-  if_else_is : (exits : Exits) (before : Env) (place : Place) (test : Test) (body other : Stmt) (after : Env) → IsEnv after → Grows before.scene after.scene → TestIs after.scene test → IsStmtBut (around after.scene) result exits body
-      → IsStmtBut (around after.scene) result exits other → Holds (Did result exits before) (if_done place test body (Some other) after)
+  if_else_is : (exits : Exits) (before : Env) (place : Place) (test : Test) (body other : Stmt) (after : Env) → IsEnv after → Grows before.scene after.scene → TestIs after.scene test → IsStmt (around after.scene) result exits body
+      → IsStmt (around after.scene) result exits other → Holds (Did result exits before) (if_done place test body (Some other) after)
   unfolding if_done
   if_else_is exits before place test body other after fine grows test_is is also =
       unless_holds (Did result exits before) place test.1 (Ok (stmt.If test.0 body (Some other), closed after))

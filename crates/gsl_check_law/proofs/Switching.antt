@@ -1,5 +1,5 @@
 -- What the body of a `switch` stands for is well typed.
-use Rattle.std.proofs.Common.{◌≡◌, refl, sym, ap, ◌∙◌, subst, ℕ, ◌+◌, ◌≤◌, ◌<◌, List, [], ◌∷◌, ◌++◌, length, Option, Some, None, is_some, Bool, true, false, not, ◌&&◌, ◌||◌, IsTrue, Ok, arith, if◌then◌else◌, nat_eq, append_assoc, append-nil}
+use Rattle.std.proofs.Common.{◌≡◌, refl, sym, ap, ◌∙◌, subst, ℕ, ◌+◌, ◌≤◌, ◌<◌, List, [], ◌∷◌, ◌++◌, length, Option, Some, None, is_some, Bool, true, false, not, ◌&&◌, ◌||◌, IsTrue, Ok, arith, if◌then◌else◌, nat_eq, append_assoc, append-nil, ◌^◌}
 use Rattle.std.specs.List.{AllByRecursion, list_any, list_all}
 use Rattle.std.proofs.lemmas.Bool.{and_parts, or_parts, or_from, leb-true}
 use Rattle.gsl_base.specs.Checked.{◌>>=◌}
@@ -20,7 +20,7 @@ use Rattle.gsl_tree.specs.Constants.{constant_of}
 use Rattle.gsl_tree.specs.Trees.{Exits, Placed, with_exits, bodies, AlongAll}
 use Rattle.gsl_tree.specs.Trees as trees
 use Rattle.gsl_tree.specs.Paths.{repeats}
-use Rattle.gsl_tree.specs.Statements.{labels_of, defaults_in, one_more, most_labels}
+use Rattle.gsl_tree.specs.Statements.{labels_of, defaults_in, one_more, most_labels, IsArm, AreArms, IsStep, IsStmt}
 use Rattle.gsl_typing.specs.declared.scene.Scene.{Scene}
 use Rattle.gsl_typing.specs.declared.scene.Part.{Part}
 use Rattle.gsl_typing.specs.Scene.{around, type_in}
@@ -32,23 +32,27 @@ use Rattle.gsl_check_expr.specs.Expressions.{taken_expression}
 use Rattle.gsl_check_expr.specs.Sizes.{is_not_constant, is_left_open, word_of}
 use Rattle.gsl_check_decl.specs.Declaring.{is_empty}
 use Rattle.gsl_check_decl.specs.Steps.{opened, closed}
-use Rattle.gsl_check_decl.proofs.Gathering.{Holds, holds_then, holds_after}
+use Rattle.gsl_check_decl.proofs.Gathering.{Holds, holds_after}
 use Rattle.gsl_check_stmt.specs.declared.within.Within.{Within}
 use Rattle.gsl_check_stmt.specs.declared.gathered.Gathered.{Gathered}
 use Rattle.gsl_check_stmt.specs.Switches.{nothing, last_arm, behind_arm, at_label, with_case, with_default, with_stmt, is_blank, all_arms, is_known, has_word, constant_word, case_word, default_label, is_arm, are_arms, has_many, switched}
 use Rattle.gsl_check_stmt.specs.Statements.{Label, Case, Default, Answer, case_label, labelled, stated, item, items, arms, switch_head, switch, in_switch}
 use Rattle.gsl_check_law.specs.Formed.{IsFormed}
-use Rattle.gsl_check_law.specs.Labels.{exits_of, IsStepBut, IsStmtBut, IsArmBut, AreArmsBut}
+use Rattle.gsl_check_law.specs.Labels.{exits_of, AreWords}
 use Rattle.gsl_check_law.specs.Parts.{IsTaken}
 use Rattle.gsl_check_law.specs.Scenes.{IsScene, IsEnv}
 use Rattle.gsl_check_law.proofs.Rows.{row, not_false, both}
 use Rattle.gsl_check_law.proofs.Places.{index_is, index_settled}
 use Rattle.gsl_check_law.proofs.Parts.{may_be_read}
 use Rattle.gsl_check_law.proofs.Phrases.{taken_is}
-use Rattle.gsl_check_law.proofs.Growing.{Grows, grows_itself, grows_then, expr_grows, written_grows}
+use Rattle.gsl_check_law.proofs.Longer.{Grows, grows_itself, grows_then}
+use Rattle.gsl_check_law.proofs.Growing.{expr_grows, written_grows}
 use Rattle.gsl_check_law.proofs.Standing.{stmts_grow}
 use Rattle.gsl_check_law.proofs.Declarators.{Did, stmt_at}
 use Rattle.gsl_check_law.proofs.Stated.{opened_env, closed_env, HasResult, keeps_result, StepIs}
+use Rattle.gsl_check_law.specs.Small.{IsSmallFolded}
+use Rattle.gsl_check_law.proofs.Counted.{constant_small}
+use Rattle.gsl_check_law.proofs.Sizing.{word_of_small}
 
 -- ---- labels that differ
 
@@ -96,15 +100,17 @@ pub record Labelled (g : Gathered) : Type 0 where
   pub words : labels_of g.arms ++ g.labels ≡ g.words
   pub differ : repeats g.words ≡ false
   pub defaults : defaults_in g.arms + one_more g.is_default 0 ≡ one_more g.has_default 0
+  pub small : AreWords g.words
 
 nothing_labelled : Labelled nothing
-nothing_labelled = record { words = refl; differ = refl; defaults = omega arith }
+nothing_labelled = record { words = refl; differ = refl; defaults = omega arith; small = tt }
 
 behind_labelled : (g : Gathered) → Labelled g → Labelled (behind_arm g)
 behind_labelled g is = record {
   words = append-nil (labels_of (g.arms ++ last_arm g ∷ [])) ∙ labels_push g.arms (last_arm g) ∙ is.words;
   differ = is.differ;
   defaults = (let e : defaults_in (g.arms ++ last_arm g ∷ []) + 0 ≡ defaults_in (g.arms ++ last_arm g ∷ []) = omega arith in e) ∙ defaults_push g.arms (last_arm g) ∙ is.defaults;
+  small = is.small;
 }
 
 at_labelled : (g : Gathered) (b : Bool) → Labelled g → Labelled (if b then g else behind_arm g)
@@ -119,9 +125,13 @@ has_kept : (g : Gathered) (b : Bool) → (if b then g else behind_arm g).has_def
 has_kept g true = refl
 has_kept g false = refl
 
-case_labelled : (g : Gathered) (w : ℕ) → Labelled g → has_word g.words w ≡ false → Labelled (with_case g w)
+words_push : (ws : List ℕ) (w : ℕ) → AreWords ws → w < 2 ^ 32 → AreWords (ws ++ w ∷ [])
+words_push [] w all few = (few, tt)
+words_push (x ∷ ws) w all few = (all.0, words_push ws w all.1 few)
+
+case_labelled : (g : Gathered) (w : ℕ) → w < 2 ^ 32 → Labelled g → has_word g.words w ≡ false → Labelled (with_case g w)
 unfolding with_case
-case_labelled g w is new =
+case_labelled g w few is new =
     let h = at_label g in
     let there = at_labelled g (is_empty g.body) is in
     let same : h.words ≡ g.words = words_kept g (is_empty g.body) in
@@ -129,6 +139,7 @@ case_labelled g w is new =
       words = sym (append_assoc (labels_of h.arms) h.labels (w ∷ [])) ∙ ap (λ l. l ++ w ∷ []) there.words;
       differ = differ_push h.words w there.differ (ap (λ ws. has_word ws w) same ∙ new);
       defaults = there.defaults;
+      small = words_push h.words w there.small few;
     }
 
 no_default : (d n : Bool) → d ≡ false → (k : ℕ) → k + one_more n 0 ≡ one_more d 0 → k + 1 ≡ 1
@@ -144,11 +155,12 @@ default_labelled g is new =
       words = there.words;
       differ = there.differ;
       defaults = no_default h.has_default h.is_default (has_kept g (is_empty g.body) ∙ new) (defaults_in h.arms) there.defaults;
+      small = there.small;
     }
 
 stmt_labelled : (g : Gathered) (s : Stmt) → Labelled g → Labelled (with_stmt g s)
 unfolding with_stmt
-stmt_labelled g s is = record { words = is.words; differ = is.differ; defaults = is.defaults }
+stmt_labelled g s is = record { words = is.words; differ = is.differ; defaults = is.defaults; small = is.small }
 
 -- ---- the arms at the end
 
@@ -165,14 +177,21 @@ labels_some true labels is = omega arith
 labels_some false [] is = no_more is
 labels_some false (w ∷ labels) is = omega arith
 
-arm_is : (a : Arm) → IsTrue (is_arm a) → IsArmBut a
-arm_is a is =
-    let parts = and_parts (not (is_empty (out-Arm a).labels) || (out-Arm a).is_default) (not (is_empty (out-Arm a).body)) is in
-    record { labelled = labels_some (out-Arm a).is_default (out-Arm a).labels parts.0; filled = some_is (out-Arm a).body parts.1 }
+front_words : (xs ys : List ℕ) → AreWords (xs ++ ys) → AreWords xs × AreWords ys
+front_words [] ys all = (tt, all)
+front_words (x ∷ xs) ys all = let rest = front_words xs ys all.1 in ((all.0, rest.0), rest.1)
 
-all_arms_are : (all : List Arm) → IsTrue (list_all is_arm all) → AllByRecursion IsArmBut all
-all_arms_are [] is = tt
-all_arms_are (a ∷ all) is = let parts = and_parts (is_arm a) (list_all is_arm all) is in (arm_is a parts.0, all_arms_are all parts.1)
+arm_is : (a : Arm) → IsTrue (is_arm a) → AreWords (out-Arm a).labels → IsArm a
+arm_is a is words =
+    let parts = and_parts (not (is_empty (out-Arm a).labels) || (out-Arm a).is_default) (not (is_empty (out-Arm a).body)) is in
+    record { labelled = labels_some (out-Arm a).is_default (out-Arm a).labels parts.0; words = words; filled = some_is (out-Arm a).body parts.1 }
+
+all_arms_are : (all : List Arm) → IsTrue (list_all is_arm all) → AreWords (labels_of all) → AllByRecursion IsArm all
+all_arms_are [] is words = tt
+all_arms_are (a ∷ all) is words =
+    let parts = and_parts (is_arm a) (list_all is_arm all) is in
+    let both_are = front_words (out-Arm a).labels (labels_of all) words in
+    (arm_is a parts.0 both_are.0, all_arms_are all parts.1 both_are.1)
 
 -- what all arms have together
 pub record Together (g : Gathered) (all : List Arm) : Type 0 where
@@ -207,13 +226,13 @@ one_default : (b : Bool) → one_more b 0 ≤ 1
 one_default true = omega arith
 one_default false = omega arith
 
-arms_are : (g : Gathered) → Labelled g → IsTrue (are_arms (all_arms g)) → has_many g.words g.has_default ≡ false → AreArmsBut (all_arms g)
+arms_are : (g : Gathered) → Labelled g → IsTrue (are_arms (all_arms g)) → has_many g.words g.has_default ≡ false → AreArms (all_arms g)
 unfolding are_arms has_many
 arms_are g is each few =
     let all = together g is in
     let most = leb-true (one_more g.has_default (length g.words)) most_labels (not_false _ few) in
     record {
-      each = all_arms_are (all_arms g) each;
+      each = all_arms_are (all_arms g) each (subst AreWords (sym all.words) is.small);
       differ = ap (λ ws. not (repeats ws)) all.words ∙ ap not is.differ;
       default = subst (λ n. n ≤ 1) (sym all.defaults) (one_default g.has_default);
       count = subst (λ n. n ≤ most_labels) (one_more_is g.has_default (length g.words) ∙ ap (λ n. n + one_more g.has_default 0) (ap (λ (l : List ℕ). length l) (sym all.words)) ∙ ap (λ n. length (labels_of (all_arms g)) + n) (sym all.defaults)) most;
@@ -237,20 +256,20 @@ module _ (result : Ty) (within : Within) where
     env : IsEnv done.1
     grows : Grows before.scene done.1.scene
     labelled : Labelled done.0
-    arms : AlongAll (IsStepBut (around done.1.scene) result) (with_exits inner (bodies done.0.arms))
-    body : AlongAll (IsStepBut (around done.1.scene) result) (with_exits inner done.0.body)
+    arms : AlongAll (IsStep (around done.1.scene) result) (with_exits inner (bodies done.0.arms))
+    body : AlongAll (IsStep (around done.1.scene) result) (with_exits inner done.0.body)
 
   -- behind a label
-  moved : (before : Env) (g : Gathered) (env : Env) (b : Bool) → Read before (g, env) → AlongAll (IsStepBut (around env.scene) result) (with_exits inner (bodies (if b then g else behind_arm g).arms)) × AlongAll (IsStepBut (around env.scene) result) (with_exits inner (if b then g else behind_arm g).body)
+  moved : (before : Env) (g : Gathered) (env : Env) (b : Bool) → Read before (g, env) → AlongAll (IsStep (around env.scene) result) (with_exits inner (bodies (if b then g else behind_arm g).arms)) × AlongAll (IsStep (around env.scene) result) (with_exits inner (if b then g else behind_arm g).body)
   moved before g env true is = (is.arms, is.body)
   moved before g env false is =
-      (subst (λ l. AlongAll (IsStepBut (around env.scene) result) (with_exits inner l)) (sym (bodies_push g.arms (last_arm g))) (with_append inner (bodies g.arms) g.body (IsStepBut (around env.scene) result) is.arms is.body), AlongAll.none)
+      (subst (λ l. AlongAll (IsStep (around env.scene) result) (with_exits inner l)) (sym (bodies_push g.arms (last_arm g))) (with_append inner (bodies g.arms) g.body (IsStep (around env.scene) result) is.arms is.body), AlongAll.none)
 
-  read_case : (before : Env) (g : Gathered) (env : Env) (w : ℕ) → Read before (g, env) → has_word g.words w ≡ false → Read before (with_case g w, env)
+  read_case : (before : Env) (g : Gathered) (env : Env) (w : ℕ) → w < 2 ^ 32 → Read before (g, env) → has_word g.words w ≡ false → Read before (with_case g w, env)
   unfolding with_case
-  read_case before g env w is new =
+  read_case before g env w few is new =
       let m = moved before g env (is_empty g.body) is in
-      let l = case_labelled g w is.labelled new in
+      let l = case_labelled g w few is.labelled new in
       record { env = is.env; grows = is.grows; labelled = l; arms = m.0; body = m.1 }
 
   read_default : (before : Env) (g : Gathered) (env : Env) → Read before (g, env) → g.has_default ≡ false → Read before (with_default g, env)
@@ -269,7 +288,7 @@ module _ (result : Ty) (within : Within) where
         grows = grows_then before.scene env.scene done.1.scene is.grows did.grows;
         labelled = stmt_labelled g done.0 is.labelled;
         arms = grow (with_exits inner (bodies g.arms)) is.arms;
-        body = with_append inner g.body (done.0 ∷ []) (IsStepBut (around done.1.scene) result) (grow (with_exits inner g.body) is.body) (AlongAll.more (inner, done.0) [] did.stmt AlongAll.none);
+        body = with_append inner g.body (done.0 ∷ []) (IsStep (around done.1.scene) result) (grow (with_exits inner g.body) is.body) (AlongAll.more (inner, done.0) [] did.stmt AlongAll.none);
       }
 
   known_new : (f : Folded) (h : Bool) → (is_known f && h) ≡ false → is_not_constant f ≡ false → is_left_open f ≡ false → h ≡ false
@@ -277,38 +296,49 @@ module _ (result : Ty) (within : Within) where
   known_new NotConstant h both not_constant open_ = no_more (sym not_constant)
   known_new Free h both not_constant open_ = no_more (sym open_)
 
-  word_new : (scene : Scene) (words : List ℕ) (place : Place) (x : Part) → Holds (λ (w : ℕ). has_word words w ≡ false) (constant_word scene words place x)
-  word_new scene words place x =
-      row (λ (w : ℕ). has_word words w ≡ false) place E0511 (is_known (constant_of scene.consts x.expr) && has_word words (word_of scene x)) ((E0601, is_not_constant (constant_of scene.consts x.expr)) ∷ (E0602, is_left_open (constant_of scene.consts x.expr)) ∷ []) (Ok (word_of scene x))
-      (λ new. row (λ (w : ℕ). has_word words w ≡ false) place E0601 (is_not_constant (constant_of scene.consts x.expr)) ((E0602, is_left_open (constant_of scene.consts x.expr)) ∷ []) (Ok (word_of scene x))
-      (λ constant. row (λ (w : ℕ). has_word words w ≡ false) place E0602 (is_left_open (constant_of scene.consts x.expr)) [] (Ok (word_of scene x))
-      (λ settled. known_new (constant_of scene.consts x.expr) (has_word words (word_of scene x)) new constant settled)))
+  -- a word below 2^32 that none of these is
+  abbrev NewWord : List ℕ → ℕ → Type 0
+  NewWord words w = (has_word words w ≡ false) × (w < 2 ^ 32)
 
-  case_new : (scene : Scene) (selector : Ty) (g : Gathered) (place : Place) (x : Part) → Holds (λ (w : ℕ). has_word g.words w ≡ false) (case_word scene selector g place x)
+  word_new : (scene : Scene) (words : List ℕ) (place : Place) (x : Part) → IsSmallFolded (constant_of scene.consts x.expr) → Holds (NewWord words) (constant_word scene words place x)
+  word_new scene words place x small =
+      row (NewWord words) place E0511 (is_known (constant_of scene.consts x.expr) && has_word words (word_of scene x)) ((E0601, is_not_constant (constant_of scene.consts x.expr)) ∷ (E0602, is_left_open (constant_of scene.consts x.expr)) ∷ []) (Ok (word_of scene x))
+      (λ new. row (NewWord words) place E0601 (is_not_constant (constant_of scene.consts x.expr)) ((E0602, is_left_open (constant_of scene.consts x.expr)) ∷ []) (Ok (word_of scene x))
+      (λ constant. row (NewWord words) place E0602 (is_left_open (constant_of scene.consts x.expr)) [] (Ok (word_of scene x))
+      (λ settled. (known_new (constant_of scene.consts x.expr) (has_word words (word_of scene x)) new constant settled, word_of_small scene x small))))
+
+  case_new : (scene : Scene) (selector : Ty) (g : Gathered) (place : Place) (x : Part) → IsSmallFolded (constant_of scene.consts x.expr) → Holds (NewWord g.words) (case_word scene selector g place x)
   unfolding case_word
-  case_new scene selector g place x =
-      row (λ (w : ℕ). has_word g.words w ≡ false) place E0504 (not (serves_as (type_in x) selector)) ((E0507, is_unread scene x) ∷ []) (constant_word scene g.words place x)
-      (λ _. row (λ (w : ℕ). has_word g.words w ≡ false) place E0507 (is_unread scene x) [] (constant_word scene g.words place x) (λ _. word_new scene g.words place x))
+  case_new scene selector g place x small =
+      row (NewWord g.words) place E0504 (not (serves_as (type_in x) selector)) ((E0507, is_unread scene x) ∷ []) (constant_word scene g.words place x)
+      (λ _. row (NewWord g.words) place E0507 (is_unread scene x) [] (constant_word scene g.words place x) (λ _. word_new scene g.words place x small))
 
-  label_read : (before : Env) (selector : Ty) (label : Option Label) (g : Gathered) (env : Env) → Read before (g, env) → Holds (λ (h : Gathered). Read before (h, env)) (labelled selector label g env)
+  -- the label that a statement is, if it is one
+  abbrev pub LabelIs : Option Label → Type 0
+  LabelIs None = Unit {0}
+  LabelIs (Some (Case place e)) = IsFormed e
+  LabelIs (Some (Default place)) = Unit {0}
+
+  label_read : (before : Env) (selector : Ty) (label : Option Label) (g : Gathered) (env : Env) → LabelIs label → Read before (g, env) → Holds (λ (h : Gathered). Read before (h, env)) (labelled selector label g env)
   unfolding labelled case_label default_label
-  label_read before selector None g env is = is
-  label_read before selector (Some (Case place e)) g env is =
-      holds_then (λ (h : Gathered). Read before (h, env)) (taken_expression env e) (λ x. case_word env.scene selector g place x >>= (λ word. Ok (with_case g word)))
-      (λ x. holds_after (λ (w : ℕ). has_word g.words w ≡ false) (λ (h : Gathered). Read before (h, env)) (case_word env.scene selector g place x) (λ word. Ok (with_case g word)) (case_new env.scene selector g place x) (λ w new. read_case before g env w is new))
-  label_read before selector (Some (Default place)) g env is =
+  label_read before selector None g env formed is = is
+  label_read before selector (Some (Case place e)) g env formed is =
+      holds_after (IsTaken env.scene) (λ (h : Gathered). Read before (h, env)) (taken_expression env e) (λ x. case_word env.scene selector g place x >>= (λ word. Ok (with_case g word))) (taken_is env is.env e formed)
+      (λ x taken. holds_after (NewWord g.words) (λ (h : Gathered). Read before (h, env)) (case_word env.scene selector g place x) (λ word. Ok (with_case g word)) (case_new env.scene selector g place x (constant_small env.scene is.env.scene is.env.counted x.expr taken.part.expr))
+      (λ w new. read_case before g env w new.1 is new.0))
+  label_read before selector (Some (Default place)) g env formed is =
       row (λ (h : Gathered). Read before (h, env)) place E0511 g.has_default [] (Ok (with_default g)) (λ new. read_default before g env is new)
 
   abbrev StandsIn : Answer → Type 0
-  StandsIn a = StepIs result inner (a.step (in_switch within))
+  StandsIn a = StepIs result inner (a.step (in_switch within)) × LabelIs a.label
 
   item_read : (before : Env) (selector : Ty) (a : Answer) (g : Gathered) (env : Env) → HasResult result env → StandsIn a → Read before (g, env) → (b : Bool)
       → Holds (Read before) (if b then labelled selector a.label g env >>= (λ more. Ok (more, env)) else stated (in_switch within) a.step g env)
   unfolding stated
   item_read before selector a g env has stands is true =
-      holds_after (λ (h : Gathered). Read before (h, env)) (Read before) (labelled selector a.label g env) (λ more. Ok (more, env)) (label_read before selector a.label g env is) (λ more read. read)
+      holds_after (λ (h : Gathered). Read before (h, env)) (Read before) (labelled selector a.label g env) (λ more. Ok (more, env)) (label_read before selector a.label g env stands.1 is) (λ more read. read)
   item_read before selector a g env has stands is false =
-      holds_after (Did result inner env) (Read before) (a.step (in_switch within) env) (λ done. Ok (with_stmt g done.0, done.1)) (stands env is.env has) (λ done did. read_stmt before g env done is did)
+      holds_after (Did result inner env) (Read before) (a.step (in_switch within) env) (λ done. Ok (with_stmt g done.0, done.1)) (stands.0 env is.env has) (λ done did. read_stmt before g env done is did)
 
   items_read : (before : Env) (selector : Ty) (answers : List Answer) (g : Gathered) (env : Env) → HasResult result before → AllByRecursion StandsIn answers → Read before (g, env) → Holds (Read before) (items (in_switch within) selector answers g env)
   items_read before selector [] g env has all is = is
@@ -326,12 +356,12 @@ module _ (result : Ty) (within : Within) where
   }
 
   switched_is : (before : Env) (place : Place) (selector : Part) (g : Gathered) (env : Env) → IsTaken before.scene selector → IsScene before.scene → Read before (g, env)
-      → Holds (λ (s : Stmt). IsStmtBut (around env.scene) result exits s) (switched env.scene place selector g)
+      → Holds (λ (s : Stmt). IsStmt (around env.scene) result exits s) (switched env.scene place selector g)
   unfolding switched
   switched_is before place selector g env taken fine is =
-      row (λ (s : Stmt). IsStmtBut (around env.scene) result exits s) place E0507 (is_unread env.scene selector) ((E0511, not (is_index selector && are_arms (all_arms g))) ∷ (E0908, has_many g.words g.has_default) ∷ []) (Ok (stmt.Switch selector.expr (all_arms g)))
-      (λ read. row (λ (s : Stmt). IsStmtBut (around env.scene) result exits s) place E0511 (not (is_index selector && are_arms (all_arms g))) ((E0908, has_many g.words g.has_default) ∷ []) (Ok (stmt.Switch selector.expr (all_arms g)))
-      (λ right. row (λ (s : Stmt). IsStmtBut (around env.scene) result exits s) place E0908 (has_many g.words g.has_default) [] (Ok (stmt.Switch selector.expr (all_arms g)))
+      row (λ (s : Stmt). IsStmt (around env.scene) result exits s) place E0507 (is_unread env.scene selector) ((E0511, not (is_index selector && are_arms (all_arms g))) ∷ (E0908, has_many g.words g.has_default) ∷ []) (Ok (stmt.Switch selector.expr (all_arms g)))
+      (λ read. row (λ (s : Stmt). IsStmt (around env.scene) result exits s) place E0511 (not (is_index selector && are_arms (all_arms g))) ((E0908, has_many g.words g.has_default) ∷ []) (Ok (stmt.Switch selector.expr (all_arms g)))
+      (λ right. row (λ (s : Stmt). IsStmt (around env.scene) result exits s) place E0908 (has_many g.words g.has_default) [] (Ok (stmt.Switch selector.expr (all_arms g)))
       (λ few.
       let parts = both (is_index selector) (are_arms (all_arms g)) right in
       let here = taken_grows before.scene env.scene fine is.grows selector taken in
@@ -339,7 +369,7 @@ module _ (result : Ty) (within : Within) where
       let all = together g is.labelled in
       stmt_at (around env.scene) result exits (stmt.Switch selector.expr (all_arms g)) (Stmt-F.Switch selector.expr (all_arms g)) (outs-Switch selector.expr (all_arms g))
       (index_is selector parts.0, arms_are g is.labelled parts.1 few) (here.part.expr, tt) (reads, tt)
-      (subst (λ l. AlongAll (IsStepBut (around env.scene) result) (with_exits inner l)) (sym all.bodies_are) (with_append inner (bodies g.arms) g.body (IsStepBut (around env.scene) result) is.arms is.body)))))
+      (subst (λ l. AlongAll (IsStep (around env.scene) result) (with_exits inner l)) (sym all.bodies_are) (with_append inner (bodies g.arms) g.body (IsStep (around env.scene) result) is.arms is.body)))))
 
   pub switch_is : (place : Place) (e : Phrase) (answers : List Answer) → IsFormed e → AllByRecursion StandsIn answers → StepIs result exits (switch place e answers within)
   unfolding switch switch_head arms
@@ -350,5 +380,5 @@ module _ (result : Ty) (within : Within) where
       (λ head is. subst (λ (h : Env). Holds (Did result exits env) (items (in_switch within) (type_in head.0) answers nothing h >>= (λ done. arms place head.0 done.0 done.1))) is.1
       (holds_after (Read (opened env)) (Did result exits env) (items (in_switch within) (type_in head.0) answers nothing (opened env)) (λ done. arms place head.0 done.0 done.1)
       (items_read (opened env) (type_in head.0) answers nothing (opened env) has all (record { env = opened_env env fine; grows = grows_itself env.scene; labelled = nothing_labelled; arms = AlongAll.none; body = AlongAll.none }))
-      (λ done read. holds_after (λ (s : Stmt). IsStmtBut (around done.1.scene) result exits s) (Did result exits env) (switched done.1.scene place head.0 done.0) (λ s. Ok (s, closed done.1)) (switched_is (opened env) place head.0 done.0 done.1 is.0 fine.scene read)
+      (λ done read. holds_after (λ (s : Stmt). IsStmt (around done.1.scene) result exits s) (Did result exits env) (switched done.1.scene place head.0 done.0) (λ s. Ok (s, closed done.1)) (switched_is (opened env) place head.0 done.0 done.1 is.0 fine.scene read)
       (λ s typed. record { env = closed_env done.1 read.env; grows = read.grows; stmt = typed }))))

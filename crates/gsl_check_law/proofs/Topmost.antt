@@ -17,8 +17,9 @@ use Rattle.gsl_check_expr.specs.declared.env.Env.{Env}
 use Rattle.gsl_check_decl.specs.Globals.{with_global, with_interface, with_head, members_named, inner_names, with_block}
 use Rattle.gsl_check_law.specs.Scenes.{IsHead, AreThere, IsEnv}
 use Rattle.gsl_check_law.proofs.Found.{all_append}
-use Rattle.gsl_check_law.proofs.Growing.{Grows, front_append}
+use Rattle.gsl_check_law.proofs.Longer.{Grows, front_append}
 use Rattle.gsl_check_law.proofs.Standing.{names_grow, with_name}
+use Rattle.gsl_check_law.specs.Small.{IsCounted, IsSmallFolded}
 
 map_push : {A B : Type 0} (g : A → B) (xs : List A) (y : A) → map g (xs ++ y ∷ []) ≡ map g xs ++ g y ∷ []
 map_push g [] y = refl
@@ -35,9 +36,9 @@ module _ (env : Env) (fine : IsEnv env) where
   Grown after = IsEnv after × Grows scene after.scene
 
   -- one more global variable, of which as much is known as it shows
-  pub global_grown : (g : GlobalVar) (folded : Folded) → IsVariableType scene.structs g.ty → folded ≡ known_value g.constant g.value → Grown (with_global g folded env)
+  pub global_grown : (g : GlobalVar) (folded : Folded) → IsVariableType scene.structs g.ty → folded ≡ known_value g.constant g.value → IsCounted g.ty → IsSmallFolded folded → Grown (with_global g folded env)
   unfolding with_global
-  global_grown g folded is known =
+  global_grown g folded is known count_is small =
       let after : Scene = record scene { globals = scene.globals ++ g ∷ []; consts = record scene.consts { globals = scene.consts.globals ++ folded ∷ [] } } in
       let grows : Grows scene after = record {
         stage = refl;
@@ -46,6 +47,8 @@ module _ (env : Env) (fine : IsEnv env) where
         leaves = λ u known. refl;
         heights = λ u known. refl;
         values = λ u v known. refl;
+        measures = λ raise k below. refl;
+        declared = λ are. are;
         globals = front_append scene.globals (g ∷ []);
         blocks = λ k x is. is;
         interfaces = λ k x is. is;
@@ -68,14 +71,25 @@ module _ (env : Env) (fine : IsEnv env) where
             known = ap (λ l. l ++ folded ∷ []) fine.scene.known ∙ ap (λ (f : Folded). map (λ (g : GlobalVar). known_value g.constant g.value) scene.globals ++ f ∷ []) known
                 ∙ sym (map_push (λ (g : GlobalVar). known_value g.constant g.value) scene.globals g);
           };
+          counted = record {
+            structs = fine.counted.structs;
+            globals = all_append (λ (g : GlobalVar). IsCounted g.ty) scene.globals (g ∷ []) fine.counted.globals (count_is, tt);
+            blocks = fine.counted.blocks;
+            interfaces = fine.counted.interfaces;
+            prototypes = fine.counted.prototypes;
+            params = fine.counted.params;
+            locals = fine.counted.locals;
+            known_globals = all_append IsSmallFolded scene.consts.globals (folded ∷ []) fine.counted.known_globals (small, tt);
+            known_locals = fine.counted.known_locals;
+          };
         },
         grows,
       )
 
   -- one more input or output
-  pub interface_grown : (i : Interface) → IsSound count i.ty → Grown (with_interface i env)
+  pub interface_grown : (i : Interface) → IsSound count i.ty → IsCounted i.ty → Grown (with_interface i env)
   unfolding with_interface
-  interface_grown i is =
+  interface_grown i is count_is =
       let after : Scene = record scene { interfaces = scene.interfaces ++ i ∷ [] } in
       let grows : Grows scene after = record {
         stage = refl;
@@ -84,6 +98,8 @@ module _ (env : Env) (fine : IsEnv env) where
         leaves = λ u known. refl;
         heights = λ u known. refl;
         values = λ u v known. refl;
+        measures = λ raise k below. refl;
+        declared = λ are. are;
         globals = λ k x is. is;
         blocks = λ k x is. is;
         interfaces = front_append scene.interfaces (i ∷ []);
@@ -105,14 +121,25 @@ module _ (env : Env) (fine : IsEnv env) where
             locals = fine.scene.locals;
             known = fine.scene.known;
           };
+          counted = record {
+            structs = fine.counted.structs;
+            globals = fine.counted.globals;
+            blocks = fine.counted.blocks;
+            interfaces = all_append (λ (i : Interface). IsCounted i.ty) scene.interfaces (i ∷ []) fine.counted.interfaces (count_is, tt);
+            prototypes = fine.counted.prototypes;
+            params = fine.counted.params;
+            locals = fine.counted.locals;
+            known_globals = fine.counted.known_globals;
+            known_locals = fine.counted.known_locals;
+          };
         },
         grows,
       )
 
   -- one more head
-  pub head_grown : (p : Prototype) → IsHead scene.structs p → Grown (with_head p env)
+  pub head_grown : (p : Prototype) → IsHead scene.structs p → IsCounted p.result → Grown (with_head p env)
   unfolding with_head
-  head_grown p is =
+  head_grown p is count_is =
       let after : Scene = record scene { prototypes = scene.prototypes ++ p ∷ [] } in
       let grows : Grows scene after = record {
         stage = refl;
@@ -121,6 +148,8 @@ module _ (env : Env) (fine : IsEnv env) where
         leaves = λ u known. refl;
         heights = λ u known. refl;
         values = λ u v known. refl;
+        measures = λ raise k below. refl;
+        declared = λ are. are;
         globals = λ k x is. is;
         blocks = λ k x is. is;
         interfaces = λ k x is. is;
@@ -142,6 +171,17 @@ module _ (env : Env) (fine : IsEnv env) where
             locals = fine.scene.locals;
             known = fine.scene.known;
           };
+          counted = record {
+            structs = fine.counted.structs;
+            globals = fine.counted.globals;
+            blocks = fine.counted.blocks;
+            interfaces = fine.counted.interfaces;
+            prototypes = all_append (λ (p : Prototype). IsCounted p.result) scene.prototypes (p ∷ []) fine.counted.prototypes (count_is, tt);
+            params = fine.counted.params;
+            locals = fine.counted.locals;
+            known_globals = fine.counted.known_globals;
+            known_locals = fine.counted.known_locals;
+          };
         },
         grows,
       )
@@ -155,9 +195,9 @@ module _ (env : Env) (fine : IsEnv env) where
   inner_there after n block (Some name) names all = with_name after name (entry.Instance n) names tt all
 
   -- one more block
-  pub block_grown : (block : Block) → AllByRecursion (λ (m : BlockMember). IsSound count m.ty) block.members → Grown (with_block block env)
+  pub block_grown : (block : Block) → AllByRecursion (λ (m : BlockMember). IsSound count m.ty) block.members → AllByRecursion (λ (m : BlockMember). IsCounted m.ty) block.members → Grown (with_block block env)
   unfolding with_block
-  block_grown block is =
+  block_grown block is count_is =
       let after : Scene = record scene { blocks = scene.blocks ++ block ∷ [] } in
       let grows : Grows scene after = record {
         stage = refl;
@@ -166,6 +206,8 @@ module _ (env : Env) (fine : IsEnv env) where
         leaves = λ u known. refl;
         heights = λ u known. refl;
         values = λ u v known. refl;
+        measures = λ raise k below. refl;
+        declared = λ are. are;
         globals = λ k x is. is;
         blocks = front_append scene.blocks (block ∷ []);
         interfaces = λ k x is. is;
@@ -187,6 +229,17 @@ module _ (env : Env) (fine : IsEnv env) where
             params = fine.scene.params;
             locals = fine.scene.locals;
             known = fine.scene.known;
+          };
+          counted = record {
+            structs = fine.counted.structs;
+            globals = fine.counted.globals;
+            blocks = all_append (λ (b : Block). AllByRecursion (λ (m : BlockMember). IsCounted m.ty) b.members) scene.blocks (block ∷ []) fine.counted.blocks (count_is, tt);
+            interfaces = fine.counted.interfaces;
+            prototypes = fine.counted.prototypes;
+            params = fine.counted.params;
+            locals = fine.counted.locals;
+            known_globals = fine.counted.known_globals;
+            known_locals = fine.counted.known_locals;
           };
         },
         grows,

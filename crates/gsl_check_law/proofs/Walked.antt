@@ -4,26 +4,20 @@ use Rattle.std.specs.List.{AllByRecursion}
 use Rattle.std.proofs.lemmas.Bool.{and_parts}
 use Rattle.gsl_syntax.specs.declared.statement.Stmt.{Stmt as Syntax}
 use Rattle.gsl_syntax.specs.declared.statement.Stmt.TheOpen.{Stmt-F}
-use Rattle.gsl_syntax.specs.declared.statement.Stmt.TheViews.{roll-Stmt}
+use Rattle.gsl_syntax.specs.declared.statement.Stmt.TheViews.{roll-Stmt, roll-out-Stmt, out-Stmt as out-Syntax}
 use Rattle.gsl_syntax.specs.declared.statement.Stmt.TheFolds.{fold-roll-Stmt, ind-Stmt, map-Stmt}
 use Rattle.gsl_types.specs.declared.ty.Ty.{Ty}
-use Rattle.gsl_tree.specs.Around.{Around}
-use Rattle.gsl_tree.specs.declared.stmt.Stmt.{Stmt, out-Stmt}
-use Rattle.gsl_tree.specs.declared.stmt.Stmt.TheOpen as tree
-use Rattle.gsl_tree.specs.declared.stmt.Arm.{Arm, out-Arm}
-use Rattle.gsl_tree.specs.Trees.{Exits, Placed, inner_of, Along, AlongAll}
-use Rattle.gsl_tree.specs.Statements.{IsArm, MayStand, IsStep, IsStmt}
 use Rattle.gsl_check_expr.specs.declared.env.Env.{Env}
 use Rattle.gsl_check_decl.proofs.Gathering.{Holds}
 use Rattle.gsl_check_stmt.specs.declared.within.Within.{Within}
 use Rattle.gsl_check_stmt.specs.Statements.{Answer, answer, statement, statements, by_parts, in_row, in_switch}
 use Rattle.gsl_check_law.specs.Formed.{all_formed, stmt_formed_by, stmt_formed, IsFormedStmt, is_formed, init_part_formed, formed_if}
-use Rattle.gsl_check_law.specs.Labels.{exits_of, IsArmBut, MayStandBut, IsStepBut, IsStmtBut, AreWords, ArmsHaveWords, HasWords}
+use Rattle.gsl_check_law.specs.Labels.{exits_of}
 use Rattle.gsl_check_law.specs.Scenes.{IsEnv}
 use Rattle.gsl_check_law.proofs.Declarators.{DidAll, turns, declaration_typed}
 use Rattle.gsl_check_law.proofs.Stated.{HasResult, keeps_result, StepIs, Stands, empty_is, evaluated_is, broken_is, continued_is, discarded_is, returned_is, return_is, stray_is, default_is, block_is, branch_is, branches_is}
 use Rattle.gsl_check_law.proofs.Looped.{while_is, for_is, do_is}
-use Rattle.gsl_check_law.proofs.Switching.{switch_is}
+use Rattle.gsl_check_law.proofs.Switching.{LabelIs, switch_is}
 
 module _ (result : Ty) where
   abbrev AnswerIs : Answer → Type 0
@@ -46,17 +40,43 @@ module _ (result : Ty) where
   unfolding stmt_formed
   formed x is = sym (fold-roll-Stmt Bool stmt_formed_by x) ∙ is
 
+  label_by : (within : Within) (x : Stmt-F Syntax) → IsTrue (stmt_formed_by (map-Stmt Syntax Bool stmt_formed x)) → LabelIs result within (by_parts result (map-Stmt Syntax Answer (answer result) x)).label
+  label_by within (Stmt-F.Case place e) is = is
+  label_by within (Stmt-F.Empty place) is = tt
+  label_by within (Stmt-F.Block place all) is = tt
+  label_by within (Stmt-F.Decl d) is = tt
+  label_by within (Stmt-F.Expr e) is = tt
+  label_by within (Stmt-F.If place test body) is = tt
+  label_by within (Stmt-F.IfElse place test body other) is = tt
+  label_by within (Stmt-F.Switch place e all) is = tt
+  label_by within (Stmt-F.Default place) is = tt
+  label_by within (Stmt-F.While place test body) is = tt
+  label_by within (Stmt-F.Do place body test) is = tt
+  label_by within (Stmt-F.For place init test step body) is = tt
+  label_by within (Stmt-F.Break place) is = tt
+  label_by within (Stmt-F.Continue place) is = tt
+  label_by within (Stmt-F.Discard place) is = tt
+  label_by within (Stmt-F.Return place) is = tt
+  label_by within (Stmt-F.ReturnValue place e) is = tt
+
+  label_at : (within : Within) (x : Stmt-F Syntax) → IsFormedStmt (roll-Stmt x) → LabelIs result within (answer result (roll-Stmt x)).label
+  unfolding answer
+  label_at within x is = subst (λ (a : Answer). LabelIs result within a.label) (sym (fold-roll-Stmt Answer (by_parts result) x)) (label_by within x (formed x is))
+
+  label_is : (within : Within) (s : Syntax) → IsFormedStmt s → LabelIs result within (answer result s).label
+  label_is within s is = subst (λ (z : Syntax). LabelIs result within (answer result z).label) (roll-out-Stmt s) (label_at within (out-Syntax s) (subst IsFormedStmt (sym (roll-out-Stmt s)) is))
+
   rows : (within : Within) (children : List Child) → IsTrue (all_formed (map stmt_formed (map tree_of children))) → AllByRecursion (StepIs result (exits_of within)) (map (λ (a : Answer). a.step (in_row within)) (map (answer result) (map tree_of children)))
   rows within [] is = tt
   rows within (c ∷ children) is =
       let parts = and_parts (stmt_formed c.0) (all_formed (map stmt_formed (map tree_of children))) is in
       (c.1 parts.0 (in_row within), rows within children parts.1)
 
-  all_switched : (within : Within) (children : List Child) → IsTrue (all_formed (map stmt_formed (map tree_of children))) → AllByRecursion (λ (a : Answer). StepIs result (exits_of (in_switch within)) (a.step (in_switch within))) (map (answer result) (map tree_of children))
+  all_switched : (within : Within) (children : List Child) → IsTrue (all_formed (map stmt_formed (map tree_of children))) → AllByRecursion (λ (a : Answer). StepIs result (exits_of (in_switch within)) (a.step (in_switch within)) × LabelIs result within a.label) (map (answer result) (map tree_of children))
   all_switched within [] is = tt
   all_switched within (c ∷ children) is =
       let parts = and_parts (stmt_formed c.0) (all_formed (map stmt_formed (map tree_of children))) is in
-      (c.1 parts.0 (in_switch within), all_switched within children parts.1)
+      ((c.1 parts.0 (in_switch within), label_is within c.0 parts.0), all_switched within children parts.1)
 
   by_layer : (y : Stmt-F Child) → Sound (roll-Stmt (map-Stmt Child Syntax tree_of y))
   by_layer (Stmt-F.Empty place) is = opens (Stmt-F.Empty place) (λ within. empty_is result within)
@@ -103,33 +123,3 @@ module _ (result : Ty) where
   -- what statements in a row stand for is well typed
   pub statements_are : (all : List Syntax) (within : Within) → AllByRecursion IsFormedStmt all → (env : Env) → IsEnv env → HasResult result env → Holds (DidAll result (exits_of within) env) (statements result all within env)
   statements_are all within is env fine has = turns result (exits_of within) (HasResult result) (keeps_result result) (map (λ s. statement result s within) all) (all_stand within all is) env fine has
-
--- ---- with the labels
-
-arms_whole : (arms : List Arm) → AllByRecursion IsArmBut arms → AllByRecursion (λ (arm : Arm). AreWords (out-Arm arm).labels) arms → AllByRecursion IsArm arms
-arms_whole [] all words = tt
-arms_whole (a ∷ arms) all words = (record { labelled = all.0.labelled; words = words.0; filled = all.0.filled }, arms_whole arms all.1 words.1)
-
-stands_whole : (around : Around) (result : Ty) (exits : Exits) (form : tree.Stmt-F Stmt Arm) → MayStandBut around result exits form → ArmsHaveWords form → MayStand around result exits form
-stands_whole around result exits tree.Stmt-F.Empty is words = is
-stands_whole around result exits (tree.Stmt-F.Eval e) is words = is
-stands_whole around result exits (tree.Stmt-F.Declare n init) is words = is
-stands_whole around result exits (tree.Stmt-F.Group stmts) is words = is
-stands_whole around result exits (tree.Stmt-F.If test then other) is words = is
-stands_whole around result exits (tree.Stmt-F.Loop test step body last) is words = is
-stands_whole around result exits (tree.Stmt-F.Switch e arms) is words =
-    (is.0, record { each = arms_whole arms is.1.each words; differ = is.1.differ; default = is.1.default; count = is.1.count })
-stands_whole around result exits tree.Stmt-F.Break is words = is
-stands_whole around result exits tree.Stmt-F.Continue is words = is
-stands_whole around result exits (tree.Stmt-F.Return value) is words = is
-stands_whole around result exits tree.Stmt-F.Discard is words = is
-
-module _ (around : Around) (result : Ty) where
-  mutual
-    pub stmt_whole : (exits : Exits) (s : Stmt) → IsStmtBut around result exits s → Along HasWords exits s → IsStmt around result exits s
-    stmt_whole _ _ (Along.whole exits s is inner) (Along.whole _ _ words others) =
-        Along.whole exits s (record { stands = stands_whole around result exits (out-Stmt s) is.stands words; typed = is.typed; reads = is.reads }) (stmts_whole (inner_of exits (out-Stmt s)) inner others)
-
-    pub stmts_whole : (all : List Placed) → AlongAll (IsStepBut around result) all → AlongAll HasWords all → AlongAll (IsStep around result) all
-    stmts_whole _ AlongAll.none words = AlongAll.none
-    stmts_whole _ (AlongAll.more p rest is others) (AlongAll.more _ _ words behind) = AlongAll.more p rest (stmt_whole p.0 p.1 is words) (stmts_whole rest others behind)

@@ -1,4 +1,6 @@
+pub mod Small
 pub mod Scenes
+pub mod Nested
 pub mod Formed
 pub mod Parts
 pub mod Labels

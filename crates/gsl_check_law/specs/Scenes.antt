@@ -22,6 +22,7 @@ use Rattle.gsl_tree.specs.Expressions.{is_size}
 use Rattle.gsl_tree.specs.WellTyped.{IsVariableType, IsResult}
 use Rattle.gsl_typing.specs.declared.scene.Scene.{Scene}
 use Rattle.gsl_check_expr.specs.declared.env.Env.{Env}
+use Rattle.gsl_check_law.specs.Small.{IsCountedScene}
 
 -- ---- lists
 
@@ -69,3 +70,4 @@ AreThere scene names = AllByRecursion (λ (declared : Declared). IsThere scene d
 pub record IsEnv (env : Env) : Type 0 where
   pub names : AllByRecursion (AreThere env.scene) env.names
   pub scene : IsScene env.scene
+  pub counted : IsCountedScene env.scene

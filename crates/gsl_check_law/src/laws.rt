@@ -12,16 +12,28 @@ ghost use Rattle.gsl_tree.specs.Trees.{AlongAll, with_exits};
 ghost use Rattle.gsl_tree.specs.Statements.{IsStep};
 ghost use Rattle.gsl_tree.specs.WellTyped.{IsResult};
 ghost use Rattle.gsl_typing.specs.declared.scene.Part.{Part};
+ghost use Rattle.gsl_typing.specs.declared.scene.Scene.{Scene};
+ghost use Rattle.gsl_values.specs.declared.value.Value.{Value};
+ghost use Rattle.gsl_tree.specs.declared.expr.Expr.{Expr};
+ghost use Rattle.gsl_tree.specs.declared.folded.Folded.TheVariants.{Known};
+ghost use Rattle.gsl_tree.specs.Constants.{constant_of};
+ghost use Rattle.gsl_tree.specs.Expressions.{IsExpr};
 ghost use Rattle.gsl_typing.specs.Scene.{around};
 ghost use Rattle.gsl_check_expr.specs.declared.env.Env.{Env};
 ghost use Rattle.gsl_check_expr.specs.Expressions.{expression, taken_expression};
 ghost use Rattle.gsl_check_expr.specs.Initialisers.{value_as};
 ghost use Rattle.gsl_check_stmt.specs.declared.within.Within.{Within};
 ghost use Rattle.gsl_check_stmt.specs.Statements.{statements};
-ghost use Rattle.gsl_check_law.specs.Formed.{IsFormed, IsFormedInit, IsFormedStmt};
-ghost use Rattle.gsl_check_law.specs.Labels.{HasWords, exits_of};
+ghost use Rattle.gsl_base.specs.declared.stage.Stage.{Stage};
+ghost use Rattle.gsl_syntax.specs.declared.statement.Global.{Global};
+ghost use Rattle.gsl_tree.specs.declared.unit.TypedUnit.{TypedUnit};
+ghost use Rattle.gsl_tree.specs.WellTyped.{IsUnit};
+ghost use Rattle.gsl_check.specs.Units.{checked};
+ghost use Rattle.gsl_check_law.specs.Formed.{IsFormed, IsFormedInit, IsFormedStmt, IsParsed};
+ghost use Rattle.gsl_check_law.specs.Labels.{exits_of};
 ghost use Rattle.gsl_check_law.specs.Parts.{IsPart, IsTaken};
-ghost use Rattle.gsl_check_law.specs.Scenes.{IsEnv};
+ghost use Rattle.gsl_check_law.specs.Scenes.{IsEnv, IsScene};
+ghost use Rattle.gsl_check_law.specs.Small.{IsCountedScene, IsSmall};
 
 /// What an expression stands for is well typed in the scene in which it was asked, and so is what is taken of it, which is not copied
 /// whole where it has many leaves.
@@ -35,9 +47,20 @@ pub fn initialisers_are_well_typed()
     ensures { (env : Env) (init : Init) (t : Ty) (x : Part) → IsEnv env → IsFormedInit init → IsSound (length env.scene.structs) t → value_as env init t ≡ Ok x → IsTaken env.scene x }
 {}
 
-/// What statements stand for, as the body of a function of a result has them, is well typed in what is declared behind them, where the
-/// labels of their `switch`es are words; and what is declared behind them is sound as what was declared before.
+/// What statements stand for, as the body of a function of a result has them, is well typed in what is declared behind them, and what is
+/// declared behind them is sound as what was declared before.
 pub fn statements_are_well_typed()
-    ensures typed { (env : Env) (result : Ty) (all : List Statement) (within : Within) (done : List Stmt × Env) → IsEnv env → IsResult env.scene.structs result → AllByRecursion IsFormedStmt all → statements result all within env ≡ Ok done → AlongAll HasWords (with_exits (exits_of within) done.0) → AlongAll (IsStep (around done.1.scene) result) (with_exits (exits_of within) done.0) }
+    ensures typed { (env : Env) (result : Ty) (all : List Statement) (within : Within) (done : List Stmt × Env) → IsEnv env → IsResult env.scene.structs result → AllByRecursion IsFormedStmt all → statements result all within env ≡ Ok done → AlongAll (IsStep (around done.1.scene) result) (with_exits (exits_of within) done.0) }
     ensures behind { (env : Env) (result : Ty) (all : List Statement) (within : Within) (done : List Stmt × Env) → IsEnv env → IsResult env.scene.structs result → AllByRecursion IsFormedStmt all → statements result all within env ≡ Ok done → IsEnv done.1 }
+{}
+
+/// What a constant expression gives has words below 2^32 alone, where arrays in the types of its scene have as many elements as a word
+/// counts, and known variables have words.
+pub fn constants_are_words()
+    ensures { (scene : Scene) (e : Expr) (v : Value) → IsScene scene → IsCountedScene scene → IsExpr (around scene) e → constant_of scene.consts e ≡ Known v → IsSmall v }
+{}
+
+/// The typed unit that the checker answers for a unit that a parser gives is well typed.
+pub fn units_are_well_typed()
+    ensures { (stage : Stage) (unit : List Global) (typed : TypedUnit) → IsParsed unit → checked stage unit ≡ Ok typed → IsUnit stage typed }
 {}
