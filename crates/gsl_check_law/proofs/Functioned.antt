@@ -206,17 +206,21 @@ module _ (stage : Stage) (h : Headed) (is : IsHeaded h) (top : IsTop stage h.env
 
     left_is : IsEnv (left h.env done.1)
     unfolding left
-    left_is = record { names = names_grow outer behind outer_grows h.env.names is.env.names; scene = behind_is; counted = record {
-      structs = did.env.counted.structs;
-      globals = is.env.counted.globals;
-      blocks = is.env.counted.blocks;
-      interfaces = is.env.counted.interfaces;
-      prototypes = is.env.counted.prototypes;
-      params = is.env.counted.params;
-      locals = is.env.counted.locals;
-      known_globals = is.env.counted.known_globals;
-      known_locals = is.env.counted.known_locals;
-    } }
+    left_is = record {
+      names = names_grow outer behind outer_grows h.env.names is.env.names;
+      scene = behind_is;
+      counted = record {
+        structs = did.env.counted.structs;
+        globals = is.env.counted.globals;
+        blocks = is.env.counted.blocks;
+        interfaces = is.env.counted.interfaces;
+        prototypes = is.env.counted.prototypes;
+        params = is.env.counted.params;
+        locals = is.env.counted.locals;
+        known_globals = is.env.counted.known_globals;
+        known_locals = is.env.counted.known_locals;
+      };
+    }
 
     pub left_top : TopDone stage h.env (left h.env done.1)
     unfolding left
