@@ -23,10 +23,15 @@ pub struct Access {
 }
 
 impl Model for Access {
-    ghost use Rattle.gsl_store.specs.Roots.{root_of};
     ghost use Rattle.gsl_meaning.specs.Accesses.{Access as Named};
+    ghost use Rattle.gsl_values.specs.contracts.value.Value as value;
+    ghost use Rattle.std.specs.Coded.{codes};
 
     ghost Value = { Named };
+
+    ghost coded = { Prim.hlevel (codes, value.the_row.coded) };
+
+    ghost use Rattle.gsl_store.specs.Roots.{root_of};
 
     ghost view = { λ a. record { root = root_of a.root; path = a.path; picked = a.picked } };
 }

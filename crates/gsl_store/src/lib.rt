@@ -15,5 +15,5 @@ pub use access::Access;
 pub use drawing::{binary_drawn, builtin_drawn};
 pub use reading::{block_parts, parts_at, read};
 pub use root::Root;
-pub use store::Store;
+pub use store::{Caller, Store};
 pub use storing::stored;

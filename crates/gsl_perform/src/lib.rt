@@ -1,0 +1,15 @@
+//! What a shader does, performed: expressions by the definitions of `gsl_meaning`, without regard to speed.
+#![tactic(auto)]
+
+mod called;
+mod performer;
+mod progress;
+mod scene;
+mod stage;
+mod stop;
+
+pub use called::Called;
+pub use performer::Performer;
+pub use progress::Progress;
+pub use scene::Scene;
+pub use stop::Stop;
