@@ -12,7 +12,7 @@ use Rattle.gsl_perform.specs.declared.stop.Stop.{Stop}
 use Rattle.gsl_perform.specs.Performing.{Comes, from}
 
 -- what the expressions of a program stand in, where calls nest at most so deep
-abbrev pub setting_at : Scene → ℕ → Setting
+unfoldable pub setting_at : Scene → ℕ → Setting
 setting_at scene depth = setting_of scene.program.now scene.input.now (calls scene.program.now scene.input.now depth)
 
 pub record Nests (pre : Global → Bor Scene → ℕ → ℕ → List Value → MutBor Progress → Type 0)

@@ -10,12 +10,12 @@ pub struct Called {
 
 impl Model for Called {
     ghost use Rattle.gsl_meaning.specs.Expressions.{Called as Given};
-    ghost use Rattle.gsl_values.specs.contracts.value.Value as value;
+    ghost use Rattle.gsl_values.specs.contracts.value.Value as one;
     ghost use Rattle.std.specs.Coded.{codes};
 
     ghost Value = { Given };
 
-    ghost coded = { Prim.hlevel (codes, value.the_row.coded) };
+    ghost coded = { Prim.hlevel (codes, one.the_row.coded) };
 
     ghost view = { λ c. record { value = c.value; params = c.params } };
 }

@@ -2,10 +2,13 @@
 #![tactic(auto)]
 
 mod called;
+mod exprs;
+mod passed;
 mod performer;
 mod progress;
 mod scene;
 mod stage;
+mod steps;
 mod stop;
 
 pub use called::Called;

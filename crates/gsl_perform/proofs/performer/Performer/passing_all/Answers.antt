@@ -1,0 +1,36 @@
+use Rattle.std.proofs.Common.{◌≡◌, sym, ap, ◌∙◌, ◌+◌, drop, map, arith}
+use Rattle.std.proofs.lemmas.Result.{err_from_is_err_and}
+use Rattle.gsl_perform.specs.Kinds.{passing_one}
+use Rattle.gsl_perform.specs.Nesting.{setting_at}
+use Rattle.gsl_perform.specs.Performing.{from}
+use Rattle.gsl_perform.proofs.Rows.{gather_ends, gather_on, gather_stops, gathered, got_at, no_front, no_way, passing_are, way_next, ways, with_front}
+use Rattle.gsl_perform.proofs.performer.Performer.passing_all.Goals as goal
+
+pub loop-k-init : goal.loop-k-init
+loop-k-init g c =
+    let setting = setting_at c.args.self.now.scene.now c.args.self.now.depth in
+    ap (λ l. with_front l (from c.args.p.now (gathered (ways setting c.params-params.result.now c.args.args.now)))) c.new-all.ensures ∙ no_front _
+    ∙ sym (passing_are setting c.args.number c.params-params.result.now c.args.args.now c.args.p.now.store c.args.p.now.units c.params-params.ensures)
+
+pub loop-k-preserved : goal.loop-k-preserved
+loop-k-preserved g c =
+    let setting = setting_at c.args.self.now.scene.now c.args.self.now.depth in
+    gather_on (passing_one setting c.index-params-k.result c.index.result.now) (ways setting (drop (c.loop-k.k + 1) c.params-params.result.now) (drop (c.loop-k.k + 1) c.args.args.now)) _
+        (way_next setting c.params-params.result.now c.args.args.now c.loop-k.k c.index-params-k.result c.index.result.now (got_at c.params-params.result.now c.loop-k.k c.index-params-k.result (omega arith) c.index-params-k.is) c.index.ensures)
+        c.loop-k.all c.loop-k.p c.passing.new.p _
+        c.loop-k.invariant c.push.new.self c.in_ok-passed.passed c.in_ok-passed.ensures c.in_ok-push.ensures.ok
+
+pub returns : goal.returns
+returns g c =
+    let setting = setting_at c.args.self.now.scene.now c.args.self.now.depth in
+    gather_ends (ways setting (drop c.loop-k.k c.params-params.result.now) (drop c.loop-k.k c.args.args.now)) c.loop-k.all c.loop-k.p _ (no_way setting c.params-params.result.now c.args.args.now c.loop-k.k (omega arith)) c.loop-k.invariant
+
+pub returns-in_err-passed : goal.returns-in_err-passed
+returns-in_err-passed g c =
+    let setting = setting_at c.args.self.now.scene.now c.args.self.now.depth in
+    let p = err_from_is_err_and c.from_residual.result c.from_residual.ensures.1 in
+    let stops = gather_stops (passing_one setting c.index-params-k.result c.index.result.now) (ways setting (drop (c.loop-k.k + 1) c.params-params.result.now) (drop (c.loop-k.k + 1) c.args.args.now)) _
+        (way_next setting c.params-params.result.now c.args.args.now c.loop-k.k c.index-params-k.result c.index.result.now (got_at c.params-params.result.now c.loop-k.k c.index-params-k.result (omega arith) c.index-params-k.is) c.index.ensures)
+        c.loop-k.all c.loop-k.p c.passing.new.p _
+        c.loop-k.invariant c.in_err-passed.field-0.0 c.in_err-passed.ensures in
+    rw (p.1, p.2) stops
