@@ -15,4 +15,5 @@ pub use called::Called;
 pub use performer::Performer;
 pub use progress::Progress;
 pub use scene::Scene;
+pub use steps::storing;
 pub use stop::Stop;

@@ -48,7 +48,7 @@ impl<'a, F: Fn(Global, &Scene<'_>, usize, u32, Values, &mut Progress) -> Result<
 
     /// The value that an access of a type reads.
     #[tactic(auto, unfolding(crate::specs::Nesting::setting_at))]
-    pub(crate) fn read(&self, ty: &Ty, access: &Access, store: &Store) -> Result<Value, Memory>
+    pub fn read(&self, ty: &Ty, access: &Access, store: &Store) -> Result<Value, Memory>
         ensures { IfOk result (λ v. v ≡ read_of (setting_at self.now.scene.now self.now.depth).structs ty.now access.now store.now) }
     {
         let value = self.scene.read(self.alloc, ty, access, store)?;
@@ -57,7 +57,7 @@ impl<'a, F: Fn(Global, &Scene<'_>, usize, u32, Values, &mut Progress) -> Result<
 
     /// The value of a type whose leaves are all zero.
     #[tactic(auto, unfolding(crate::specs::Nesting::setting_at))]
-    pub(crate) fn zero(&self, ty: &Ty) -> Result<Value, Memory>
+    pub fn zero(&self, ty: &Ty) -> Result<Value, Memory>
         ensures { IfOk result (λ v. v ≡ zero_value (setting_at self.now.scene.now self.now.depth).structs ty.now) }
     {
         let value = self.scene.zero(self.alloc, ty)?;

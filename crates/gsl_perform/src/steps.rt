@@ -52,7 +52,7 @@ pub(crate) fn indexing(
 }
 
 /// A value is stored, and is what is given.
-pub(crate) fn storing(
+pub fn storing(
     alloc: Global,
     access: &Access,
     value: Value,

@@ -1,0 +1,9 @@
+//! What statements do, performed by the definitions of `gsl_meaning`, without regard to speed.
+#![tactic(auto)]
+
+mod flow;
+mod singles;
+mod stmts;
+
+pub use flow::Flow;
+pub use stmts::run_all;
