@@ -1,6 +1,7 @@
 //! What statements do, performed by the definitions of `gsl_meaning`, without regard to speed.
 #![tactic(auto)]
 
+mod arms;
 mod flow;
 mod singles;
 mod stmts;

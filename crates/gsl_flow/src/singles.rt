@@ -122,3 +122,21 @@ pub(crate) fn returned<
         }
     }
 }
+
+/// What stands behind the body of a loop: the step, then the test. The loop goes on where that holds.
+pub(crate) fn go_on<
+    'a,
+    F: Fn(Global, &Scene<'_>, usize, u32, Values, &mut Progress) -> Result<Called, Stop>,
+>(
+    m: &Performer<'a, F>,
+    parts: (&Option<Expr>, &Option<Expr>),
+    p: &mut Progress,
+) -> Result<Option<Flow>, Stop>
+    requires { Nests (F.pre m.now.call) (F.post m.now.call) m.now.depth }
+    ensures { ComesBy flows.left_by result p.new (from p.old (flows.gone_on (setting_at m.now.scene.now m.now.depth) parts.entry.0.now parts.entry.1.now)) }
+{
+    let (step, test) = parts;
+    stepped(m, step, p)?;
+    let holds = tested(m, test, p)?;
+    if holds { Ok(None) } else { Ok(Some(Flow::Normal)) }
+}
