@@ -2,9 +2,11 @@
 #![tactic(auto)]
 
 mod arms;
+mod calls;
 mod flow;
 mod singles;
 mod stmts;
 
+pub use calls::{call, running};
 pub use flow::Flow;
 pub use stmts::run_all;
