@@ -84,11 +84,7 @@ fn shape_over(alloc: Global, table: &[Shape], ty: &Ty) -> Result<Shape, Memory>
 }
 
 /// The shapes of members, over those of the structs.
-fn members_shapes(
-    alloc: Global,
-    table: &[Shape],
-    members: &[Member],
-) -> Result<List<Shape>, Memory>
+fn members_shapes(alloc: Global, table: &[Shape], members: &[Member]) -> Result<List<Shape>, Memory>
     ensures { IfOk result (λ all. all ≡ map (spec.member_shape table.now) members.now) }
 {
     let mut all = List::new(alloc);

@@ -32,12 +32,7 @@ fn put_each(positions: &[u32], words: &[u32], old: Words) -> Words
 }
 
 /// A value with other components at positions.
-fn with_positions(
-    alloc: Global,
-    positions: &Words,
-    old: &Value,
-    v: &Value,
-) -> Result<Value, Memory>
+fn with_positions(alloc: Global, positions: &Words, old: &Value, v: &Value) -> Result<Value, Memory>
     ensures { IfOk result (λ x. x ≡ spec.with_picked (Some positions.now) old.now v.now) }
 {
     let words = components(alloc, v)?;

@@ -17,7 +17,6 @@ pub struct Store {
 
 impl Model for Store {
     ghost use Rattle.gsl_meaning.specs.State.{State};
-
     ghost use Rattle.gsl_values.specs.contracts.value.Value as value;
     ghost use Rattle.std.specs.Coded.{codes};
 

@@ -27,19 +27,20 @@ fn put_numbered(
 {
     let mut items = replace(values, List::new(alloc)).into_vec();
     if (number as usize) < items.len() {
-        put(alloc, &mut items[number as usize], path.as_slice(), picked, v)?;
+        put(
+            alloc,
+            &mut items[number as usize],
+            path.as_slice(),
+            picked,
+            v,
+        )?;
     }
     *values = List::from_vec(items);
     Ok(())
 }
 
 /// Stores a value where an access leads.
-pub fn stored(
-    alloc: Global,
-    access: &Access,
-    v: Value,
-    store: &mut Store,
-) -> Result<(), Memory>
+pub fn stored(alloc: Global, access: &Access, v: Value, store: &mut Store) -> Result<(), Memory>
     ensures { OnOk result (store.new ≡ spec.stored access.now v store.old) }
 {
     let path = &access.path;
