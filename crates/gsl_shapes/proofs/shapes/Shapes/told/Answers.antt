@@ -1,0 +1,5 @@
+use Rattle.gsl_shapes.proofs.Shaped.{told_made}
+use Rattle.gsl_shapes.proofs.shapes.Shapes.told.Goals as goal
+
+pub returns : goal.returns
+returns c = told_made _ _ c.self.inside.table c.as_slice.result.now c.args.ty.now c.args.words.now c.in_ok-shape.shape _ c.self.view_is c.self.invariant c.as_slice.ensures c.in_ok-shape.ensures c.in_ok-value.ensures
