@@ -1,4 +1,4 @@
 mod Example
-mod Keeping
-mod Bodies
+pub mod Keeping
+pub mod Bodies
 pub mod Behind
