@@ -1,4 +1,5 @@
 pub mod Lines
+pub mod Lengths
 pub mod Letters
 pub mod Joints
 pub mod Distinct

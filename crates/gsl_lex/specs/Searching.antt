@@ -1,6 +1,6 @@
--- How the code searches the tables: under the letter that a word begins with, and by the two parts of a word. This is not the
--- rule, which stands in `Tables.antt`.
-use Rattle.std.specs.Prelude.{◌≡◌, ℕ, ◌+◌, Bool, true, false, ◌==◌, ◌&&◌, nat_le, List, [], ◌∷◌, Option, Some, None, if◌then◌else◌}
+-- How the code searches the tables: among spellings of as many bytes, under the letter that a word begins with, and by the two parts
+-- of a word. This is not the rule, which stands in `Tables.antt`.
+use Rattle.std.specs.Prelude.{◌≡◌, ℕ, ◌+◌, Bool, true, false, ◌==◌, ◌&&◌, nat_le, List, [], ◌∷◌, length, Option, Some, None, if◌then◌else◌}
 use Rattle.std.specs.List.{filter, slice_get}
 use Rattle.gsl_base.specs.Prefix.{after}
 use Rattle.gsl_lex.specs.Ascii.{lower_a, lower_z}
@@ -14,6 +14,10 @@ is_lower byte = nat_le lower_a byte && nat_le byte lower_z
 -- The item stands at this index.
 pub record IsAt {A : Type 0} (items : List A) (i : ℕ) (item : A) : Type 0 where
   pub is : slice_get items i ≡ Some item
+
+-- the rows whose spelling has so many bytes
+abbrev pub of_len : {A : Type 0} → ℕ → List (List ℕ × A) → List (List ℕ × A)
+of_len n rows = filter (λ row. length row.0 == n) rows
 
 -- the rows whose word begins with the letter of this number, `a` being 0
 abbrev pub under : {A : Type 0} → (A → List ℕ) → List A → ℕ → List A

@@ -1,14 +1,13 @@
 //! The live token that a raw token becomes.
 
-ghost use Rattle.std.specs.Prelude.{◌≡◌, ◌<◌, ◌≤◌, ◌^◌, ◌*◌, ◌+◌, List, length, IfOk};
+ghost use Rattle.std.specs.Prelude.{◌≡◌, ◌<◌, ◌≤◌, ◌^◌, ◌*◌, ◌+◌, List, length};
 ghost use Rattle.std.specs.List.{list_any};
 ghost use Rattle.gsl_base.specs.Checked.{Gives};
 ghost use Rattle.gsl_lex.specs.Cooking as spec;
 ghost use Rattle.gsl_lex.specs.Literals as literals;
 
 use crate::tables::{is_refused, key_of};
-use gsl_base::{Code, Fault, Kind, Memory, Raw, RawKind, Refusal, Text, Token};
-use std::alloc::Global;
+use gsl_base::{Code, Fault, Kind, Raw, RawKind, Refusal, Text, Token};
 
 /// How many bytes a word has at most.
 pub const MAX_WORD_BYTES: usize = 1024;
@@ -17,49 +16,41 @@ pub const MAX_WORD_BYTES: usize = 1024;
 /// byte, E0104 for a floating literal, E0103 for another number that is no literal below 2^32, E0105 for
 /// a refused word, E0106 for a word of more than `MAX_WORD_BYTES`.
 #[tactic(auto, unfolding(crate::specs::Cooking::token_of))]
-pub fn cook(alloc: Global, raw: &Raw) -> Result<Token, Refusal>
-    ensures { Gives result (spec.token_of raw.now) }
+pub fn cook(raw: Raw) -> Result<Token, Refusal>
+    ensures { Gives result (spec.token_of raw) }
 {
-    match cooked(alloc, &raw.kind)? {
-        Ok(kind) => Ok(Token {
-            place: raw.place,
-            kind,
-        }),
-        Err(code) => Err(Refusal::Source(Fault {
-            place: raw.place,
-            code,
-        })),
+    let place = raw.place;
+    match cooked(raw.kind) {
+        Ok(kind) => Ok(Token { place, kind }),
+        Err(code) => Err(Refusal::Source(Fault { place, code })),
     }
 }
 
-fn cooked(alloc: Global, kind: &RawKind) -> Result<Result<Kind, Code>, Memory>
-    ensures { IfOk result (λ cooked. cooked ≡ spec.cooked kind.now) }
+fn cooked(kind: RawKind) -> Result<Kind, Code>
+    ensures { result ≡ spec.cooked kind }
 {
     match kind {
-        RawKind::Word(text) => word(alloc, text),
-        RawKind::Number(text) => Ok(number(text.as_str().as_bytes())),
-        RawKind::Punct(punct) => Ok(Ok(Kind::Punct(*punct))),
-        RawKind::Stray(_) => Ok(Err(Code::E0101)),
+        RawKind::Word(text) => word(text),
+        RawKind::Number(text) => number(text.as_str().as_bytes()),
+        RawKind::Punct(punct) => Ok(Kind::Punct(punct)),
+        RawKind::Stray(_) => Err(Code::E0101),
     }
 }
 
 /// A keyword or a name.
-fn word(alloc: Global, text: &Text) -> Result<Result<Kind, Code>, Memory>
-    ensures { IfOk result (λ cooked. cooked ≡ spec.word text.now) }
+fn word(text: Text) -> Result<Kind, Code>
+    ensures { result ≡ spec.word text }
 {
     let bytes = text.as_str().as_bytes();
     if is_refused(bytes) {
-        return Ok(Err(Code::E0105));
+        return Err(Code::E0105);
     }
     if bytes.len() > MAX_WORD_BYTES {
-        return Ok(Err(Code::E0106));
+        return Err(Code::E0106);
     }
     match key_of(bytes) {
-        Some(key) => Ok(Ok(Kind::Key(key))),
-        None => {
-            let name = Text::from_str(alloc, text.as_str())?;
-            Ok(Ok(Kind::Name(name)))
-        }
+        Some(key) => Ok(Kind::Key(key)),
+        None => Ok(Kind::Name(text)),
     }
 }
 

@@ -4,7 +4,7 @@ ghost use Rattle.std.specs.Prelude.{◌≡◌, ◌<◌, [], ◌∷◌, ◌++◌,
 ghost use Rattle.gsl_lex.specs.Bytes as bytes;
 ghost use Rattle.gsl_lex.specs.Reading as spec;
 
-use crate::tables::punct_of;
+use crate::tables::{one_of, three_of, two_of};
 use crate::text::Cursor;
 use gsl_base::{Memory, Punct, RawKind, Text};
 use std::alloc::Global;
@@ -241,7 +241,7 @@ fn three_at<'a>(first: u8, after: &Cursor<'a>) -> Option<(Punct, Cursor<'a>)>
 {
     let (second, rest) = after.step()?;
     let (third, rest) = rest.step()?;
-    let punct = punct_of(&[first, second.byte, third.byte])?;
+    let punct = three_of(first, second.byte, third.byte)?;
     Some((punct, rest))
 }
 
@@ -249,13 +249,13 @@ fn two_at<'a>(first: u8, after: &Cursor<'a>) -> Option<(Punct, Cursor<'a>)>
     ensures { result ≡ spec.two_at first after.now }
 {
     let (second, rest) = after.step()?;
-    let punct = punct_of(&[first, second.byte])?;
+    let punct = two_of(first, second.byte)?;
     Some((punct, rest))
 }
 
 fn one_at<'a>(first: u8, after: &Cursor<'a>) -> Option<(Punct, Cursor<'a>)>
     ensures { result ≡ spec.one_at first after.now }
 {
-    let punct = punct_of(&[first])?;
+    let punct = one_of(first)?;
     Some((punct, after.again()))
 }

@@ -2,8 +2,8 @@
 
 use gsl_base::{Key, Punct};
 
-/// The punctuators with their spellings (GLSL 4.50, chapter 9).
-pub const PUNCTS: [(&[u8], Punct); 46] = [
+/// The punctuators of one byte (GLSL 4.50, chapter 9); `#` is one of the preprocessor (3.3).
+pub const ONE_BYTE: [(&[u8], Punct); 25] = [
     (b"(", Punct::LeftParen),
     (b")", Punct::RightParen),
     (b"[", Punct::LeftBracket),
@@ -15,8 +15,6 @@ pub const PUNCTS: [(&[u8], Punct); 46] = [
     (b";", Punct::Semicolon),
     (b":", Punct::Colon),
     (b"?", Punct::Question),
-    (b"++", Punct::IncOp),
-    (b"--", Punct::DecOp),
     (b"+", Punct::Plus),
     (b"-", Punct::Dash),
     (b"~", Punct::Tilde),
@@ -24,32 +22,42 @@ pub const PUNCTS: [(&[u8], Punct); 46] = [
     (b"*", Punct::Star),
     (b"/", Punct::Slash),
     (b"%", Punct::Percent),
-    (b"<<", Punct::LeftOp),
-    (b">>", Punct::RightOp),
     (b"<", Punct::LeftAngle),
     (b">", Punct::RightAngle),
+    (b"&", Punct::Ampersand),
+    (b"^", Punct::Caret),
+    (b"|", Punct::VerticalBar),
+    (b"=", Punct::Equal),
+    (b"#", Punct::Hash),
+];
+
+/// The punctuators of two bytes.
+pub const TWO_BYTES: [(&[u8], Punct); 19] = [
+    (b"++", Punct::IncOp),
+    (b"--", Punct::DecOp),
+    (b"<<", Punct::LeftOp),
+    (b">>", Punct::RightOp),
     (b"<=", Punct::LeOp),
     (b">=", Punct::GeOp),
     (b"==", Punct::EqOp),
     (b"!=", Punct::NeOp),
-    (b"&", Punct::Ampersand),
-    (b"^", Punct::Caret),
-    (b"|", Punct::VerticalBar),
     (b"&&", Punct::AndOp),
     (b"^^", Punct::XorOp),
     (b"||", Punct::OrOp),
-    (b"=", Punct::Equal),
     (b"+=", Punct::AddAssign),
     (b"-=", Punct::SubAssign),
     (b"*=", Punct::MulAssign),
     (b"/=", Punct::DivAssign),
     (b"%=", Punct::ModAssign),
-    (b"<<=", Punct::LeftAssign),
-    (b">>=", Punct::RightAssign),
     (b"&=", Punct::AndAssign),
     (b"^=", Punct::XorAssign),
     (b"|=", Punct::OrAssign),
-    (b"#", Punct::Hash),
+];
+
+/// The punctuators of three bytes.
+pub const THREE_BYTES: [(&[u8], Punct); 2] = [
+    (b"<<=", Punct::LeftAssign),
+    (b">>=", Punct::RightAssign),
 ];
 
 /// The keywords of the profile under each letter from `a` to `z` that they begin with (GLSL 4.50, 3.6).

@@ -1,6 +1,6 @@
 //! Looking up words and punctuators.
 
-ghost use Rattle.std.specs.Prelude.{◌≡◌, ◌+◌, ◌<◌, ◌||◌, MatchOption, false, length, map};
+ghost use Rattle.std.specs.Prelude.{◌≡◌, ◌+◌, ◌<◌, ◌||◌, [], ◌∷◌, MatchOption, false, length, map};
 ghost use Rattle.std.specs.Option.{option_map};
 ghost use Rattle.gsl_base.specs.Prefix as prefix;
 ghost use Rattle.gsl_lex.specs.Ascii.{lower_a};
@@ -11,17 +11,30 @@ ghost use Rattle.gsl_lex.specs.Spellings.{keywords};
 ghost use Rattle.gsl_lex.specs.Tables as spec;
 
 use crate::rows::{
-    KEYWORDS, MATRICES, MATRIX_SIZES, OPAQUE_KINDS, OPAQUES, PUNCTS, REFUSED, SHADOW_KINDS,
-    SHADOW_SAMPLERS,
+    KEYWORDS, MATRICES, MATRIX_SIZES, ONE_BYTE, OPAQUE_KINDS, OPAQUES, REFUSED, SHADOW_KINDS,
+    SHADOW_SAMPLERS, THREE_BYTES, TWO_BYTES,
 };
 use gsl_base::{Key, Punct};
 
-/// The punctuator that is spelled so.
-#[tactic(auto, unfolding(crate::specs::Tables::punct_of, crate::specs::Spellings::puncts))]
-pub fn punct_of(spelling: &[u8]) -> Option<Punct>
-    ensures { result ≡ spec.punct_of spelling.now }
+/// The punctuator of this one byte.
+pub fn one_of(first: u8) -> Option<Punct>
+    ensures { result ≡ spec.punct_of (first ∷ []) }
 {
-    lookup(&PUNCTS, spelling)
+    lookup(&ONE_BYTE, &[first])
+}
+
+/// The punctuator of these two bytes.
+pub fn two_of(first: u8, second: u8) -> Option<Punct>
+    ensures { result ≡ spec.punct_of (first ∷ second ∷ []) }
+{
+    lookup(&TWO_BYTES, &[first, second])
+}
+
+/// The punctuator of these three bytes.
+pub fn three_of(first: u8, second: u8, third: u8) -> Option<Punct>
+    ensures { result ≡ spec.punct_of (first ∷ second ∷ third ∷ []) }
+{
+    lookup(&THREE_BYTES, &[first, second, third])
 }
 
 /// The keyword that is spelled so.

@@ -122,15 +122,12 @@ impl Spelled {
         ensures { Gives result (spec.live place self) }
     {
         let kind = self.into_kind(alloc)?;
-        cook(
-            alloc,
-            &Raw {
-                place,
-                kind,
-                starts_line: false,
-                spaced: false,
-            },
-        )
+        cook(Raw {
+            place,
+            kind,
+            starts_line: false,
+            spaced: false,
+        })
     }
 
     fn into_kind(self, alloc: Global) -> Result<RawKind, Memory>

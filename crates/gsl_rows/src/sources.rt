@@ -17,10 +17,13 @@ fn parsed(alloc: Global, source: &[u8]) -> Result<Unit, Refusal> {
     if source.len() > MAX_BYTES {
         return Err(Refusal::Memory);
     }
-    let raws = lex(alloc, 0, source)?;
+    let mut raws = lex(alloc, 0, source)?.into_vec();
+    raws.reverse();
     let mut tokens = Tokens::new(alloc);
-    for raw in raws.as_slice() {
-        tokens.push(cook(alloc, raw)?)?;
+    for _k in 0..raws.len() {
+        if let Some(raw) = raws.pop() {
+            tokens.push(cook(raw)?)?;
+        }
     }
     parse(alloc, &tokens)
 }

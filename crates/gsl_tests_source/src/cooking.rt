@@ -7,10 +7,11 @@ fn cooked(alloc: Global, source: &[u8]) -> Result<Token, Refusal> {
     if source.len() > 4096 {
         return Err(Refusal::Memory);
     }
-    let raws = lex(alloc, 7, source)?;
-    match raws.as_slice() {
-        [raw, ..] => cook(alloc, raw),
-        [] => Err(Refusal::Memory),
+    let mut raws = lex(alloc, 7, source)?.into_vec();
+    raws.reverse();
+    match raws.pop() {
+        Some(raw) => cook(raw),
+        None => Err(Refusal::Memory),
     }
 }
 
@@ -109,14 +110,18 @@ fn refused(alloc: Global, source: &[u8]) -> Result<Option<usize>, Refusal> {
     if source.len() > 4096 {
         return Err(Refusal::Memory);
     }
-    let raws = lex(alloc, 0, source)?;
-    for raw in raws.as_slice() {
-        match cook(alloc, raw) {
+    let mut raws = lex(alloc, 0, source)?.into_vec();
+    let count = raws.len();
+    for _k in 0..count {
+        let Some(raw) = raws.pop() else {
+            return Ok(None);
+        };
+        match cook(raw) {
             Err(Refusal::Source(fault)) if fault.code == Code::E0105 => {}
             _ => return Ok(None),
         }
     }
-    Ok(Some(raws.len()))
+    Ok(Some(count))
 }
 
 #[test]
@@ -199,13 +204,13 @@ fn word_of_len(alloc: Global, len: usize) -> Result<Raw, Memory> {
 #[test]
 fn a_word_has_at_most_1024_bytes(rt: HostRuntime) -> Result<(), std::test::Fail> {
     let longest = word_of_len(rt.alloc(), 1024)?;
-    let token = cook(rt.alloc(), &longest)?;
+    let token = cook(longest)?;
     assert!(rt; is_name_of_len(&token.kind, 1024));
     let longer = word_of_len(rt.alloc(), 1025)?;
     let fault = Fault {
         place: Place { unit: 0, line: 3 },
         code: Code::E0106,
     };
-    assert_eq!(rt; cook(rt.alloc(), &longer), Err(Refusal::Source(fault)));
+    assert_eq!(rt; cook(longer), Err(Refusal::Source(fault)));
     Ok(())
 }

@@ -1,5 +1,5 @@
 use gsl_base::{List, Memory, Text};
-use gsl_link_units::join_structs;
+use gsl_link_structs::{Joined, join_structs};
 use gsl_types::{Member, Scalar, StructType, Structs, Ty};
 use std::alloc::Global;
 use std::test::Fail;
@@ -21,7 +21,6 @@ fn one(alloc: Global, name: &str, ty: Ty) -> Result<StructType, Memory> {
 #[test]
 fn structs_of_two_units_have_one_number_each(rt: HostRuntime) -> Result<(), Fail> {
     let alloc = rt.alloc();
-    let mut joined = Structs::new(alloc);
     let mut first = Structs::new(alloc);
     first.push(one(alloc, "S", Ty::One(Scalar::Int))?)?;
     first.push(one(alloc, "T", Ty::Struct(0))?)?;
@@ -29,10 +28,10 @@ fn structs_of_two_units_have_one_number_each(rt: HostRuntime) -> Result<(), Fail
     second.push(one(alloc, "S", Ty::One(Scalar::Uint))?)?;
     second.push(one(alloc, "S", Ty::One(Scalar::Int))?)?;
     second.push(one(alloc, "T", Ty::Struct(1))?)?;
-    let before = join_structs(alloc, &mut joined, first.as_slice())?;
+    let (joined, before) = join_structs(alloc, Joined::new(alloc), first.as_slice())?;
     assert_eq!(rt; before.as_slice(), [0, 1].as_slice());
-    let behind = join_structs(alloc, &mut joined, second.as_slice())?;
+    let (joined, behind) = join_structs(alloc, joined, second.as_slice())?;
     assert_eq!(rt; behind.as_slice(), [2, 0, 1].as_slice());
-    assert_eq!(rt; joined.len(), 3);
+    assert_eq!(rt; joined.into_structs().len(), 3);
     Ok(())
 }
