@@ -6,7 +6,8 @@ use Rattle.std.specs.Prelude.{Bool, true, false, ◌&&◌, nat_eq}
 use Rattle.gsl_types.specs.declared.ty.StructType.{StructType}
 use Rattle.gsl_tree.specs.declared.unit.BlockMember.{BlockMember}
 use Rattle.gsl_check_blocks.specs.Blocks.{is_end}
-use Rattle.gsl_check_blocks.specs.Stands.{Stand}
+use Rattle.gsl_check_blocks.specs.declared.so_far.SoFar.{SoFar}
+use Rattle.gsl_check_blocks.specs.Stands.{Stand, Stands}
 
 -- where more may come, it does not matter what is said of the end
 pub stand_at : (std140 : Bool) (structs : List StructType) (ended : Bool) (members : List BlockMember) → Stand std140 structs false members → Stand std140 structs ended members
@@ -50,3 +51,19 @@ stand_here std140 structs last n xs members within stand = subst (λ b. Stand st
 pub stand_done : {A : Type 0} (std140 : Bool) (structs : List StructType) (last : Bool) (n : ℕ) (xs : List A) (members : List BlockMember) → length xs ≤ n
     → Stand std140 structs (last && is_end (drop n xs)) members → Stand std140 structs last members
 stand_done std140 structs last n xs members past stand = subst (λ b. Stand std140 structs b members) (ap (λ b. last && b) (at_end n xs past) ∙ and_true last) stand
+
+-- ---- the same of the members so far
+
+flagged : (std140 : Bool) (structs : List StructType) (a b : Bool) (all : SoFar) → Stands std140 structs a all → Stand std140 structs b all.members → Stands std140 structs b all
+flagged std140 structs a b all stands stand = record { stand = stand; names = stands.names; outlined = stands.outlined; outlines = stands.outlines; end = stands.end }
+
+pub stands_at : (std140 : Bool) (structs : List StructType) (ended : Bool) (all : SoFar) → Stands std140 structs false all → Stands std140 structs ended all
+stands_at std140 structs ended all stands = flagged std140 structs false ended all stands (stand_at std140 structs ended all.members stands.stand)
+
+pub stands_here : {A : Type 0} (std140 : Bool) (structs : List StructType) (last : Bool) (n : ℕ) (xs : List A) (all : SoFar) → n < length xs
+    → Stands std140 structs (last && is_end (drop n xs)) all → Stands std140 structs false all
+stands_here std140 structs last n xs all within stands = flagged std140 structs (last && is_end (drop n xs)) false all stands (stand_here std140 structs last n xs all.members within stands.stand)
+
+pub stands_done : {A : Type 0} (std140 : Bool) (structs : List StructType) (last : Bool) (n : ℕ) (xs : List A) (all : SoFar) → length xs ≤ n
+    → Stands std140 structs (last && is_end (drop n xs)) all → Stands std140 structs last all
+stands_done std140 structs last n xs all past stands = flagged std140 structs (last && is_end (drop n xs)) last all stands (stand_done std140 structs last n xs all.members past stands.stand)

@@ -1,16 +1,17 @@
 //! The members of a block.
 
-ghost use Rattle.std.specs.Prelude.{◌≡◌, ◌<◌, ◌+◌, ◌&&◌, [], IfOk, OnOk, drop, false, true, length};
+ghost use Rattle.std.specs.Prelude.{◌≡◌, ◌<◌, ◌+◌, ◌&&◌, [], IfOk, drop, false, true, length};
 ghost use Rattle.gsl_base.specs.Checked.{Gives, GivesBy};
 ghost use Rattle.gsl_types.specs.Known.{AreStructs};
 ghost use Rattle.gsl_layout.specs.Extents.{ArePlain};
 ghost use Rattle.gsl_makers.specs.Heights.{AreHeights};
 ghost use Rattle.gsl_check_blocks.specs.Blocks as spec;
-ghost use Rattle.gsl_check_blocks.specs.Stands.{Stand};
+ghost use Rattle.gsl_check_blocks.specs.Stands.{Stand, Stands};
 
 use crate::frame::Frame;
 use crate::member::{may_be_member, may_stand, member_of, member_type};
-use gsl_base::{List, Refusal};
+use crate::so_far::SoFar;
+use gsl_base::Refusal;
 use gsl_check_expr::{Env, Written, declared, written_type};
 use gsl_qualifiers::{Qualified, Role, qualify};
 use gsl_syntax::{Declared, Member, Name};
@@ -27,21 +28,20 @@ fn push_member(
     q: &Qualified,
     name: &Name,
     written: Written,
-    members: &mut BlockMembers,
-) -> Result<(), Refusal>
+    all: SoFar,
+) -> Result<SoFar, Refusal>
     requires known { AreStructs env.now.scene.structs }
     requires plain { ArePlain env.now.scene.structs }
     requires heights { AreHeights env.now.scene.structs env.now.heights }
-    requires stand { Stand frame.now.std140 env.now.scene.structs false members.old }
-    ensures gives { GivesBy (λ _. members.new) result (spec.with_member frame.now last env.now q.now name.now written members.old) }
-    ensures stand { OnOk result (Stand frame.now.std140 env.now.scene.structs last members.new) }
+    requires stand { Stands frame.now.std140 env.now.scene.structs false all }
+    ensures gives { GivesBy (λ more. more.members) result (spec.with_member frame.now last env.now q.now name.now written all.members) }
+    ensures stand { IfOk result (Stands frame.now.std140 env.now.scene.structs last) }
 {
-    may_be_member(frame, last, env, name, &written, members.as_slice())?;
+    may_be_member(frame, last, env, name, &written, &all)?;
     let ty = member_type(alloc, written)?;
     let member = member_of(alloc, frame, q, name, ty)?;
-    may_stand(alloc, env, frame, q, name, members.as_slice(), &member)?;
-    members.push(member)?;
-    Ok(())
+    let end = may_stand(env, frame, q, name, &all, &member)?;
+    Ok(all.with(alloc, member, end)?)
 }
 
 /// Puts a member behind others, where a type stands before its name.
@@ -54,17 +54,17 @@ fn push_name(
     q: &Qualified,
     base: &Written,
     one: &Declared,
-    members: &mut BlockMembers,
-) -> Result<(), Refusal>
+    all: SoFar,
+) -> Result<SoFar, Refusal>
     requires known { AreStructs env.now.scene.structs }
     requires plain { ArePlain env.now.scene.structs }
     requires heights { AreHeights env.now.scene.structs env.now.heights }
-    requires stand { Stand frame.now.std140 env.now.scene.structs false members.old }
-    ensures gives { GivesBy (λ _. members.new) result (spec.with_name frame.now last env.now q.now base.now one.now members.old) }
-    ensures stand { OnOk result (Stand frame.now.std140 env.now.scene.structs last members.new) }
+    requires stand { Stands frame.now.std140 env.now.scene.structs false all }
+    ensures gives { GivesBy (λ more. more.members) result (spec.with_name frame.now last env.now q.now base.now one.now all.members) }
+    ensures stand { IfOk result (Stands frame.now.std140 env.now.scene.structs last) }
 {
     let written = declared(alloc, env, base, one.dims.as_slice())?;
-    push_member(alloc, env, frame, last, q, &one.name, written, members)
+    push_member(alloc, env, frame, last, q, &one.name, written, all)
 }
 
 /// Whether no item stands behind that of a number.
@@ -92,20 +92,21 @@ fn push_names(
     q: &Qualified,
     base: &Written,
     names: &[Declared],
-    members: &mut BlockMembers,
-) -> Result<(), Refusal>
+    all: SoFar,
+) -> Result<SoFar, Refusal>
     requires known { AreStructs env.now.scene.structs }
     requires plain { ArePlain env.now.scene.structs }
     requires heights { AreHeights env.now.scene.structs env.now.heights }
-    requires stand { Stand frame.now.std140 env.now.scene.structs false members.old }
-    ensures gives { GivesBy (λ _. members.new) result (spec.with_names frame.now last env.now q.now base.now names.now members.old) }
-    ensures stand { OnOk result (Stand frame.now.std140 env.now.scene.structs last members.new) }
+    requires stand { Stands frame.now.std140 env.now.scene.structs false all }
+    ensures gives { GivesBy (λ more. more.members) result (spec.with_names frame.now last env.now q.now base.now names.now all.members) }
+    ensures stand { IfOk result (Stands frame.now.std140 env.now.scene.structs last) }
 {
+    let mut all = all;
     for k in 0..names.len() {
         let ended = is_ended(last, names, k);
-        push_name(alloc, env, frame, ended, q, base, &names[k], members)?;
+        all = push_name(alloc, env, frame, ended, q, base, &names[k], all)?;
     }
-    Ok(())
+    Ok(all)
 }
 
 /// Puts the members of one line behind others.
@@ -116,14 +117,14 @@ fn push_line(
     frame: &Frame,
     last: bool,
     line: &Member,
-    members: &mut BlockMembers,
-) -> Result<(), Refusal>
+    all: SoFar,
+) -> Result<SoFar, Refusal>
     requires known { AreStructs env.now.scene.structs }
     requires plain { ArePlain env.now.scene.structs }
     requires heights { AreHeights env.now.scene.structs env.now.heights }
-    requires stand { Stand frame.now.std140 env.now.scene.structs false members.old }
-    ensures gives { GivesBy (λ _. members.new) result (spec.with_line frame.now last env.now line.now members.old) }
-    ensures stand { OnOk result (Stand frame.now.std140 env.now.scene.structs last members.new) }
+    requires stand { Stands frame.now.std140 env.now.scene.structs false all }
+    ensures gives { GivesBy (λ more. more.members) result (spec.with_line frame.now last env.now line.now all.members) }
+    ensures stand { IfOk result (Stands frame.now.std140 env.now.scene.structs last) }
 {
     let q = qualify(
         alloc,
@@ -140,7 +141,7 @@ fn push_line(
         &q,
         &base,
         line.names.as_slice(),
-        members,
+        all,
     )
 }
 
@@ -150,19 +151,20 @@ fn push_lines(
     env: &Env,
     frame: &Frame,
     lines: &[Member],
-    members: &mut BlockMembers,
-) -> Result<(), Refusal>
+    all: SoFar,
+) -> Result<SoFar, Refusal>
     requires known { AreStructs env.now.scene.structs }
     requires plain { ArePlain env.now.scene.structs }
     requires heights { AreHeights env.now.scene.structs env.now.heights }
-    requires stand { Stand frame.now.std140 env.now.scene.structs false members.old }
-    ensures gives { GivesBy (λ _. members.new) result (spec.with_lines frame.now env.now lines.now members.old) }
-    ensures stand { OnOk result (Stand frame.now.std140 env.now.scene.structs true members.new) }
+    requires stand { Stands frame.now.std140 env.now.scene.structs false all }
+    ensures gives { GivesBy (λ more. more.members) result (spec.with_lines frame.now env.now lines.now all.members) }
+    ensures stand { IfOk result (Stands frame.now.std140 env.now.scene.structs true) }
 {
+    let mut all = all;
     for k in 0..lines.len() {
-        push_line(alloc, env, frame, is_last(lines, k), &lines[k], members)?;
+        all = push_line(alloc, env, frame, is_last(lines, k), &lines[k], all)?;
     }
-    Ok(())
+    Ok(all)
 }
 
 /// The members of a block, from the first line to the last.
@@ -178,7 +180,7 @@ pub fn members_of(
     ensures gives { Gives result (spec.with_lines frame.now env.now lines.now []) }
     ensures stand { IfOk result (λ members. Stand frame.now.std140 env.now.scene.structs true members) }
 {
-    let mut members = List::new(alloc);
-    push_lines(alloc, env, frame, lines, &mut members)?;
-    Ok(members)
+    let none = SoFar::new(alloc, frame.std140, &env.scene.structs)?;
+    let all = push_lines(alloc, env, frame, lines, none)?;
+    Ok(all.members)
 }

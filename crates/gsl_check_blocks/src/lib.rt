@@ -8,6 +8,7 @@ mod declaring;
 mod frame;
 mod gathering;
 mod member;
+mod so_far;
 mod standing;
 
 pub use declaring::{
@@ -16,4 +17,4 @@ pub use declaring::{
 pub use frame::Frame;
 pub use gathering::members_of;
 pub use member::{has_member, is_misplaced_array, is_taken, may_be_member, may_stand};
-pub use standing::is_misplaced;
+pub use so_far::SoFar;

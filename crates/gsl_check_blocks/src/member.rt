@@ -1,15 +1,14 @@
 //! One member of a block.
 
-ghost use Rattle.std.specs.Prelude.{◌≡◌, ◌++◌, ◌∷◌, [], IfOk, IsTrue, false};
-ghost use Rattle.gsl_base.specs.Checked.{Gives};
-ghost use Rattle.gsl_types.specs.Known.{AreStructs};
-ghost use Rattle.gsl_layout.specs.Extents.{ArePlain, plain};
+ghost use Rattle.std.specs.Prelude.{◌≡◌, ◌++◌, ◌∷◌, [], IfOk, IsTrue, Some, false};
+ghost use Rattle.gsl_base.specs.Checked.{Gives, GivesBy};
+ghost use Rattle.gsl_layout.specs.Extents.{plain};
 ghost use Rattle.gsl_makers.specs.Heights.{AreHeights};
 ghost use Rattle.gsl_check_blocks.specs.Blocks as spec;
-ghost use Rattle.gsl_check_blocks.specs.Stands.{IsMemberType, Stand};
+ghost use Rattle.gsl_check_blocks.specs.Stands.{EndsBehind, HasNames, IsMemberType, Stands};
 
 use crate::frame::Frame;
-use crate::standing::is_misplaced;
+use crate::so_far::SoFar;
 use gsl_base::{Boxed, Code, Memory, Place, Refusal, Text};
 use gsl_check_decl::{is_declared, is_high, is_reserved, may_be_had};
 use gsl_check_expr::{Env, Written};
@@ -30,10 +29,11 @@ pub fn has_member(members: &[BlockMember], name: &Text) -> bool
 
 /// Whether a member of this block has a name, or, where its members are names of their own, it is declared already.
 #[tactic(auto, unfolding(crate::specs::Blocks::is_taken))]
-pub fn is_taken(frame: &Frame, env: &Env, members: &[BlockMember], name: &Text) -> bool
-    ensures { result ≡ spec.is_taken frame.now env.now members.now name.now }
+pub fn is_taken(frame: &Frame, env: &Env, all: &SoFar, name: &Text) -> bool
+    requires names { HasNames all.now }
+    ensures { result ≡ spec.is_taken frame.now env.now all.now.members name.now }
 {
-    has_member(members, name) || (frame.bare && is_declared(env, name))
+    all.has(name) || (frame.bare && is_declared(env, name))
 }
 
 /// Whether it is a runtime array that is not the last member of a buffer block.
@@ -65,13 +65,14 @@ pub fn may_be_member(
     env: &Env,
     name: &Name,
     written: &Written,
-    members: &[BlockMember],
+    all: &SoFar,
 ) -> Result<(), Refusal>
-    ensures gives { Gives result (spec.may_be_member frame.now last env.now name.now written.now members.now) }
+    requires names { HasNames all.now }
+    ensures gives { Gives result (spec.may_be_member frame.now last env.now name.now written.now all.now.members) }
     ensures may { IfOk result (λ _. IsMemberType env.now.scene.structs (spec.member_type written.now)) }
     ensures plain { IfOk result (λ _. last ≡ false → IsTrue (plain (spec.member_type written.now))) }
 {
-    if is_taken(frame, env, members, &name.text) {
+    if is_taken(frame, env, all, &name.text) {
         return Err(refuse(name.place, Code::E0403));
     }
     if is_reserved(&name.text) {
@@ -153,31 +154,27 @@ pub(crate) fn member_of(
     })
 }
 
-/// Whether a member may stand behind others; a wrong `offset` is the fault of that name.
-#[tactic(auto, unfolding(crate::specs::Blocks::may_stand))]
+/// The end of a member that may stand behind others; a wrong `offset` is the fault of that name.
+#[tactic(auto, unfolding(crate::specs::Blocks::may_stand, crate::specs::Blocks::is_misplaced))]
 pub fn may_stand(
-    alloc: Global,
     env: &Env,
     frame: &Frame,
     q: &Qualified,
     name: &Name,
-    members: &[BlockMember],
+    all: &SoFar,
     member: &BlockMember,
-) -> Result<(), Refusal>
-    requires known { AreStructs env.now.scene.structs }
-    requires plain { ArePlain env.now.scene.structs }
+) -> Result<u64, Refusal>
     requires heights { AreHeights env.now.scene.structs env.now.heights }
-    requires stand { Stand frame.now.std140 env.now.scene.structs false members.now }
+    requires stand { Stands frame.now.std140 env.now.scene.structs false all.now }
     requires may { IsMemberType env.now.scene.structs member.now.ty }
-    ensures gives { Gives result (spec.may_stand env.now frame.now q.now name.now members.now member.now) }
-    ensures placed { IfOk result (λ _. spec.is_misplaced frame.now env.now.scene (members.now ++ member.now ∷ []) ≡ false) }
+    ensures gives { GivesBy (λ _. tt) result (spec.may_stand env.now frame.now q.now name.now all.now.members member.now) }
+    ensures ends { IfOk result (λ end. EndsBehind (Some end) frame.now.std140 env.now.scene.structs (all.now.members ++ member.now ∷ [])) }
 {
-    let wrong = is_misplaced(alloc, frame, &env.scene, members, member)?;
-    if wrong {
+    let Some(end) = all.end_with(frame.std140, &env.scene.structs, member) else {
         return Err(refuse(offset_place(name.place, q.offset), Code::E0709));
-    }
+    };
     if is_high(env, &member.ty) {
         return Err(refuse(name.place, Code::E0908));
     }
-    Ok(())
+    Ok(end)
 }

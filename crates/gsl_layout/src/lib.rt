@@ -19,6 +19,8 @@ pub use laws::{
     need_is_within_size, places_are_rounded_up, rules_raise, std140_counts_in_16,
 };
 pub use measuring::{lay, lay_placed};
+pub use misplaced::{end_of_placed, outline_structs};
+pub use outline::{Outline, Outlines};
 pub use placing::{Placing, Placings};
 pub use refusal::{LayRefusal, PlaceRefusal};
 pub use rules::{Rules, Std140, Std430};

@@ -4,7 +4,7 @@ ghost use Rattle.std.specs.Prelude.{◌≡◌, ◌<◌, ◌≤◌, ◌+◌, ◌^
 ghost use Rattle.std.specs.List.{AllByRecursion};
 ghost use Rattle.gsl_types.specs.Known.{AreStructs, IsSound};
 ghost use Rattle.gsl_layout.specs.Measures.{arrayed, block, measure, misplaced_in, run};
-ghost use Rattle.gsl_layout.specs.Outlines.{AreOutlined, most_told, outline};
+ghost use Rattle.gsl_layout.specs.Outlines.{AreOutlined, EndsPlaced, most_told, outline};
 ghost use Rattle.gsl_layout.specs.Placings.{misplaced, offset_behind, wrong_align, wrong_offset};
 ghost use Rattle.gsl_layout.specs.Rules.{IsAlignment};
 ghost use Rattle.gsl_layout.specs.declared.measured.Measured.{Measured};
@@ -139,7 +139,7 @@ fn outline_members<R: Rules>(
 }
 
 /// The outlines of all structs.
-fn outline_structs<R: Rules>(
+pub fn outline_structs<R: Rules>(
     alloc: Global,
     rules: &R,
     structs: &Structs,
@@ -154,6 +154,28 @@ fn outline_structs<R: Rules>(
         outlines.push(next)?;
     }
     Ok(outlines)
+}
+
+/// The end of a member of the type that stands behind an end, or `None` where it may not stand there (GLSL 4.50, 4.4.5). An end of 2^32
+/// bytes or more counts as 2^32.
+pub fn end_of_placed<R: Rules>(
+    rules: &R,
+    structs: &Structs,
+    outlines: &Outlines,
+    end: u64,
+    placing: Placing,
+    ty: &Ty,
+) -> Option<u64>
+    requires outlined { AreOutlined (R.raised rules.now) structs.now outlines.now }
+    requires sound { IsSound (length outlines.now) ty.now }
+    requires end { end ≤ most_told }
+    ensures { (before : ℕ) → end ≡ min before most_told → EndsPlaced result before (placing, measure (R.raised rules.now) structs.now ty.now) }
+{
+    let member = outline_type(rules, structs, outlines, ty);
+    if is_misplaced(end, placing, member) {
+        return None;
+    }
+    Some(end_behind(end, placing, member))
 }
 
 /// The number of the first member that may not stand where its placing says.
@@ -172,12 +194,11 @@ pub(crate) fn first_misplaced<R: Rules>(
     let outlines = outline_structs(alloc, rules, structs)?;
     let mut end: u64 = 0;
     for k in 0..members.len() {
-        let member = outline_type(rules, structs, &outlines, &members[k].ty);
         let placing = placing_at(placings, k);
-        if is_misplaced(end, placing, member) {
-            return Ok(Some(k as u32));
+        match end_of_placed(rules, structs, &outlines, end, placing, &members[k].ty) {
+            Some(next) => end = next,
+            None => return Ok(Some(k as u32)),
         }
-        end = end_behind(end, placing, member);
     }
     Ok(None)
 }
