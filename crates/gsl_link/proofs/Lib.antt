@@ -2,6 +2,7 @@ pub mod OneUnit
 pub mod Example
 pub mod Found
 mod Again
-mod Disagreeing
 mod LargeGlobals
+mod Linked
+mod Steps
 mod Undefined

@@ -2,5 +2,5 @@ pub mod Rows
 pub mod Joined
 pub mod Units
 pub mod Finding
-pub mod Against
 pub mod Sides
+pub mod Left

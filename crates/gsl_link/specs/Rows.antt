@@ -14,12 +14,13 @@ use Rattle.gsl_tree.specs.declared.unit.LocalSize.{LocalSize}
 use Rattle.gsl_tree.specs.WellTyped.{is_push}
 use Rattle.gsl_tree.specs.Weights.{program_weight, function_leaves}
 use Rattle.gsl_link_units.specs.Firsts.{firsts, again, earliest, first_place}
-use Rattle.gsl_link_units.specs.Declarations.{Side, Declaration, declarations, declared_at}
-use Rattle.gsl_link_units.specs.Agreement.{is_against_any, both_or_neither}
+use Rattle.gsl_link_units.specs.Declarations.{Side, declared_at}
+use Rattle.gsl_link_units.specs.Agreement.{both_or_neither}
 use Rattle.gsl_link_whole.specs.Numbers.{Sited, all_globals, same_variable, declared_blocks}
 use Rattle.gsl_link_whole.specs.Whole.{is_main}
 use Rattle.gsl_link_calls.specs.declared.call.Call.{Call}
 use Rattle.gsl_link_calls.specs.Calls.{all_calls, reaches, any_nest}
+use Rattle.gsl_link_names.specs.Earlier.{against_earlier}
 
 -- the place of what is said of all sources
 abbrev pub at_start : Place
@@ -29,11 +30,6 @@ abbrev pub if_so : Bool → Place → Option Place
 if_so b place = if b then Some place else None
 
 -- ---- E0804: a declaration is against one of an earlier unit
-
-abbrev pub against_earlier : List StructType → List Declaration → List Side → List Declaration
-against_earlier structs earlier [] = []
-against_earlier structs earlier (side ∷ sides) =
-    filter (is_against_any structs earlier) (declarations side) ++ against_earlier structs (earlier ++ declarations side) sides
 
 abbrev pub disagreement : List StructType → List Side → Option Place
 disagreement structs sides = earliest (map declared_at (against_earlier structs [] sides))

@@ -12,9 +12,9 @@ use Rattle.gsl_link_units.specs.Declarations.{Side}
 use Rattle.gsl_link_units.specs.Firsts.{firsts_behind, firsts}
 use Rattle.gsl_link_units.specs.Agreement.{same_function}
 use Rattle.gsl_link_whole.specs.Numbers.{same_block, same_interface, declared_blocks, joined_interfaces, joined_heads}
-use Rattle.gsl_link_numbers.specs.Keys.{head_words}
+use Rattle.gsl_link_structs.specs.Keys.{head_words}
 use Rattle.gsl_link_numbers.specs.Joining.{blocks_behind, interfaces_behind, heads_behind, block_names, interface_names, head_keys}
-use Rattle.gsl_link_numbers.proofs.Distinguished.{heads_tell}
+use Rattle.gsl_link_structs.proofs.Distinguished.{heads_tell}
 
 all_append : {K : Type 0} (eq : K → K → Bool) (ks xs ys : List K) → insert_all eq ks (xs ++ ys) ≡ insert_all eq (insert_all eq ks xs) ys
 all_append eq ks [] ys = refl

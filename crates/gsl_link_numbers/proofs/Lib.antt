@@ -1,6 +1,5 @@
 mod Apart
 mod Chosen
-mod Distinguished
 mod Joined
 mod Numbered
 mod Ordered
@@ -8,4 +7,4 @@ mod Places
 pub mod Sited
 mod Sizes
 mod Stood
-mod Tabled
+pub mod Tabled

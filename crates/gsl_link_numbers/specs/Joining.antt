@@ -8,7 +8,7 @@ use Rattle.gsl_tree.specs.declared.unit.Prototype.{Prototype}
 use Rattle.gsl_link_units.specs.Declarations.{Side}
 use Rattle.gsl_link_units.specs.Agreement.{same_function}
 use Rattle.gsl_link_whole.specs.Numbers.{same_block, same_interface}
-use Rattle.gsl_link_numbers.specs.Keys.{head_words}
+use Rattle.gsl_link_structs.specs.Keys.{head_words}
 
 -- each block that is declared, behind those that are there
 abbrev pub blocks_behind : List Block → List Side → List Block

@@ -1,4 +1,3 @@
-pub mod Keys
 pub mod Joining
 pub mod Placing
 pub mod Standing

@@ -6,9 +6,9 @@ ghost use Rattle.gsl_link_units.specs.Agreement.{same_function};
 ghost use Rattle.gsl_link_whole.specs.Numbers.{joined_heads as all_of};
 ghost use Rattle.gsl_link_numbers.specs.Joining as spec;
 
-use crate::key::Key;
 use crate::sets::{key_number, put_key};
 use gsl_base::{List, Memory, Text};
+use gsl_link_structs::Key;
 use gsl_link_whole::{Side, copied};
 use gsl_tree::{Params, Prototype, Prototypes};
 use gsl_types::{Direction, Ty};

@@ -4,8 +4,8 @@ ghost use Rattle.std.specs.Prelude.{◌≡◌, not, bytes_eq, IfOk, OnOk};
 ghost use Rattle.std.specs.List.{list_any, position_or_len};
 ghost use Rattle.indexmap.specs.IndexSet.{insert_key};
 
-use crate::key::Key;
 use gsl_base::{Memory, Text};
+use gsl_link_structs::Key;
 use indexmap::IndexSet;
 
 /// A number as a word.

@@ -1,4 +1,4 @@
--- Structs that are the same, and searches among them.
+-- Lists of other lengths do not agree, and loops over lists.
 use Rattle.std.proofs.Common.{ℕ, ◌≡◌, suc, ◌+◌, ◌<◌, ◌≤◌, Bool, true, false, cond, not, ◌&&◌, ◌||◌, List, [], ◌∷◌, length, refl, ap, bytes_eq, arith, map, take, drop, ◌++◌, get_or, set, slice_set, ◌∙◌}
 use Rattle.std.proofs.lemmas.List.Edits.{map_over_more}
 use Rattle.std.specs.List.{list_any, position_or_len}
@@ -9,17 +9,6 @@ use Rattle.gsl_types.specs.declared.ty.Direction.{Direction}
 use Rattle.gsl_types.specs.declared.ty.Ty.{Ty}
 use Rattle.gsl_tree.specs.declared.unit.BlockMember.{BlockMember}
 use Rattle.gsl_link_units.specs.Agreement.{same_params, same_direction, same_directions, agree_member, agree_members}
-
-pub other_lengths : (a b : List Member) → (length a ≡ length b → ⊥) → false ≡ same_members a b
-other_lengths [] [] differ = absurd (differ refl)
-other_lengths [] (y ∷ ys) differ = refl
-other_lengths (x ∷ xs) [] differ = refl
-other_lengths (x ∷ xs) (y ∷ ys) differ = by_cases (bytes_eq x.name y.name) (same_type x.ty y.ty) (other_lengths xs ys (λ e. differ (ap suc e)))
-  where
-    by_cases : (b c : Bool) → false ≡ same_members xs ys → false ≡ (b && c && same_members xs ys)
-    by_cases true true later = later
-    by_cases true false later = refl
-    by_cases false c later = refl
 
 both_needed : (b c : Bool) → false ≡ c → false ≡ (b && c)
 both_needed true c is = is
@@ -42,22 +31,6 @@ other_members [] [] differ = absurd (differ refl)
 other_members [] (y ∷ ys) differ = refl
 other_members (x ∷ xs) [] differ = refl
 other_members (x ∷ xs) (y ∷ ys) differ = both_needed (agree_member x y) (agree_members xs ys) (other_members xs ys (λ e. differ (ap suc e)))
-
-module _ {A : Type 0} (test : A → Bool) where
-  any_step : (xs : List A) → (position_or_len test xs < length xs → list_any test xs ≡ true) × (length xs ≤ position_or_len test xs → list_any test xs ≡ false)
-  any_step [] = ((λ below. absurd (omega (arith, below))), (λ above. refl))
-  any_step (x ∷ xs) = by_cases (test x) (any_step xs)
-    where
-      by_cases : (b : Bool) → (position_or_len test xs < length xs → list_any test xs ≡ true) × (length xs ≤ position_or_len test xs → list_any test xs ≡ false) →
-          (cond (not b) (1 + position_or_len test xs) 0 < length (x ∷ xs) → (b || list_any test xs) ≡ true) × (length (x ∷ xs) ≤ cond (not b) (1 + position_or_len test xs) 0 → (b || list_any test xs) ≡ false)
-      by_cases true later = ((λ below. refl), (λ above. absurd (omega (arith, above))))
-      by_cases false later = ((λ below. later.0 (omega (arith, below))), (λ above. later.1 (omega (arith, above))))
-
-  pub any_below : (xs : List A) → position_or_len test xs < length xs → list_any test xs ≡ true
-  any_below xs = (any_step xs).0
-
-  pub none_below : (xs : List A) → length xs ≤ position_or_len test xs → list_any test xs ≡ false
-  none_below xs = (any_step xs).1
 
 -- a loop that writes what it makes of each item over it
 pub put_over : {X : Type 0} (f : X → X) (xs ys : List X) (i : ℕ) (x y : X) → i < length xs → ys ≡ map f (take i xs) ++ drop i xs → x ≡ get_or ys i x → y ≡ f x →

@@ -5,7 +5,6 @@
 
 mod agreement;
 mod siding;
-mod structs;
 mod types;
 
 pub use agreement::{
@@ -13,5 +12,4 @@ pub use agreement::{
     same_params,
 };
 pub use siding::retype_unit;
-pub use structs::join_structs;
 pub use types::{new_number, retyped, same_type};

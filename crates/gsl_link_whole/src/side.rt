@@ -5,7 +5,8 @@ ghost use Rattle.gsl_link_units.specs.Declarations as spec;
 ghost use Rattle.gsl_link_units.specs.Structs as structs;
 
 use gsl_base::{List, Memory};
-use gsl_link_units::{join_structs, retype_unit};
+use gsl_link_structs::{Joined, join_structs};
+use gsl_link_units::retype_unit;
 use gsl_tree::{TypedUnit, TypedUnits};
 use gsl_types::Structs;
 use std::alloc::Global;
@@ -48,30 +49,30 @@ fn empty(alloc: Global) -> TypedUnit {
 }
 
 /// A unit by the joined structs, to which its own are put.
-fn joined_side(alloc: Global, joined: &mut Structs, unit: TypedUnit) -> Result<Side, Memory>
-    ensures joined { OnOk result (joined.new ≡ (structs.with_structs joined.old [] unit.structs).0) }
-    ensures side { IfOk result (λ s. s ≡ spec.side_of (structs.with_structs joined.old [] unit.structs).1 unit) }
+fn joined_side(alloc: Global, joined: Joined, unit: TypedUnit) -> Result<(Joined, Side), Memory>
+    ensures joined { IfOk result (λ r. r.0 ≡ (structs.with_structs joined [] unit.structs).0) }
+    ensures side { IfOk result (λ r. r.1 ≡ spec.side_of (structs.with_structs joined [] unit.structs).1 unit) }
 {
     let mut unit = unit;
-    let structs = join_structs(alloc, joined, unit.structs.as_slice())?;
+    let (joined, structs) = join_structs(alloc, joined, unit.structs.as_slice())?;
     retype_unit(alloc, structs.as_slice(), &mut unit)?;
-    Ok(Side { structs, unit })
+    Ok((joined, Side { structs, unit }))
 }
 
 /// Puts a unit behind others.
 fn put_side(
     alloc: Global,
-    joined: &mut Structs,
+    joined: Joined,
     sides: &mut Sides,
     unit: &mut TypedUnit,
-) -> Result<(), Memory>
-    ensures joined { OnOk result (joined.new ≡ (structs.with_structs joined.old [] unit.old.structs).0) }
-    ensures sides { OnOk result (sides.new ≡ sides.old ++ spec.side_of (structs.with_structs joined.old [] unit.old.structs).1 unit.old ∷ []) }
+) -> Result<Joined, Memory>
+    ensures joined { IfOk result (λ all. all ≡ (structs.with_structs joined [] unit.old.structs).0) }
+    ensures sides { OnOk result (sides.new ≡ sides.old ++ spec.side_of (structs.with_structs joined [] unit.old.structs).1 unit.old ∷ []) }
 {
     let unit = replace(unit, empty(alloc));
-    let side = joined_side(alloc, joined, unit)?;
+    let (joined, side) = joined_side(alloc, joined, unit)?;
     sides.push(side)?;
-    Ok(())
+    Ok(joined)
 }
 
 /// Units by the joined structs, which are put into a list.
@@ -82,8 +83,10 @@ pub fn join_units(alloc: Global, joined: &mut Structs, units: TypedUnits) -> Res
 {
     let mut all = units.into_vec();
     let mut sides = List::new(alloc);
+    let mut each = Joined::new(alloc);
     for k in 0..all.len() {
-        put_side(alloc, joined, &mut sides, &mut all[k])?;
+        each = put_side(alloc, each, &mut sides, &mut all[k])?;
     }
+    *joined = each.into_structs();
     Ok(sides)
 }

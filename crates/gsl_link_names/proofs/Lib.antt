@@ -1,0 +1,4 @@
+mod Layable
+mod Steps
+mod Tables
+mod Told

@@ -1,0 +1,2 @@
+pub mod Distinguished
+mod Listed

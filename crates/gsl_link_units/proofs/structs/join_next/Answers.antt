@@ -1,6 +1,0 @@
-use Rattle.std.proofs.Common.{◌∷◌, ◌++◌, [], ◌∙◌, ap}
-use Rattle.gsl_link_units.specs.Structs as spec
-use Rattle.gsl_link_units.proofs.structs.join_next.Goals as goal
-
-pub returns-clause-numbers : goal.returns-clause-numbers
-returns-clause-numbers c = c.in_ok-push.ensures.ok ∙ ap (λ n. c.args.numbers.now ++ n ∷ []) (c.in_ok-number.ensures.number ∙ ap (spec.struct_number c.args.joined.now) (c.in_ok-next.ensures ∙ ap (λ ns. spec.retyped_struct ns c.args.s.now) c.as_slice.ensures))

@@ -1,6 +1,0 @@
-use Rattle.std.proofs.Common.{◌≡◌, drop, []}
-use Rattle.gsl_link_units.specs.Structs as spec
-use Rattle.gsl_link_units.proofs.structs.join_structs.Given as goal
-
-abbrev pub invariant-loop-k : goal.invariant-loop-k
-invariant-loop-k l = spec.with_structs l.joined l.numbers (drop l.k l.fn.structs) ≡ spec.with_structs l.initial.joined [] l.fn.structs

@@ -1,6 +1,0 @@
-use Rattle.std.proofs.Common.{◌≡◌, drop, length}
-use Rattle.gsl_link_units.specs.Structs as spec
-use Rattle.gsl_link_units.proofs.structs.same_members.Given as goal
-
-abbrev pub invariant-loop-k : goal.invariant-loop-k
-invariant-loop-k l = (length l.fn.a ≡ length l.fn.b) × (spec.same_members (drop l.k l.fn.a) (drop l.k l.fn.b) ≡ spec.same_members l.fn.a l.fn.b)
