@@ -38,7 +38,7 @@ use Rattle.gsl_qualifiers.specs.Qualifiers.{qualified}
 use Rattle.gsl_check_blocks.specs.declared.frame.Frame.{Frame}
 use Rattle.gsl_check_blocks.specs.Blocks.{member_type, had_type, is_open, is_taken, is_misplaced_array, offset_place, member_of, is_misplaced, may_be_member, may_stand, with_member, is_end, with_name, with_names, with_line, with_lines, kind_of, is_uniform, frame_of, may_be_instance, text_of, is_block_taken, block_of, may_be_block, block_with, block}
 use Rattle.gsl_check_blocks.specs.Blocks as blocks
-use Rattle.gsl_check_law.specs.Formed.{is_name, has_some, names_formed, line_formed, lines_formed, spec_formed, dims_formed}
+use Rattle.gsl_formed.specs.Formed.{is_name, has_some, names_formed, line_formed, lines_formed, spec_formed, dims_formed}
 use Rattle.gsl_check_law.specs.Scenes.{IsEnv}
 use Rattle.gsl_check_law.proofs.Rows.{row, not_false, both, so}
 use Rattle.gsl_check_law.proofs.Names.{name_is}

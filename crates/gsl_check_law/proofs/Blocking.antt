@@ -30,7 +30,7 @@ use Rattle.gsl_qualifiers.specs.Qualifiers.{Storage, Fixed, Within, Outward, Bot
 use Rattle.gsl_check_blocks.specs.declared.frame.Frame.{Frame}
 use Rattle.gsl_check_blocks.specs.Blocks.{with_lines, kind_of, is_uniform, frame_of, may_be_instance, text_of, is_block_taken, block_of, may_be_block, block_with, block}
 use Rattle.gsl_check_blocks.specs.Blocks as blocks
-use Rattle.gsl_check_law.specs.Formed.{is_name, lines_formed, instance_formed}
+use Rattle.gsl_formed.specs.Formed.{is_name, lines_formed, instance_formed}
 use Rattle.gsl_check_law.specs.Scenes.{IsEnv}
 use Rattle.gsl_check_law.proofs.Rows.{row, not_false}
 use Rattle.gsl_check_law.proofs.Names.{name_is}

@@ -20,7 +20,7 @@ use Rattle.gsl_check_stmt.specs.Statements.{statements}
 use Rattle.gsl_check_heads.specs.declared.parameter.Parameter.{Parameter}
 use Rattle.gsl_check_heads.specs.Heads.{Headed, typed_params, named_if, params_named, entered, left}
 use Rattle.gsl_check.specs.Functions.{nowhere, bodied}
-use Rattle.gsl_check_law.specs.Formed.{IsFormedStmt}
+use Rattle.gsl_formed.specs.Formed.{IsFormedStmt}
 use Rattle.gsl_check_law.specs.Scenes.{IsScene, IsThere, AreThere, IsEnv}
 use Rattle.gsl_check_law.proofs.Found.{all_map}
 use Rattle.gsl_check_law.proofs.Longer.{Grows}

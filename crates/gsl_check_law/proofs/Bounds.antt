@@ -54,7 +54,7 @@ use Rattle.gsl_check_blocks.specs.Blocks as blocks
 use Rattle.gsl_check_heads.specs.Heads.{Headed, headed_by, headed, head_number, declared_head, header, params_in, typed_params, may_be_head, is_block, with_number, entered, left}
 use Rattle.gsl_check.specs.Functions.{nowhere, bodied, with_body, function}
 use Rattle.gsl_check.specs.Units.{declaration, Progress, with_functions, next, all, begun}
-use Rattle.gsl_check_law.specs.Nested.{init_arms, declarator_arms, decl_arms, stmt_arms, body_arms, global_arms, IsShallow}
+use Rattle.gsl_formed.specs.Nested.{init_arms, declarator_arms, decl_arms, stmt_arms, body_arms, global_arms, IsShallow}
 use Rattle.gsl_check_law.proofs.Rows.{so}
 use Rattle.gsl_check_law.proofs.Found.{all_append}
 use Rattle.gsl_check_law.proofs.Deep.{At, as_type_depth, skip}

@@ -47,7 +47,7 @@ use Rattle.gsl_check_decl.specs.Locals.{qualified, with_local, may_be_plain, pla
 use Rattle.gsl_check_decl.specs.Structs.{structured}
 use Rattle.gsl_check_decl.specs.Declarations.{variables, struct_and_variables, declared_by, declaration}
 use Rattle.gsl_check_decl.proofs.Gathering.{Holds, holds_after, holds_then}
-use Rattle.gsl_check_law.specs.Formed.{init_formed, is_name, struct_formed, declarator_formed, declarators_formed, decl_formed, dims_formed, spec_formed}
+use Rattle.gsl_formed.specs.Formed.{init_formed, is_name, struct_formed, declarator_formed, declarators_formed, decl_formed, dims_formed, spec_formed}
 use Rattle.gsl_check_law.specs.Parts.{IsTaken}
 use Rattle.gsl_check_law.specs.Scenes.{IsEnv}
 use Rattle.gsl_check_law.proofs.Rows.{row, there, so}

@@ -55,7 +55,7 @@ use Rattle.gsl_check_law.proofs.Phrases.{bracket_good, callee_good}
 use Rattle.gsl_check_law.proofs.Lists.{GoodAt}
 use Rattle.gsl_check_law.proofs.Longer.{Grows, front_append, AreDeclared}
 use Rattle.gsl_check_law.proofs.Standing.{variable_grows, result_grows, names_grow, with_name, meaning_stays}
-use Rattle.gsl_check_law.specs.Formed.{struct_formed, names_formed, is_name, dims_formed, struct_line_formed, spec_formed, dim_formed}
+use Rattle.gsl_formed.specs.Formed.{struct_formed, names_formed, is_name, dims_formed, struct_line_formed, spec_formed, dim_formed}
 use Rattle.gsl_tree.specs.Expressions.{most_parts}
 use Rattle.gsl_types.proofs.Longer.{numbered_push, longer_known}
 use Rattle.gsl_overload.proofs.Same.{no_more}

@@ -49,7 +49,7 @@ use Rattle.gsl_calls.specs.Candidates.{candidates}
 use Rattle.gsl_overload.specs.declared.choice.Choice.{Choice}
 use Rattle.gsl_overload.specs.declared.choice.Choice.TheVariants.{NoMatch, Ambiguous}
 use Rattle.gsl_check_decl.proofs.Gathering.{Holds, holds_then}
-use Rattle.gsl_check_law.specs.Nested.{binary_arms}
+use Rattle.gsl_formed.specs.Nested.{binary_arms}
 use Rattle.gsl_tree.specs.Expressions.{boolean}
 use Rattle.gsl_base.specs.declared.fault.Code.TheVariants.{E0503, E0506, E0507, E0508, E0509, E0510, E0606, E0904}
 use Rattle.gsl_types.specs.declared.ty.Ty.TheVariants as ty

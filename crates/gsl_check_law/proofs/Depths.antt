@@ -41,7 +41,7 @@ use Rattle.gsl_check_expr.specs.Sizes.{Bracket, dimensions, with_dimensions, is_
 use Rattle.gsl_check_expr.specs.Callees.{basic_type, Base, Keyword, Name, Callee, count_of, functions_in, functions, called_entry, called_base, called}
 use Rattle.gsl_check_expr.specs.Expressions.{Answer, taken, dim_by, callee_by, by_parts, in_row, call_answer, behind, sequence, member_answer, answer, callee, bracket, expression, taken_expression}
 use Rattle.gsl_check_decl.proofs.Gathering.{Holds, holds_after, holds_then}
-use Rattle.gsl_check_law.specs.Nested.{binary_arms, rest_arms, expr_arms_by, expr_arms}
+use Rattle.gsl_formed.specs.Nested.{binary_arms, rest_arms, expr_arms_by, expr_arms}
 use Rattle.gsl_check_law.proofs.Deep.{At, AllAt, Under, at_more, leaf_at, list_at, binary_deep, assigned_deep, choice_deep, comma_deep, index_deep, whole_deep, unary_deep, postfix_deep, member_deep, method_deep, block_member_deep, build_deep, call_deep, built_deep}
 use Rattle.gsl_check_law.proofs.Rows.{so}
 use Rattle.gsl_base.specs.declared.fault.Code.TheVariants.{E0402}

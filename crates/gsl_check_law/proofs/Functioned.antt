@@ -33,7 +33,7 @@ use Rattle.gsl_check_heads.specs.Heads.{Headed, named_if, params_named, typed_pa
 use Rattle.gsl_check.specs.Functions.{nowhere, bodied, with_body, function}
 use Rattle.gsl_check.proofs.Keeping.{Keeps, declared_count}
 use Rattle.gsl_check.proofs.Bodies.{statements_keep}
-use Rattle.gsl_check_law.specs.Formed.{stmt_formed, body_formed, IsFormedStmt, head_formed}
+use Rattle.gsl_formed.specs.Formed.{stmt_formed, body_formed, IsFormedStmt, head_formed}
 use Rattle.gsl_check_law.specs.Scenes.{IsScene, IsEnv, IsHead, HasVariables}
 use Rattle.gsl_check_law.proofs.Found.{all_map, all_append}
 use Rattle.gsl_check_law.proofs.Longer.{Grows}

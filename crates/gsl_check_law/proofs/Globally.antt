@@ -44,7 +44,7 @@ use Rattle.gsl_check_law.proofs.Operators.{operand_of}
 use Rattle.gsl_check_law.proofs.Longer.{Grows}
 use Rattle.gsl_check_law.proofs.Declaring.{variable_is, begun_counted}
 use Rattle.gsl_check_law.proofs.Topmost.{global_grown}
-use Rattle.gsl_check_law.specs.Formed.{is_name}
+use Rattle.gsl_formed.specs.Formed.{is_name}
 use Rattle.gsl_check_law.proofs.Names.{name_is}
 use Rattle.gsl_check_law.specs.Small.{IsSmallFolded, IsCounted}
 use Rattle.gsl_check_law.proofs.Lists.{GoodAt}

@@ -35,7 +35,7 @@ use Rattle.gsl_qualifiers.specs.Qualifiers.{qualified}
 use Rattle.gsl_check_heads.specs.declared.parameter.Parameter.{Parameter}
 use Rattle.gsl_check_heads.specs.Builtins.{names_function}
 use Rattle.gsl_check_heads.specs.Heads.{said, has_param, may_be_unnamed, may_be_param, param_with, named_as, param, params_from, params_in, typed_params, same_types, same_direction, same_directions, is_of, number_from, head_number, disagrees_by, head_at, disagrees, has_body_of, is_block, is_other_main, is_other, is_no_result, most_params, may_be_head, headed_by, headed, Headed, with_number, declared_head, header}
-use Rattle.gsl_check_law.specs.Formed.{is_name, params_formed, param_formed, head_formed, spec_formed, dims_formed}
+use Rattle.gsl_formed.specs.Formed.{is_name, params_formed, param_formed, head_formed, spec_formed, dims_formed}
 use Rattle.gsl_check_law.specs.Scenes.{IsEnv}
 use Rattle.gsl_check_law.proofs.Rows.{row, not_false, neither, both}
 use Rattle.gsl_check_law.proofs.Names.{name_is}

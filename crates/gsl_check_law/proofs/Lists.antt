@@ -41,7 +41,7 @@ use Rattle.gsl_check_expr.specs.declared.writing.Written.{Written}
 use Rattle.gsl_check_expr.specs.declared.writing.Written.TheVariants.{Whole, Open}
 use Rattle.gsl_check_expr.specs.Initialisers.{type_in_struct, part_by, part_type, as_of, listed_by, listed, parts_from, by_items, value_as, count_in, needed, initial}
 use Rattle.gsl_check_decl.proofs.Gathering.{Holds, holds_after}
-use Rattle.gsl_check_law.specs.Formed.{all_formed, init_formed_by, init_formed, IsFormedInit}
+use Rattle.gsl_formed.specs.Formed.{all_formed, init_formed_by, init_formed, IsFormedInit}
 use Rattle.gsl_check_law.specs.Parts.{IsPart, IsTaken}
 use Rattle.gsl_check_law.specs.Scenes.{IsScene, IsEnv}
 use Rattle.gsl_check_law.proofs.Rows.{given, holds_of}

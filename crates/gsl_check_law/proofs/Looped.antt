@@ -22,7 +22,7 @@ use Rattle.gsl_check_decl.proofs.Gathering.{Holds, holds_after}
 use Rattle.gsl_check_stmt.specs.declared.within.Within.{Within}
 use Rattle.gsl_check_stmt.specs.Rules.{unless_wrong}
 use Rattle.gsl_check_stmt.specs.Statements.{Test, Head, tested, tested_if, eval, eval_if, header, behind_header, while_head, for_head, loop_of, loop_done, looped, behind_body, do_loop, in_loop}
-use Rattle.gsl_check_law.specs.Formed.{IsFormed, formed_if, init_part_formed}
+use Rattle.gsl_formed.specs.Formed.{IsFormed, formed_if, init_part_formed}
 use Rattle.gsl_check_law.specs.Labels.{exits_of}
 use Rattle.gsl_check_law.specs.Scenes.{IsScene, IsEnv}
 use Rattle.gsl_check_law.proofs.Longer.{Grows, grows_itself, grows_then}

@@ -34,7 +34,7 @@ use Rattle.gsl_check_stmt.specs.declared.gathered.Gathered.{Gathered}
 use Rattle.gsl_check_stmt.specs.Rules.{unless_wrong, broken, continued, discarded, returned}
 use Rattle.gsl_check_stmt.specs.Switches.{nothing, last_arm, behind_arm, at_label, with_case, with_default, with_stmt, is_blank, all_arms, case_word, default_label, misplaced_default, are_arms, has_many, switched}
 use Rattle.gsl_check_stmt.specs.Statements.{Label, Case, Default, Answer, in_row, in_loop, in_switch, Test, tested, tested_if, eval, eval_if, header, behind_header, Head, while_head, for_head, loop_of, loop_done, looped, behind_body, do_loop, case_label, labelled, stated, item, items, arms, switch_head, switch, by_parts, answer, statement, statements}
-use Rattle.gsl_check_law.specs.Nested.{expr_arms, arms_if, init_part_arms, stmt_arms_by, stmt_arms}
+use Rattle.gsl_formed.specs.Nested.{expr_arms, arms_if, init_part_arms, stmt_arms_by, stmt_arms}
 use Rattle.gsl_check_law.proofs.Rows.{so}
 use Rattle.gsl_check_law.proofs.Deep.{skip, At}
 use Rattle.gsl_check_law.proofs.Depths.{taken_expression_deep}

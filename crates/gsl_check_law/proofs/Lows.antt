@@ -23,7 +23,7 @@ use Rattle.gsl_check_stmt.specs.declared.within.Within.{Within}
 use Rattle.gsl_check_stmt.specs.Rules.{alone, condition_fault, unless_wrong, broken, continued, discarded, returned, returned_value, is_fragment}
 use Rattle.gsl_check_stmt.specs.Switches.{misplaced_case, misplaced_default}
 use Rattle.gsl_check_stmt.specs.Statements.{in_part, still, group, block, Test, tested, tested_if, eval, eval_if, evaluated, stray_case, return_with, if_head, if_done, branch, branches}
-use Rattle.gsl_check_law.specs.Nested.{expr_arms, arms_if}
+use Rattle.gsl_formed.specs.Nested.{expr_arms, arms_if}
 use Rattle.gsl_check_law.proofs.Deep.{skip, At, whole_deep, as_type_depth}
 use Rattle.gsl_check_law.proofs.Depths.{expression_deep, taken_expression_deep}
 use Rattle.gsl_check_law.proofs.Shallows.{Low, LowAll, Lows, low_turns}

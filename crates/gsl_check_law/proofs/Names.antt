@@ -3,7 +3,7 @@ use Rattle.std.proofs.Common.{◌≢◌, sym, ◌∙◌, ap, ℕ, IsTrue, nat_le
 use Rattle.std.specs.List.{AllByRecursion, list_all}
 use Rattle.std.proofs.lemmas.Bool.{and_parts, leb-true, true≢false}
 use Rattle.gsl_tree.specs.WellTyped.{IsName}
-use Rattle.gsl_check_law.specs.Formed.{is_name}
+use Rattle.gsl_formed.specs.Formed.{is_name}
 
 nonzero : (byte : ℕ) → IsTrue (nat_lt 0 byte) → byte ≢ 0
 nonzero byte is = λ zero_is. true≢false (sym is ∙ ap (λ n. nat_lt 0 n) zero_is)

@@ -43,7 +43,7 @@ use Rattle.gsl_qualifiers.specs.declared.qualified.Qualified.{Qualified}
 use Rattle.gsl_qualifiers.specs.Qualifiers.{may_be_flat, qualified}
 use Rattle.gsl_check_globals.specs.Variables.{Declares, all_declared, declarator, plain_by, begun_by, plain_variable, begun_variable, interface, begun_interface, may_be_interface, is_no_interface, is_integer_type, lacks_flat, is_compute}
 use Rattle.gsl_check_globals.specs.Globals.{variables, struct_and_variables}
-use Rattle.gsl_check_law.specs.Formed.{is_name, init_formed, struct_formed, declarator_formed, declarators_formed, dims_formed, spec_formed}
+use Rattle.gsl_formed.specs.Formed.{is_name, init_formed, struct_formed, declarator_formed, declarators_formed, dims_formed, spec_formed}
 use Rattle.gsl_check_law.specs.Parts.{IsTaken}
 use Rattle.gsl_check_law.specs.Scenes.{IsEnv}
 use Rattle.gsl_check_law.proofs.Rows.{row, so, not_false, neither}

@@ -31,7 +31,7 @@ use Rattle.gsl_check_expr.specs.Sizes.{Bracket, size_in, dimensions}
 use Rattle.gsl_check_expr.specs.Callees.{Callee, called}
 use Rattle.gsl_check_expr.specs.Expressions.{Answer, taken, dim_by, callee_by, by_parts, in_row, call_answer, behind, sequence, member_answer, answer, callee, bracket, expression, taken_expression}
 use Rattle.gsl_check_decl.proofs.Gathering.{Holds, holds_after}
-use Rattle.gsl_check_law.specs.Formed.{all_formed, rest_formed, some_formed, formed_by, is_formed, IsFormed, spec_formed, dim_formed, spec_formed_by, dim_formed_by}
+use Rattle.gsl_formed.specs.Formed.{all_formed, rest_formed, some_formed, formed_by, is_formed, IsFormed, spec_formed, dim_formed, spec_formed_by, dim_formed_by}
 use Rattle.gsl_check_law.specs.Parts.{IsPart, IsTaken}
 use Rattle.gsl_check_law.specs.Scenes.{IsEnv}
 use Rattle.gsl_check_law.proofs.Parts.{taken_whole}

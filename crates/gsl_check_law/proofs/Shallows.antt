@@ -43,7 +43,7 @@ use Rattle.gsl_check_decl.specs.Locals.{qualified, with_local, may_be_plain, pla
 use Rattle.gsl_check_decl.specs.Structs.{structured}
 use Rattle.gsl_check_decl.specs.Declarations.{variables, struct_and_variables, declared_by, declaration}
 use Rattle.gsl_check_decl.proofs.Gathering.{Holds, holds_after, holds_then}
-use Rattle.gsl_check_law.specs.Nested.{init_arms_by, init_arms, declarator_arms, decl_arms}
+use Rattle.gsl_formed.specs.Nested.{init_arms_by, init_arms, declarator_arms, decl_arms}
 use Rattle.gsl_check_law.proofs.Rows.{so}
 use Rattle.gsl_check_law.proofs.Deep.{At, AllAt, at_more, depth_of, as_type_depth, build_deep}
 use Rattle.gsl_check_law.proofs.Depths.{taken_expression_deep}

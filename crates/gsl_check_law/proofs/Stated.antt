@@ -36,7 +36,7 @@ use Rattle.gsl_check_stmt.specs.declared.within.Within.{Within}
 use Rattle.gsl_check_stmt.specs.Rules.{alone, condition_fault, unless_wrong, broken, continued, is_fragment, discarded, returned, returned_value}
 use Rattle.gsl_check_stmt.specs.Switches.{misplaced_case, misplaced_default}
 use Rattle.gsl_check_stmt.specs.Statements.{Test, still, group, block, tested, tested_if, eval, eval_if, evaluated, stray_case, return_with, if_head, if_done, branch, branches, in_part}
-use Rattle.gsl_check_law.specs.Formed.{IsFormed, formed_if}
+use Rattle.gsl_formed.specs.Formed.{IsFormed, formed_if}
 use Rattle.gsl_check_law.specs.Labels.{exits_of}
 use Rattle.gsl_check_law.specs.Parts.{IsPart, IsTaken}
 use Rattle.gsl_check_law.specs.Scenes.{IsScene, AreThere, IsEnv}

@@ -37,7 +37,7 @@ use Rattle.gsl_check_stmt.specs.declared.within.Within.{Within}
 use Rattle.gsl_check_stmt.specs.declared.gathered.Gathered.{Gathered}
 use Rattle.gsl_check_stmt.specs.Switches.{nothing, last_arm, behind_arm, at_label, with_case, with_default, with_stmt, is_blank, all_arms, is_known, has_word, constant_word, case_word, default_label, is_arm, are_arms, has_many, switched}
 use Rattle.gsl_check_stmt.specs.Statements.{Label, Case, Default, Answer, case_label, labelled, stated, item, items, arms, switch_head, switch, in_switch}
-use Rattle.gsl_check_law.specs.Formed.{IsFormed}
+use Rattle.gsl_formed.specs.Formed.{IsFormed}
 use Rattle.gsl_check_law.specs.Labels.{exits_of, AreWords}
 use Rattle.gsl_check_law.specs.Parts.{IsTaken}
 use Rattle.gsl_check_law.specs.Scenes.{IsScene, IsEnv}

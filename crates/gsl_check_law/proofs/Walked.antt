@@ -11,7 +11,7 @@ use Rattle.gsl_check_expr.specs.declared.env.Env.{Env}
 use Rattle.gsl_check_decl.proofs.Gathering.{Holds}
 use Rattle.gsl_check_stmt.specs.declared.within.Within.{Within}
 use Rattle.gsl_check_stmt.specs.Statements.{Answer, answer, statement, statements, by_parts, in_row, in_switch}
-use Rattle.gsl_check_law.specs.Formed.{all_formed, stmt_formed_by, stmt_formed, IsFormedStmt, is_formed, init_part_formed, formed_if}
+use Rattle.gsl_formed.specs.Formed.{all_formed, stmt_formed_by, stmt_formed, IsFormedStmt, is_formed, init_part_formed, formed_if}
 use Rattle.gsl_check_law.specs.Labels.{exits_of}
 use Rattle.gsl_check_law.specs.Scenes.{IsEnv}
 use Rattle.gsl_check_law.proofs.Declarators.{DidAll, turns, declaration_typed}

@@ -24,7 +24,7 @@ use Rattle.gsl_check_decl.proofs.Gathering.{Holds, holds_after}
 use Rattle.gsl_check_heads.specs.Builtins.{begun_in, functions, variables}
 use Rattle.gsl_check.specs.Functions.{function}
 use Rattle.gsl_check.specs.Units.{declared_by, declaration, Progress, with_functions, next, all, begun, unit_of, finished, checked}
-use Rattle.gsl_check_law.specs.Formed.{decl_formed, global_formed, IsFormedUnit, IsParsed}
+use Rattle.gsl_formed.specs.Formed.{decl_formed, global_formed, IsFormedUnit, IsParsed}
 use Rattle.gsl_check_law.specs.Scenes.{IsThere, IsEnv}
 use Rattle.gsl_check_law.proofs.Found.{all_append, at_place}
 use Rattle.gsl_check_law.proofs.Longer.{AreDeclared}

@@ -29,7 +29,7 @@ ghost use Rattle.gsl_syntax.specs.declared.statement.Global.{Global};
 ghost use Rattle.gsl_tree.specs.declared.unit.TypedUnit.{TypedUnit};
 ghost use Rattle.gsl_tree.specs.WellTyped.{IsUnit};
 ghost use Rattle.gsl_check.specs.Units.{checked};
-ghost use Rattle.gsl_check_law.specs.Formed.{IsFormed, IsFormedInit, IsFormedStmt, IsParsed};
+ghost use Rattle.gsl_formed.specs.Formed.{IsFormed, IsFormedInit, IsFormedStmt, IsParsed};
 ghost use Rattle.gsl_check_law.specs.Labels.{exits_of};
 ghost use Rattle.gsl_check_law.specs.Parts.{IsPart, IsTaken};
 ghost use Rattle.gsl_check_law.specs.Scenes.{IsEnv, IsScene};

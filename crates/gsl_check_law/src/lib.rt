@@ -1,7 +1,7 @@
 //! Is what the checker answers well typed?
 //!
-//! Read, in `specs/`: `Scenes`, which says what holds of that in which an expression is checked, `Formed` and `Nested`, which say what is asked
-//! of syntax trees, `Parts`, `Labels` and `Small`. The laws are the contracts of calls that do nothing.
+//! Read, in `specs/`: `Scenes`, which says what holds of that in which an expression is checked, `Parts`, `Labels` and `Small`; what is asked of
+//! syntax trees stands in `gsl_formed`. The laws are the contracts of calls that do nothing.
 #![tactic(auto)]
 
 mod laws;

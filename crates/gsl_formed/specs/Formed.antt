@@ -34,7 +34,7 @@ use Rattle.gsl_syntax.specs.declared.expr.Dim.TheFolds.{fold-Expr, fold-TypeSpec
 use Rattle.gsl_syntax.specs.declared.declaration.Init.{Init}
 use Rattle.gsl_syntax.specs.declared.declaration.Init.TheOpen.{Init-F}
 use Rattle.gsl_syntax.specs.declared.declaration.Init.TheFolds.{fold-Init}
-use Rattle.gsl_check_law.specs.Nested.{IsShallow}
+use Rattle.gsl_formed.specs.Nested.{IsShallow}
 
 abbrev pub all_formed : List Bool → Bool
 all_formed [] = true

@@ -1,0 +1,14 @@
+pub mod Steps
+pub mod Depths
+pub mod DeclarationDepths
+pub mod StatementDepths
+pub mod UnitDepths
+pub mod Phrases
+pub mod Declarations
+pub mod Statements
+pub mod Raws
+pub mod Cooked
+pub mod Given
+pub mod Preprocessed
+pub mod Tokens
+pub mod Parsed
