@@ -1,0 +1,6 @@
+use Rattle.std.proofs.Common.{◌≡◌, drop}
+use Rattle.gsl_flow.specs.Arms as spec
+use Rattle.gsl_flow.proofs.arms.entered.Given as goal
+
+abbrev pub invariant-loop-k : goal.invariant-loop-k
+invariant-loop-k l = spec.from_label l.word (drop l.k l.arms) (spec.from_default l.arms) ≡ spec.from_label l.word l.arms (spec.from_default l.arms)

@@ -1,0 +1,4 @@
+pub mod Framed
+pub mod Does
+pub mod Coming
+pub mod Calling
