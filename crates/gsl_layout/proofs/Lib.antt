@@ -1,4 +1,5 @@
 pub mod Bounds
+pub mod Counted
 pub mod Multiples
 pub mod Placements
 pub mod Pushes

@@ -1,4 +1,5 @@
 pub mod Layout
+pub mod Kinds
 pub mod Codes
 pub mod Parts
 pub mod Nodes

@@ -1,7 +1,9 @@
 ghost use Rattle.std.specs.Prelude.{◌≡◌, ◌≤◌, length, IfOk, IsSome, Some};
+ghost use Rattle.gsl_layout.specs.Kinds.{kind_of};
 ghost use Rattle.gsl_layout.specs.Layout.{IsLayout, Leaf, Group, array as array_of, count_of, members_of, need, offset_at, part_of, size, stride_of};
 ghost use Rattle.gsl_layout.specs.Parts.{parts_of};
 
+use crate::kind::Kind;
 use gsl_base::{Boxed, List, Memory};
 use std::alloc::Global;
 use std::marker::Model;
@@ -96,6 +98,17 @@ impl Laid {
         ensures { IsLayout self.now }
     {
         let _ = &self.node;
+    }
+
+    /// What stands at the top.
+    pub fn kind(&self) -> Kind
+        ensures { result ≡ kind_of self.now }
+    {
+        match &self.node {
+            Node::Leaf(components) => Kind::Leaf(*components),
+            Node::Array(_, _, _) => Kind::Array,
+            Node::Group(_, members, _) => Kind::Group(members.len() as u32),
+        }
     }
 
     /// The bytes up to where the next may stand: 4 for each component, stride times count of an array, 0

@@ -2,6 +2,7 @@
 #![tactic(auto)]
 
 mod gathered;
+mod kind;
 mod laid;
 mod laws;
 mod measured;
@@ -13,6 +14,7 @@ mod refusal;
 mod rules;
 
 pub use gathered::MOST_BYTES;
+pub use kind::Kind;
 pub use laid::{Laid, Laids, Offsets};
 pub use laws::{
     blocks_are_well_formed, members_stand_apart, members_stand_where_they_are_placed,

@@ -6,9 +6,10 @@ use Rattle.std.proofs.Math.Nat.{mul-le-mul_left}
 use Rattle.std.proofs.lemmas.Bool.{cases_lt, eq-eqb, eqb-true, ltb-true, lt-ltb, true≢false}
 use Rattle.std.proofs.lemmas.Option.{none-some}
 use Rattle.std.specs.List.{range_with_len}
+use Rattle.gsl_layout.specs.Kinds.{part_count}
 use Rattle.gsl_layout.specs.Layout.{AreParts, Layout, Leaf, Array, Runtime, Parts, End, Part, IsLayout, closed, need, part_at, offset_at}
 use Rattle.gsl_views.specs.Paths.{Leads, here, member, element, open_element}
-use Rattle.gsl_views.specs.Seen.{Tree, Words, Many, changed, nothing, part_count, row, seen, seen_part}
+use Rattle.gsl_views.specs.Seen.{Tree, Words, Many, changed, nothing, row, seen, seen_part}
 use Rattle.gsl_words.specs.Words.{put_word, word_at}
 use Rattle.gsl_words.proofs.Bytes.{put-length, word_at-put, word_before, word_behind}
 use Rattle.gsl_views.proofs.Kept.{kept_before, kept_behind, run_same}

@@ -4,8 +4,9 @@ use Rattle.std.proofs.Common.{◌≡◌, refl, sym, ap, ◌∙◌, ℕ, zero, su
 use Rattle.std.proofs.Math.Nat.{mul-le-mul_left}
 use Rattle.std.proofs.lemmas.List.{get_or_append_left, get_or-append-add, length-append}
 use Rattle.std.proofs.lemmas.Bool.{and_parts, true≢false}
+use Rattle.gsl_layout.specs.Kinds.{part_count}
 use Rattle.gsl_layout.specs.Layout.{Layout, Leaf, Array, Runtime, Group, Parts, End, Part, all_closed, closed, need, need_of}
-use Rattle.gsl_views.specs.Seen.{Many, Words, part_count, seen, seen_part}
+use Rattle.gsl_views.specs.Seen.{Many, Words, seen, seen_part}
 use Rattle.gsl_words.specs.Words.{word_at}
 use Rattle.gsl_views.proofs.Kept.{less, row_same, run_same}
 use Rattle.gsl_views.proofs.Words.{word_is}

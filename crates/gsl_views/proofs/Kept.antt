@@ -5,8 +5,9 @@ use Rattle.std.specs.Prelude.{Bool, true, false, nat_lt, if◌then◌else◌}
 use Rattle.std.specs.List.{range_with_len}
 use Rattle.std.proofs.Math.Nat.{mul-le-mul_left}
 use Rattle.std.proofs.lemmas.Bool.{and_parts, ltb-true, true≢false}
+use Rattle.gsl_layout.specs.Kinds.{part_count}
 use Rattle.gsl_layout.specs.Layout.{Layout, Leaf, Array, Runtime, Group, Parts, End, Part, all_closed, closed, need, need_of}
-use Rattle.gsl_views.specs.Seen.{Tree, Words, Many, nothing, part_count, row, seen, seen_part}
+use Rattle.gsl_views.specs.Seen.{Tree, Words, Many, nothing, row, seen, seen_part}
 use Rattle.gsl_words.specs.Words.{put_word, word_at}
 use Rattle.gsl_words.proofs.Bytes.{put-length, word_before, word_behind}
 

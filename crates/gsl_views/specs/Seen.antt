@@ -2,6 +2,7 @@
 use Rattle.std.specs.Prelude.{ℕ, zero, suc, ◌+◌, ◌-◌, ◌*◌, ◌/◌, ◌==◌, nat_lt, if◌then◌else◌, List, [], ◌∷◌, length, map, set}
 use Rattle.std.specs.List.{range_with_len}
 use Rattle.gsl_layout.specs.Layout.{Layout, Leaf, Array, Runtime, Group, Parts, End, Part}
+use Rattle.gsl_layout.specs.Kinds.{part_count}
 use Rattle.gsl_words.specs.Words.{word_at}
 
 -- The words of a run of components, or so many parts by their numbers, with nothing at the numbers behind them.
@@ -15,11 +16,6 @@ nothing = Words []
 -- so many parts
 abbrev pub row : ℕ → (ℕ → Tree) → Tree
 row count part = Many count (λ i. if nat_lt i count then part i else nothing)
-
--- how many members there are
-abbrev pub part_count : Parts → ℕ
-part_count End = 0
-part_count (Part offset layout rest) = part_count rest + 1
 
 -- what stands at a place; a runtime array has as many elements as whole strides fit behind its offset
 abbrev mutual

@@ -1,10 +1,11 @@
 ghost use Rattle.std.specs.Prelude.{◌≡◌, ◌+◌, ◌<◌, ◌≤◌, ◌^◌, Some, length, slice_get};
+ghost use Rattle.gsl_layout.specs.Kinds.{kind_of};
 ghost use Rattle.gsl_layout.specs.Layout.{element_of, members_of, need, part_at};
 ghost use Rattle.gsl_views.specs.Seen.{child, count_of, seen, words_of};
 ghost use Rattle.gsl_views.specs.Viewed.{HasComponent, HasElement, HasMember, IsArray, IsElement, IsMember, shown, viewed};
 
 use crate::view::View;
-use gsl_layout::Laid;
+use gsl_layout::{Kind, Laid};
 
 impl<'a> View<'a> {
     /// The bytes from their start on, seen through a layout that needs no more of them.
@@ -20,6 +21,13 @@ impl<'a> View<'a> {
             start: 0,
             laid,
         }
+    }
+
+    /// What stands at the top of its layout.
+    pub fn kind(&self) -> Kind
+        ensures { result ≡ kind_of (viewed self.now).layout }
+    {
+        self.laid.kind()
     }
 
     /// A member of a group.

@@ -1,4 +1,5 @@
 ghost use Rattle.std.specs.Prelude.{◌≡◌, ◌+◌, ◌*◌, ◌<◌, ◌≤◌, ◌^◌, Some, length, slice_get};
+ghost use Rattle.gsl_layout.specs.Kinds.{kind_of};
 ghost use Rattle.gsl_layout.specs.Layout.{element_of, members_of, need, part_at};
 ghost use Rattle.gsl_views.specs.Mutable.{held};
 ghost use Rattle.gsl_views.specs.Seen.{child, count_of, seen, words_of};
@@ -6,7 +7,7 @@ ghost use Rattle.gsl_views.specs.Viewed.{HasComponent, HasElement, HasMember, Is
 ghost use Rattle.gsl_words.specs.Words.{put_word};
 
 use crate::view_mut::ViewMut;
-use gsl_layout::Laid;
+use gsl_layout::{Kind, Laid};
 
 impl<'a> ViewMut<'a> {
     /// The bytes from their start on, seen through a layout that needs no more of them.
@@ -23,6 +24,13 @@ impl<'a> ViewMut<'a> {
             start: 0,
             laid,
         }
+    }
+
+    /// What stands at the top of its layout.
+    pub fn kind(&self) -> Kind
+        ensures { result ≡ kind_of (held self.now).layout }
+    {
+        self.laid.kind()
     }
 
     /// A member of a group.
