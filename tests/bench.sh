@@ -44,6 +44,19 @@ told() {
     printf "%-24s %9d bytes   ours %6.2f s %8d KiB   %-9s %6s s %8s KiB   times as fast %s\n", name, bytes, o[1], o[2], other, t[1], t[2], ratio }'
 }
 
+# Many source files: the time and memory of each alone, added up and the greatest, and of all together. What the second has more is linking.
+linked() {
+  local alone all answer k files=()
+  for k in $(seq 0 63); do
+    source_of "$2" "${3:-$k}" >"$made/$k.comp"
+    files+=("$made/$k.comp")
+  done
+  alone=$(for k in $(seq 0 63); do measure "$program" compile comp "$made/a.spv" "$made/$k.comp"; done | awk '{ s += $1; m = $2 > m ? $2 : m } END { print s, m }')
+  all=$(measure "$program" compile comp "$made/a.spv" "${files[@]}")
+  answer=$("$program" compile comp "$made/a.spv" "${files[@]}" 2>&1 | sed 's/.*comp:/line /' || true)
+  printf '%-24s %9d bytes   alone %6.2f s %8d KiB, together %6.2f s %8d KiB   %s\n' "$1" "$(cat "${files[@]}" | wc -c)" ${alone} ${all} "$answer"
+}
+
 # A module as text: `asm`, and then `dis`. Khronos' text has no line with the version and the bound, and names the function's control.
 as_text() {
   local theirs="- -"
@@ -116,6 +129,8 @@ hostile "20,000 overloads" overloads 20000
 hostile "16,383 members" fields 16383
 hostile "16,383 parts" parts 16383
 hostile "a chain of 63 structs" twice 63
+linked "64 units of functions" units
+linked "64 times 16,383 structs" structs 16383
 as_text "1 MiB" 1048576
 as_text "64 MiB" 67108864
 judged "1 function" module 1

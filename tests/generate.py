@@ -19,6 +19,8 @@ generate.py overloads N     N functions of one name (20,736 at most), and a call
 generate.py fields N        a struct of N members, and an access to the last
 generate.py parts N         an array of N elements with an initialiser list
 generate.py twice N         a chain of N structs, each of which holds the one before it twice
+generate.py structs N       N structs of one member each
+generate.py units N         unit N of 64 (from 0): 1,000 functions that each call one of the unit before, which it declares; main is in unit 0
 generate.py assembly BYTES  the text of a module, of sums one behind the other, about so many bytes
 generate.py module N        the text of a module of N functions that main calls: straight ones, ones with an if, and ones with a loop
 generate.py heights N       the text of a module with N types, each an array of the one before it
@@ -289,8 +291,27 @@ def twice(count):
     yield f"void f(S{count - 1} s);\nvoid main() {{}}\n"
 
 
+def structs(count):
+    yield "#version 450\nlayout(local_size_x = 1) in;\n"
+    for n in range(count):
+        yield f"struct S{n} {{ int a{n % 7}; }};\n"
+
+
+def units(number):
+    yield "#version 450\nlayout(local_size_x = 1) in;\n"
+    if number == 0:
+        yield "uint f0_62(uint x);\nvoid main() { f0_62(1u); }\n"
+        for n in range(1000):
+            yield f"uint f{n}_0(uint x) {{ return x ^ {n}u; }}\n"
+    else:
+        for n in range(1000):
+            yield f"uint f{n}_{number - 1}(uint x);\n"
+        for n in range(1000):
+            yield f"uint f{n}_{number}(uint x) {{ return x + f{n}_{number - 1}(x); }}\n"
+
+
 KINDS = {f.__name__.rstrip("_"): f for f in (functions, tokens, macros, uses, directives, conditions, parens, choices, elses, nested, tests, globals_, locals_, overloads,
-          fields, parts, twice, assembly, module, heights, nests, blocks, chain, pairs, members, marks)}
+          fields, parts, twice, structs, units, assembly, module, heights, nests, blocks, chain, pairs, members, marks)}
 
 if len(sys.argv) != 3 or sys.argv[1] not in KINDS or not sys.argv[2].isdigit():
     sys.exit(__doc__)

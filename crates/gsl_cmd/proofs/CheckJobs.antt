@@ -140,7 +140,7 @@ module _ (file : Name) (files : Files) where
 
   module _ (after : Option Files) (faults faults' : Target → ℕ) (same : after ≡ Some files) where
     abbrev Came : Stop → Type 0
-    Came why = Ended (Plan.Check file) file files after faults faults' (Err why)
+    Came why = Ended (Plan.Check file) [] files after faults faults' (Err why)
 
     some_its : (job : Job) × IsCheckJob file job (found_in (get files file))
     some_its = check_job file (found_in (get files file))

@@ -30,7 +30,7 @@ as_job Assemble file out files job is = is
 
 module _ (conversion : Conversion) (file out : Name) (files : Files) (after : Option Files) (faults faults' : Target → ℕ) where
   abbrev Came : Result (Unit {0}) Stop → Type 0
-  Came end = Ended (plan_for conversion file out) file files after faults faults' end
+  Came end = Ended (plan_for conversion file out) [] files after faults faults' end
 
   abbrev IsIts : Job → Found → Type 0
   IsIts job found = IsConversionJob conversion file out job found
@@ -89,7 +89,7 @@ module _ (conversion : Conversion) (file out : Name) (files : Files) (after : Op
   ended_made bytes (stop.Rejected text) read short answer same = ended_reject text (Whole bytes) (whole bytes read short) (Err text, answer, refl) same
 
   wrote : (bytes text : List ℕ) (end : Result (Unit {0}) Stop) → get files file ≡ Some bytes → length bytes ≤ MAX_MODULE_BYTES → Makes conversion file bytes (Ok text) →
-      KeepsOthers (Some files) after out → Did file (made_of file out (Ok text)) files after faults faults' end → Came end
+      KeepsOthers (Some files) after out → Did [] (made_of file out (Ok text)) files after faults faults' end → Came end
   wrote bytes text end read short answer others did =
       record { job = made_of file out (Ok text); is_job = its (made_of file out (Ok text)) (Whole bytes) (whole bytes read short) (Ok text, answer, refl); out = λ told. refl; did = did; kept = others }
 

@@ -23,13 +23,13 @@ appends_no_text before after text none same = subst (Appends before after) (sym 
 appends_some : (before after : Option (List ℕ)) (text : List ℕ) → after ≡ before → AppendsSome before after text
 appends_some before after text same = (0, appends_none before after same)
 
-module _ (plan : Plan) (file : Name) (before : Files) (after : Option Files) (first then last : Target → ℕ) (printed printed' : Stream → Option (List ℕ))
+module _ (plan : Plan) (names : List Name) (before : Files) (after : Option Files) (first then last : Target → ℕ) (printed printed' : Stream → Option (List ℕ))
     (up : NeverFall first then) (over : NeverFall then last) (quiet : printed' stream.Out ≡ printed stream.Out) where
   abbrev Done : ℕ → Type 0
   Done status = (job : Job) × IsJob plan before job × Performs job before after first last printed printed' status
 
   abbrev Came : Result (Unit {0}) Stop → Type 0
-  Came end = Ended plan file before after first then end
+  Came end = Ended plan names before after first then end
 
   memory : {end : Result (Unit {0}) Stop} (e : Came end) → AppendsSome (printed stream.Err) (printed' stream.Err) e.job.err ⊎ AppendsSome (printed stream.Err) (printed' stream.Err) host_text → Done 4
   memory e some = (
@@ -79,7 +79,7 @@ module _ (plan : Plan) (file : Name) (before : Files) (after : Option Files) (fi
     },
   )
 
-  fault : (f : Fault) → (e : Came (Err (stop.Fault f))) → Prints then last stream.Err (printed stream.Err) (printed' stream.Err) (told_fault file f) → Done 1
+  fault : (f : Fault) → (e : Came (Err (stop.Fault f))) → Prints then last stream.Err (printed stream.Err) (printed' stream.Err) (told_fault names f) → Done 1
   fault f e said = (
     e.job,
     e.is_job,
@@ -111,7 +111,7 @@ module _ (plan : Plan) (file : Name) (before : Files) (after : Option Files) (fi
     },
   )
 
-  pub done_err : (why : Stop) (result : ℕ) → Came (Err why) → Reported file why then last (printed stream.Err) (printed' stream.Err) result → Done result
+  pub done_err : (why : Stop) (result : ℕ) → Came (Err why) → Reported names why then last (printed stream.Err) (printed' stream.Err) result → Done result
   done_err stop.Memory result e (is, silent) = subst Done (sym is) (memory e (inl (appends_some _ _ e.job.err silent)))
   done_err stop.Host result e (inl (is, said)) = subst Done (sym is) (host e said)
   done_err stop.Host result e (inr (is, part)) = subst Done (sym is) (memory e (inr part))

@@ -1,6 +1,6 @@
 -- The job of a command, and how far its steps have come with it.
-use Rattle.std.proofs.Common.{◌≡◌, ◌≢◌, ℕ, zero, suc, ◌<◌, ◌≤◌, List, [], ◌∷◌, ◌++◌, length, Option, Some, None, Ok, Err, refl, ap, sym, subst, ◌∙◌, arith, inl, inr, ◌⊎◌}
-use Rattle.std.specs.Prelude.{Result, IsSomeAnd, OnOk, Contains}
+use Rattle.std.proofs.Common.{◌≡◌, ◌≢◌, ℕ, zero, suc, ◌<◌, ◌≤◌, List, [], ◌∷◌, ◌++◌, length, Option, Some, None, Ok, Err, refl, ap, sym, subst, ◌∙◌, arith, inl, inr, ◌⊎◌, append_assoc, append-nil}
+use Rattle.std.specs.Prelude.{Bool, not, if◌then◌else◌, map, Result, IsSomeAnd, OnOk, Contains}
 use Rattle.std.specs.FinMap.{get, insert}
 use Rattle.std.proofs.lemmas.Bool.{lt-ltb, le-ltb, cond-true, cond-false}
 use Rattle.gsl_base.specs.declared.stage.Stage.{Stage}
@@ -16,21 +16,20 @@ use Rattle.gsl_cmd.specs.declared.stop.Stop.{Stop}
 use Rattle.gsl_cmd.specs.declared.stop.Stop.TheVariants as stop
 use Rattle.gsl_form.specs.declared.program.Program.{Program}
 use Rattle.gsl_form.specs.Form.{Name}
-use Rattle.gsl_form.specs.Trees.{Spells}
-use Rattle.gsl_tree.specs.declared.unit.TypedUnit.{TypedUnit}
-use Rattle.gsl_tree.specs.WellTyped.{unit_lists}
+use Rattle.gsl_tree.specs.declared.program.Program.{Program as Linked}
+use Rattle.gsl_tree.specs.WellTyped.{program_lists}
 use Rattle.gsl_form.specs.Reading.{program_of}
 use Rattle.gsl_form.proofs.Units.{program_is, program_gives}
-use Rattle.gsl_cmd.specs.Verdict.{AreOfForm, Accepts, FaultWhere, Judges, fault_in, units_of}
+use Rattle.gsl_cmd.specs.Verdict.{IsOfForm, Accepts, FaultWhere, Judges, fault_in, linked_of}
 use Rattle.gsl_plan.specs.Plan.{Plan}
 use Rattle.gsl_cmd.specs.Texts.{told_fault}
-use Rattle.gsl_cmd.specs.Job.{Job, Effect, IsJob, IsCompileJob, Gathered, Sources, Absent, TooLong, gather, gather_one, reads, failed, refused, compiled, found_in}
+use Rattle.gsl_cmd.specs.Job.{Job, Effect, IsJob, IsCompileJob, Gathered, Sources, Absent, TooLong, gather, gather_one, is_source, reads, with_source, failed, refused, compiled, found_in}
 use Rattle.gsl_cmd.specs.Performs.{KeepsAllBut}
-use Rattle.gsl_cmd.specs.Command.{Did, Ended, ReadsSourceTold, CompilesSource}
+use Rattle.gsl_cmd.specs.Command.{Did, Ended, ReadsGathered, ReadsSourceTold, CompilesSources, behind_sources}
+use Rattle.gsl_cmd.specs.Targets.{targets_of}
 use Rattle.gsl_cmd.specs.declared.converting.Conversion.TheVariants.{Disassemble, Assemble}
 use Rattle.gsl_cmd.proofs.Converted.{conversion_job}
 use Rattle.gsl_cmd.proofs.CheckJobs.{check_job}
-use Rattle.gsl_cmd.proofs.Verdicts.{first_same}
 
 -- The rules give some verdict.
 stage_compute : (stage : Stage) → (stage ≡ Compute) ⊎ (stage ≢ Compute)
@@ -38,31 +37,28 @@ stage_compute Vertex = inr (λ e. cc)
 stage_compute Fragment = inr (λ e. cc)
 stage_compute Compute = inl refl
 
--- the units have a program of the form, or none
-formed : (stage : Stage) (units : List TypedUnit) → ((p : Program) × AreOfForm stage units p) ⊎ ((p : Program) → AreOfForm stage units p → ⊥)
-formed stage [] = inr (λ p are. let never : ◌≡◌ {A = List TypedUnit} [] (are.unit ∷ []) = are.one in cc)
-formed stage (a ∷ b ∷ units) = inr (λ p are. let never : ◌≡◌ {A = List TypedUnit} (a ∷ b ∷ units) (are.unit ∷ []) = are.one in cc)
-formed stage (unit ∷ []) =
+-- the linked program has one of the form, or none
+formed : (stage : Stage) (linked : Linked) → ((p : Program) × IsOfForm stage linked p) ⊎ ((p : Program) → IsOfForm stage linked p → ⊥)
+formed stage linked =
     elim (stage_compute stage) [
-      | inr other ↦ inr (λ p are. other are.stage_is)
+      | inr other ↦ inr (λ p is. other is.stage_is)
       | inl compute ↦
-          elim (program_of (unit_lists stage unit)) as (λ found. program_of (unit_lists stage unit) ≡ found → ((p : Program) × AreOfForm stage (unit ∷ []) p) ⊎ ((p : Program) → AreOfForm stage (unit ∷ []) p → ⊥)) [
-            | None ↦ λ e. inr (λ p are.
-                let there : program_of (unit_lists stage unit) ≡ Some p = program_gives (unit_lists stage unit) p (subst (λ t. Spells (unit_lists stage t) p) (sym (first_same are.one)) are.spelled) in cc)
-            | Some p ↦ λ e. inl (p, record { stage_is = compute; unit = unit; one = refl; spelled = program_is (unit_lists stage unit) p e })
+          elim (program_of (program_lists linked)) as (λ found. program_of (program_lists linked) ≡ found → ((p : Program) × IsOfForm stage linked p) ⊎ ((p : Program) → IsOfForm stage linked p → ⊥)) [
+            | None ↦ λ e. inr (λ p is. let there : program_of (program_lists linked) ≡ Some p = program_gives (program_lists linked) p is.spelled in cc)
+            | Some p ↦ λ e. inl (p, record { stage_is = compute; spelled = program_is (program_lists linked) p e })
           ] refl
     ]
 
-judged : (stage : Stage) (sources : List (List ℕ)) (read : Checked (List TypedUnit)) → units_of stage sources ≡ read → (verdict : Checked Program) × Judges stage sources verdict
+judged : (stage : Stage) (sources : List (List ℕ)) (read : Checked Linked) → linked_of stage sources ≡ read → (verdict : Checked Program) × Judges stage sources verdict
 judged stage sources (Err first) is = (Err first, subst (FaultWhere stage first) (sym is) refl)
-judged stage sources (Ok units) is =
-    elim (formed stage units) [
-      | inl (p, are) ↦ (Ok p, record { units = units; read = is; formed = are })
+judged stage sources (Ok linked) is =
+    elim (formed stage linked) [
+      | inl (p, formed) ↦ (Ok p, record { linked = linked; read = is; formed = formed })
       | inr none ↦ (Err (fault_in 0 E0001), subst (FaultWhere stage (fault_in 0 E0001)) (sym is) (refl, none))
     ]
 
 pub some_verdict : (stage : Stage) (sources : List (List ℕ)) → (verdict : Checked Program) × Judges stage sources verdict
-some_verdict stage sources = judged stage sources (units_of stage sources) refl
+some_verdict stage sources = judged stage sources (linked_of stage sources) refl
 
 -- There is a job of every command over all files.
 compile_job : (stage : Stage) (out : Name) (names : List Name) (targets : List Target) (gathered : Gathered) → (job : Job) × IsCompileJob stage out names targets job gathered
@@ -97,36 +93,86 @@ contains_last x (y ∷ xs) =
     let later = contains_last x xs in
     (suc later.0, omega (arith, later.1), later.2)
 
-module _ (stage : Stage) (out file : Name) (files : Files) where
+-- ---- what reading gathers
+
+behind_no_sources : (g : Gathered) → behind_sources [] g ≡ g
+behind_no_sources (Sources sources) = refl
+behind_no_sources Absent = refl
+behind_no_sources (TooLong unit) = refl
+
+behind_one : (front : List (List ℕ)) (source : List ℕ) (g : Gathered) → behind_sources (front ++ source ∷ []) g ≡ behind_sources front (with_source source g)
+behind_one front source (Sources sources) = ap Sources (append_assoc front (source ∷ []) sources)
+behind_one front source Absent = refl
+behind_one front source (TooLong unit) = refl
+
+module _ (files : Files) (front : List (List ℕ)) (unit : ℕ) where
+  -- no file is left
+  pub gathered_none : ReadsGathered (behind_sources front (gather files unit [])) (Ok front)
+  gathered_none = ap Sources (append-nil front)
+
+  module _ (name : Name) (names : List Name) where
+    found_short : (source : List ℕ) → get files name ≡ Some source → length source ≤ MAX_SOURCE_BYTES → gather files unit (name ∷ names) ≡ with_source source (gather files (unit + 1) names)
+    found_short source read short = ap (λ found. gather_one unit found (gather files (unit + 1) names)) read ∙ cond-false _ _ _ (le-ltb _ _ short)
+
+    found_long : (source : List ℕ) → get files name ≡ Some source → MAX_SOURCE_BYTES < length source → gather files unit (name ∷ names) ≡ TooLong unit
+    found_long source read long = ap (λ found. gather_one unit found (gather files (unit + 1) names)) read ∙ cond-true _ _ _ (lt-ltb _ _ long)
+
+    -- the first file was read
+    pub gathered_more : (source : List ℕ) (end : Result (List (List ℕ)) Stop) → get files name ≡ Some source → length source ≤ MAX_SOURCE_BYTES
+        → ReadsGathered (behind_sources (front ++ source ∷ []) (gather files (unit + 1) names)) end → ReadsGathered (behind_sources front (gather files unit (name ∷ names))) end
+    gathered_more source end read short reads =
+        subst (λ g. ReadsGathered g end) (behind_one front source (gather files (unit + 1) names) ∙ ap (behind_sources front) (sym (found_short source read short))) reads
+
+    -- it was not
+    pub gathered_end : (why : Stop) → ReadsSourceTold files unit name (Err why) → ReadsGathered (behind_sources front (gather files unit (name ∷ names))) (Err why)
+    gathered_end stop.Memory told = tt
+    gathered_end stop.Host told = tt
+    gathered_end (stop.Rejected text) told = absurd told
+    gathered_end (stop.Fault fault) told =
+        elim (get files name) as (λ found. get files name ≡ found → IsSomeAnd found (λ bytes. MAX_SOURCE_BYTES < length bytes) → ReadsGathered (behind_sources front (gather files unit (name ∷ names))) (Err (stop.Fault fault))) [
+          | None ↦ λ e long. absurd long
+          | Some source ↦ λ e long. (unit, ap (behind_sources front) (found_long source e long), told.1)
+        ] refl told.0
+
+    -- what is read of the others is read of all
+    pub reads_more : (source : List ℕ) (target : Target) → get files name ≡ Some source → length source ≤ MAX_SOURCE_BYTES → Contains (reads files names) target
+        → Contains (reads files (name ∷ names)) target
+    reads_more source target read short (k, within, at) =
+        let all : Reading name ∷ reads files names ≡ reads files (name ∷ names) = sym (ap (λ found. Reading name ∷ (if is_source found then reads files names else [])) read
+        ∙ ap (λ (long : Bool). Reading name ∷ (if not long then reads files names else [])) (le-ltb _ _ short)) in
+        subst (λ (l : List Target). Contains l target) all (suc k, omega (arith, within), at)
+
+    pub reads_first : Contains (reads files (name ∷ names)) (Reading name)
+    reads_first = (0, omega arith, refl)
+
+-- want of memory is no failure of the host
+pub memory_reads : (g : Gathered) (why : Stop) → why ≡ stop.Memory → ReadsGathered g (Err why)
+memory_reads g why is = subst (λ (w : Stop). ReadsGathered g (Err w)) (sym is) tt
+
+module _ (stage : Stage) (out : Name) (names : List Name) (files : Files) where
   abbrev plan : Plan
-  plan = Plan.Compile stage out (file ∷ [])
+  plan = Plan.Compile stage out names
 
   abbrev its_reads : List Target
-  its_reads = reads files (file ∷ [])
+  its_reads = reads files names
 
   abbrev IsIts : Job → Gathered → Type 0
-  IsIts job gathered = IsCompileJob stage out (file ∷ []) its_reads job gathered
+  IsIts job gathered = IsCompileJob stage out names its_reads job gathered
 
-  reads_first : Contains its_reads (Reading file)
-  reads_first = (0, omega arith, refl)
+  -- the job reaches for what is read
+  reads_in_targets : (target : Target) → Contains its_reads target → (gathered : Gathered) (job : Job) → IsIts job gathered → Contains job.targets target
+  reads_in_targets target at Absent job is = subst (λ (j : Job). Contains j.targets target) (sym is) at
+  reads_in_targets target at (TooLong unit) job is = subst (λ (j : Job). Contains j.targets target) (sym is) at
+  reads_in_targets target at (Sources sources) job (Ok p, right, is) =
+      subst (λ (j : Job). Contains j.targets target) (sym is) (contains_front target its_reads (Writing out ∷ []) at)
+  reads_in_targets target at (Sources sources) job (Err fault, right, is) = subst (λ (j : Job). Contains j.targets target) (sym is) at
 
-  -- the job reaches for its source
-  reads_in_targets : (gathered : Gathered) (job : Job) → IsIts job gathered → Contains job.targets (Reading file)
-  reads_in_targets Absent job is = subst (λ (j : Job). Contains j.targets (Reading file)) (sym is) reads_first
-  reads_in_targets (TooLong unit) job is = subst (λ (j : Job). Contains j.targets (Reading file)) (sym is) reads_first
-  reads_in_targets (Sources sources) job (Ok p, right, is) =
-      subst (λ (j : Job). Contains j.targets (Reading file)) (sym is) (contains_front (Reading file) its_reads (Writing out ∷ []) reads_first)
-  reads_in_targets (Sources sources) job (Err fault, right, is) = subst (λ (j : Job). Contains j.targets (Reading file)) (sym is) reads_first
-
-  gathers_one : (source : List ℕ) → get files file ≡ Some source → length source ≤ MAX_SOURCE_BYTES → gather files 0 (file ∷ []) ≡ Sources (source ∷ [])
-  gathers_one source read short = ap (λ found. gather_one 0 found (Sources [])) read ∙ cond-false _ _ _ (le-ltb _ _ short)
-
-  gathers_none : (source : List ℕ) → get files file ≡ Some source → MAX_SOURCE_BYTES < length source → gather files 0 (file ∷ []) ≡ TooLong 0
-  gathers_none source read long = ap (λ found. gather_one 0 found (Sources [])) read ∙ cond-true _ _ _ (lt-ltb _ _ long)
+  pub gathered_all : (sources : List (List ℕ)) → ReadsGathered (behind_sources [] (gather files 0 names)) (Ok sources) → gather files 0 names ≡ Sources sources
+  gathered_all sources is = sym (behind_no_sources (gather files 0 names)) ∙ is
 
   module _ (after : Option Files) (faults faults' : Target → ℕ) where
     abbrev Came : Result (Unit {0}) Stop → Type 0
-    Came end = Ended plan file files after faults faults' end
+    Came end = Ended plan names files after faults faults' end
 
     -- want of memory leaves some job
     pub ended_memory : after ≡ Some files → Came (Err stop.Memory)
@@ -134,64 +180,69 @@ module _ (stage : Stage) (out file : Name) (files : Files) where
         let job = some_job plan files in
         record { job = job.0; is_job = job.1; out = λ none. absurd none; did = tt; kept = keeps_same job.0.effect files after same }
 
-    long_ended : (fault : Fault) (source : List ℕ) → get files file ≡ Some source → MAX_SOURCE_BYTES < length source → fault ≡ fault_in 0 E0900 → after ≡ Some files → Came (Err (stop.Fault fault))
-    long_ended fault source read long is same =
-        let job = refused (file ∷ []) its_reads (fault_in 0 E0900) in
+    long_ended : (fault : Fault) (unit : ℕ) → gather files 0 names ≡ TooLong unit → fault ≡ fault_in unit E0900 → after ≡ Some files → Came (Err (stop.Fault fault))
+    long_ended fault unit long is same =
+        let job = refused names its_reads (fault_in unit E0900) in
         record {
           job = job;
-          is_job = subst (IsIts job) (sym (gathers_none source read long)) refl;
+          is_job = subst (IsIts job) (sym long) refl;
           out = λ told. refl;
-          did = (refl, ap (told_fault file) (sym is), refl, same);
+          did = (refl, ap (told_fault names) (sym is), refl, same);
           kept = same;
         }
 
-    pub ended_read : (why : Stop) → ReadsSourceTold files file (Err why) → after ≡ Some files → (why ≡ stop.Host → Rose faults faults' (Reading file)) → Came (Err why)
+    pub ended_read : (why : Stop) → ReadsGathered (behind_sources [] (gather files 0 names)) (Err why) → after ≡ Some files
+        → (why ≡ stop.Host → (target : Target) × Contains its_reads target × Rose faults faults' target) → Came (Err why)
     ended_read stop.Memory told same rose = ended_memory same
     ended_read (stop.Rejected text) told same rose = absurd told
     ended_read stop.Host told same rose =
         let job = some_job plan files in
+        let (target, at, rises) = rose refl in
         record {
           job = job.0;
           is_job = job.1;
           out = λ none. absurd none;
-          did = (Reading file, reads_in_targets _ job.0 job.1, rose refl);
+          did = (target, reads_in_targets target at _ job.0 job.1, rises);
           kept = keeps_same job.0.effect files after same;
         }
-    ended_read (stop.Fault fault) told same rose =
-        elim (get files file) as (λ found. get files file ≡ found → IsSomeAnd found (λ bytes. MAX_SOURCE_BYTES < length bytes) → Came (Err (stop.Fault fault))) [
-          | None ↦ λ e long. absurd long
-          | Some source ↦ λ e long. long_ended fault source e long told.1 same
-        ] refl told.0
+    ended_read (stop.Fault fault) (unit, long, is) same rose = long_ended fault unit (sym (behind_no_sources (gather files 0 names)) ∙ long) is same
 
-    pub ended_compile : (source : List ℕ) (why : Stop) → get files file ≡ Some source → length source ≤ MAX_SOURCE_BYTES → CompilesSource stage source (Err why) → after ≡ Some files → Came (Err why)
-    ended_compile source stop.Memory read short answer same = ended_memory same
-    ended_compile source stop.Host read short answer same = absurd answer
-    ended_compile source (stop.Rejected text) read short answer same = absurd answer
-    ended_compile source (stop.Fault fault) read short answer same =
-        let job = refused (file ∷ []) its_reads fault in
+    pub ended_compile : (sources : List (List ℕ)) (why : Stop) → gather files 0 names ≡ Sources sources → CompilesSources stage sources (Err why) → after ≡ Some files → Came (Err why)
+    ended_compile sources stop.Memory read answer same = ended_memory same
+    ended_compile sources stop.Host read answer same = absurd answer
+    ended_compile sources (stop.Rejected text) read answer same = absurd answer
+    ended_compile sources (stop.Fault fault) read answer same =
+        let job = refused names its_reads fault in
         record {
           job = job;
-          is_job = subst (IsIts job) (sym (gathers_one source read short)) (Err fault, answer, refl);
+          is_job = subst (IsIts job) (sym read) (Err fault, answer, refl);
           out = λ told. refl;
           did = (refl, refl, refl, same);
           kept = same;
         }
 
-    wrote : (source bytes : List ℕ) (p : Program) (end : Result (Unit {0}) Stop) → get files file ≡ Some source → length source ≤ MAX_SOURCE_BYTES →
-        Accepts stage (source ∷ []) p → KeepsOthers (Some files) after out →
-        Did file (compiled out (file ∷ []) its_reads (Ok p)) files after faults faults' end → Came end
-    wrote source bytes p end read short accepts others did =
-        let job = compiled out (file ∷ []) its_reads (Ok p) in
-        record { job = job; is_job = subst (IsIts job) (sym (gathers_one source read short)) (Ok p, accepts, refl); out = λ told. refl; did = did; kept = others }
+    wrote : (sources : List (List ℕ)) (p : Program) (end : Result (Unit {0}) Stop) → gather files 0 names ≡ Sources sources → Accepts stage sources p → KeepsOthers (Some files) after out
+        → Did names (compiled out names its_reads (Ok p)) files after faults faults' end → Came end
+    wrote sources p end read accepts others did =
+        let job = compiled out names its_reads (Ok p) in
+        record { job = job; is_job = subst (IsIts job) (sym read) (Ok p, accepts, refl); out = λ told. refl; did = did; kept = others }
 
-    pub ended_write : (source bytes : List ℕ) (end : Result (Unit {0}) Stop) → get files file ≡ Some source → length source ≤ MAX_SOURCE_BYTES → CompilesSource stage source (Ok bytes) →
+    pub ended_write : (sources : List (List ℕ)) (bytes : List ℕ) (end : Result (Unit {0}) Stop) → gather files 0 names ≡ Sources sources → CompilesSources stage sources (Ok bytes) →
         OnOk end (Sets (Some files) after out bytes) → KeepsOthers (Some files) after out → (end ≡ Err stop.Host → Rose faults faults' (Writing out)) →
         ((fault : Fault) → end ≡ Err (stop.Fault fault) → ⊥) → ((text : List ℕ) → end ≡ Err (stop.Rejected text) → ⊥) → Came end
-    ended_write source bytes (Ok done) read short (p, accepts, is, carries, small, portable) sets others rose sound quiet =
-        wrote source bytes p (Ok done) read short accepts others (refl, refl, sets ∙ ap (λ b. Some (insert files out b)) is)
-    ended_write source bytes (Err stop.Host) read short (p, accepts, is, carries, small, portable) sets others rose sound quiet =
-        wrote source bytes p (Err stop.Host) read short accepts others (Writing out, contains_last (Writing out) its_reads, rose refl)
-    ended_write source bytes (Err stop.Memory) read short (p, accepts, is, carries, small, portable) sets others rose sound quiet =
-        wrote source bytes p (Err stop.Memory) read short accepts others tt
-    ended_write source bytes (Err (stop.Fault fault)) read short (p, accepts, is, carries, small, portable) sets others rose sound quiet = absurd (sound fault refl)
-    ended_write source bytes (Err (stop.Rejected text)) read short (p, accepts, is, carries, small, portable) sets others rose sound quiet = absurd (quiet text refl)
+    ended_write sources bytes (Ok done) read (p, accepts, is, carries, small, portable) sets others rose sound quiet =
+        wrote sources p (Ok done) read accepts others (refl, refl, sets ∙ ap (λ b. Some (insert files out b)) is)
+    ended_write sources bytes (Err stop.Host) read (p, accepts, is, carries, small, portable) sets others rose sound quiet =
+        wrote sources p (Err stop.Host) read accepts others (Writing out, contains_last (Writing out) its_reads, rose refl)
+    ended_write sources bytes (Err stop.Memory) read (p, accepts, is, carries, small, portable) sets others rose sound quiet =
+        wrote sources p (Err stop.Memory) read accepts others tt
+    ended_write sources bytes (Err (stop.Fault fault)) read (p, accepts, is, carries, small, portable) sets others rose sound quiet = absurd (sound fault refl)
+    ended_write sources bytes (Err (stop.Rejected text)) read (p, accepts, is, carries, small, portable) sets others rose sound quiet = absurd (quiet text refl)
+
+-- what the command reaches for
+
+pub read_target : (stage : Stage) (out : Name) (names : List Name) (target : Target) → Contains (map Reading names) target → Contains (targets_of (Plan.Compile stage out names)) target
+read_target stage out names target at = contains_front target (map Reading names) (Writing out ∷ []) at
+
+pub write_target : (stage : Stage) (out : Name) (names : List Name) → Contains (targets_of (Plan.Compile stage out names)) (Writing out)
+write_target stage out names = contains_last (Writing out) (map Reading names)

@@ -8,33 +8,29 @@ use Rattle.gsl_host.specs.declared.target.Target.{Target}
 use Rattle.gsl_host.specs.Outside.{Files}
 use Rattle.gsl_form.specs.declared.program.Program.{Program}
 use Rattle.gsl_form.specs.Form.{Name}
-use Rattle.gsl_form.specs.Trees.{Spells}
-use Rattle.gsl_tree.specs.declared.unit.TypedUnit.{TypedUnit}
-use Rattle.gsl_tree.specs.WellTyped.{unit_lists}
+use Rattle.gsl_tree.specs.declared.program.Program.{Program as Linked}
+use Rattle.gsl_tree.specs.WellTyped.{program_lists}
 use Rattle.gsl_form.proofs.Units.{one_program}
 use Rattle.gsl_cmd.specs.Job.{Job, IsJob, IsCompileJob, Gathered, Sources, Absent, TooLong, gather, reads, compiled, found_in}
 use Rattle.gsl_plan.specs.Plan.{Plan}
-use Rattle.gsl_cmd.specs.Verdict.{AreOfForm, Accepts, FirstFault, FaultWhere, Judges, units_of}
+use Rattle.gsl_cmd.specs.Verdict.{IsOfForm, Accepts, FirstFault, FaultWhere, Judges, linked_of}
 use Rattle.gsl_cmd.specs.declared.converting.Conversion.TheVariants.{Disassemble, Assemble}
 use Rattle.gsl_cmd.proofs.Converted.{one_conversion}
 use Rattle.gsl_cmd.proofs.CheckJobs.{one_check}
-use Rattle.gsl_cmd.proofs.Verdicts.{first_same}
 
-one_formed : (stage : Stage) (units : List TypedUnit) (p q : Program) → AreOfForm stage units p → AreOfForm stage units q → p ≡ q
-one_formed stage units p q ps qs =
-    let same : qs.unit ≡ ps.unit = first_same (sym qs.one ∙ ps.one) in
-    one_program (unit_lists stage ps.unit) p q ps.spelled (subst (λ t. Spells (unit_lists stage t) q) same qs.spelled)
+one_formed : (stage : Stage) (linked : Linked) (p q : Program) → IsOfForm stage linked p → IsOfForm stage linked q → p ≡ q
+one_formed stage linked p q ps qs = one_program (program_lists linked) p q ps.spelled qs.spelled
 
-same_units : {xs ys : List TypedUnit} → ◌≡◌ {A = Checked (List TypedUnit)} (Ok xs) (Ok ys) → xs ≡ ys
-same_units e = cc
+same_linked : {x y : Linked} → ◌≡◌ {A = Checked Linked} (Ok x) (Ok y) → x ≡ y
+same_linked e = cc
 
 one_accepted : (stage : Stage) (sources : List (List ℕ)) (p q : Program) → Accepts stage sources p → Accepts stage sources q → p ≡ q
 one_accepted stage sources p q ps qs =
-    one_formed stage ps.units p q ps.formed (subst (λ units. AreOfForm stage units q) (same_units (sym qs.read ∙ ps.read)) qs.formed)
+    one_formed stage ps.linked p q ps.formed (subst (λ linked. IsOfForm stage linked q) (same_linked (sym qs.read ∙ ps.read)) qs.formed)
 
-one_where : (stage : Stage) (f g : Fault) (read : Checked (List TypedUnit)) → FaultWhere stage f read → FaultWhere stage g read → f ≡ g
+one_where : (stage : Stage) (f g : Fault) (read : Checked Linked) → FaultWhere stage f read → FaultWhere stage g read → f ≡ g
 one_where stage f g (Err first) fs gs = fs ∙ sym gs
-one_where stage f g (Ok units) fs gs = fs.0 ∙ sym gs.0
+one_where stage f g (Ok linked) fs gs = fs.0 ∙ sym gs.0
 
 never_both : (stage : Stage) (sources : List (List ℕ)) (p : Program) (f : Fault) → Accepts stage sources p → FirstFault stage sources f → ⊥
 never_both stage sources p f ps fs = (subst (FaultWhere stage f) ps.read fs).1 p ps.formed
@@ -43,7 +39,7 @@ pub one_judged : (stage : Stage) (sources : List (List ℕ)) (v w : Checked Prog
 one_judged stage sources (Ok p) (Ok q) ps qs = ap Ok (one_accepted stage sources p q ps qs)
 one_judged stage sources (Ok p) (Err f) ps fs = absurd (never_both stage sources p f ps fs)
 one_judged stage sources (Err f) (Ok p) fs ps = absurd (never_both stage sources p f ps fs)
-one_judged stage sources (Err f) (Err g) fs gs = ap Err (one_where stage f g (units_of stage sources) fs gs)
+one_judged stage sources (Err f) (Err g) fs gs = ap Err (one_where stage f g (linked_of stage sources) fs gs)
 
 one_compile_job : (stage : Stage) (out : Name) (names : List Name) (targets : List Target) (gathered : Gathered) (j k : Job) →
     IsCompileJob stage out names targets j gathered → IsCompileJob stage out names targets k gathered → j ≡ k

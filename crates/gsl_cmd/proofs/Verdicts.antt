@@ -1,55 +1,111 @@
--- What the rules say of one source.
-use Rattle.std.proofs.Common.{◌≡◌, ℕ, ◌<◌, ◌≤◌, List, [], ◌∷◌, length, Some, Ok, Err, refl, ap, sym, subst, ◌∙◌, arith}
+-- What the rules say of sources.
+use Rattle.std.proofs.Common.{◌≡◌, ℕ, zero, suc, ◌+◌, ◌<◌, ◌≤◌, List, [], ◌∷◌, ◌++◌, drop, length, Option, Some, None, Ok, Err, refl, ap, sym, subst, ◌∙◌, arith, append_assoc, inl, inr}
 use Rattle.std.specs.Prelude.{slice_get}
-use Rattle.std.proofs.lemmas.Bool.{lt-ltb, le-ltb, cond-true, cond-false}
+use Rattle.std.specs.List.{AllByRecursion}
+use Rattle.std.proofs.lemmas.Bool.{cases_lt, lt-ltb, le-ltb, cond-true, cond-false}
 use Rattle.gsl_base.specs.Checked.{Checked, ◌>>=◌}
 use Rattle.gsl_base.specs.declared.stage.Stage.{Stage}
-use Rattle.gsl_base.specs.declared.stage.Stage.TheVariants.{Compute}
 use Rattle.gsl_base.specs.declared.fault.Code.TheVariants.{E0001, E0900}
 use Rattle.gsl_base.specs.declared.fault.Fault.{Fault}
+use Rattle.gsl_check.specs.Units.{checked}
+use Rattle.gsl_check_law.proofs.Wholes.{checked_is}
 use Rattle.gsl_form.specs.declared.program.Program.{Program}
-use Rattle.gsl_form.specs.Trees.{Spells}
+use Rattle.gsl_link.specs.Joined.{joined}
+use Rattle.gsl_link.specs.Units.{AreKnown}
+use Rattle.gsl_link_law.proofs.Asked.{units_known}
+use Rattle.gsl_link_units.specs.Declarations.{sides_of}
+use Rattle.gsl_link_units.specs.Structs.{joined_structs}
+use Rattle.gsl_parse_law.proofs.Parsed.{source_parsed}
+use Rattle.gsl_tree.specs.declared.program.Program.{Program as Linked}
 use Rattle.gsl_tree.specs.declared.unit.TypedUnit.{TypedUnit}
-use Rattle.gsl_tree.specs.WellTyped.{unit_lists}
+use Rattle.gsl_tree.specs.WellTyped.{IsUnit}
 use Rattle.gsl_cmd.specs.declared.compiling.TheConstants.{MAX_SOURCE_BYTES}
-use Rattle.gsl_cmd.specs.Verdict.{AreOfForm, Accepts, FirstFault, FaultWhere, fault_in, too_long_from, typed_of, typed_from, units_of, sized}
+use Rattle.gsl_cmd.specs.Verdict.{Tree, fault_in, linked_of, sized, too_long_from, tokens_of, tree_of, typed_behind, typed_from, typed_of, units_of}
 
-pub one_source : (sources : List (List ℕ)) (source : List ℕ) → length sources ≡ 1 → slice_get sources 0 ≡ Some source → sources ≡ source ∷ []
-one_source [] source one first = absurd (cc)
-one_source (s ∷ []) source one first = let same : s ≡ source = cc in ap (λ x. x ∷ []) same
-one_source (s ∷ t ∷ sources) source one first = absurd (omega arith)
+same_some : {A : Type 0} {a b : A} → ◌≡◌ {A = Option A} (Some a) (Some b) → a ≡ b
+same_some e = cc
 
-pub first_same : {A : Type 0} {a b : A} → a ∷ [] ≡ b ∷ [] → a ≡ b
-first_same e = cc
+-- ---- lengths
 
-module _ (stage : Stage) (sources : List (List ℕ)) (source : List ℕ) (one : sources ≡ source ∷ []) where
-  pub fault_long : (fault : Fault) → MAX_SOURCE_BYTES < length source → fault ≡ fault_in 0 E0900 → FirstFault stage sources fault
-  fault_long fault long is =
-      let found : too_long_from 0 sources ≡ Some 0 = ap (too_long_from 0) one ∙ cond-true _ _ _ (lt-ltb _ _ long) in
-      subst (FaultWhere stage fault) (sym (ap (λ long. sized long (typed_from stage 0 sources)) found)) is
+-- where none is too long, the first is not, and none of the others
+first_short : (unit : ℕ) (source : List ℕ) (sources : List (List ℕ)) → too_long_from unit (source ∷ sources) ≡ None
+    → (length source ≤ MAX_SOURCE_BYTES) × (too_long_from (unit + 1) sources ≡ None)
+first_short unit source sources none =
+    elim (cases_lt MAX_SOURCE_BYTES (length source)) [
+      | inl long ↦ absurd (let never : ◌≡◌ {A = Option ℕ} (Some unit) None = sym (cond-true _ _ _ (lt-ltb _ _ long)) ∙ none in cc)
+      | inr short ↦ (short, sym (cond-false _ _ _ (le-ltb _ _ short)) ∙ none)
+    ]
 
-  short_enough : length source ≤ MAX_SOURCE_BYTES → units_of stage sources ≡ typed_from stage 0 sources
-  short_enough short = ap (λ long. sized long (typed_from stage 0 sources)) (ap (too_long_from 0) one ∙ cond-false _ _ _ (le-ltb _ _ short))
+pub short_at : (unit : ℕ) (sources : List (List ℕ)) (k : ℕ) (source : List ℕ) → too_long_from unit sources ≡ None → slice_get sources k ≡ Some source → length source ≤ MAX_SOURCE_BYTES
+short_at unit [] k source none at = absurd (let never : ◌≡◌ {A = Option (List ℕ)} None (Some source) = at in cc)
+short_at unit (s ∷ sources) zero source none at = subst (λ (x : List ℕ). length x ≤ MAX_SOURCE_BYTES) (same_some at) (first_short unit s sources none).0
+short_at unit (s ∷ sources) (suc k) source none at = short_at (unit + 1) sources k source (first_short unit s sources none).1 at
 
-  read_of : (unit : Checked TypedUnit) → typed_of stage 0 source ≡ unit → length source ≤ MAX_SOURCE_BYTES → units_of stage sources ≡ (unit >>= λ t. Ok (t ∷ []))
-  read_of unit is short = short_enough short ∙ ap (typed_from stage 0) one ∙ ap (λ t. t >>= λ t. Ok (t ∷ [])) is
+-- ---- typed units, one after the other
 
-  -- the fault of the source's typed unit
-  pub fault_unit : (fault : Fault) → length source ≤ MAX_SOURCE_BYTES → typed_of stage 0 source ≡ Err fault → FirstFault stage sources fault
-  fault_unit fault short is = subst (FaultWhere stage fault) (sym (read_of (Err fault) is short)) refl
+module _ (stage : Stage) where
+  at_front : (sources : List (List ℕ)) (k : ℕ) (source : List ℕ) → slice_get sources k ≡ Some source → drop k sources ≡ source ∷ drop (k + 1) sources
+  at_front [] k source at = absurd (let never : ◌≡◌ {A = Option (List ℕ)} None (Some source) = at in cc)
+  at_front (s ∷ sources) zero source at = ap (λ x. x ∷ sources) (same_some at)
+  at_front (s ∷ sources) (suc k) source at = at_front sources k source at ∙ ap (λ n. source ∷ drop n (s ∷ sources)) (let e : suc (k + 1) ≡ suc k + 1 = omega arith in e)
 
-  -- no fault, and no program
-  pub fault_form : (fault : Fault) (unit : TypedUnit) → length source ≤ MAX_SOURCE_BYTES → typed_of stage 0 source ≡ Ok unit
-      → ((p : Program) → stage ≡ Compute → Spells (unit_lists stage unit) p → ⊥) → fault ≡ fault_in 0 E0001 → FirstFault stage sources fault
-  fault_form fault unit short is none at =
-      let refused : (p : Program) → AreOfForm stage (unit ∷ []) p → ⊥ = λ p formed.
-      none p formed.stage_is (subst (λ t. Spells (unit_lists stage t) p) (sym (first_same formed.one)) formed.spelled) in
-      subst (FaultWhere stage fault) (sym (read_of (Ok unit) is short)) (at, refused)
+  more_behind : (more : Checked (List TypedUnit)) (units : List TypedUnit) (unit : TypedUnit)
+      → (more >>= λ us. Ok (unit ∷ us)) >>= (λ us. Ok (units ++ us)) ≡ (more >>= λ us. Ok ((units ++ unit ∷ []) ++ us))
+  more_behind (Ok us) units unit = ap Ok (sym (append_assoc units (unit ∷ []) us))
+  more_behind (Err fault) units unit = refl
 
-  pub accepted : stage ≡ Compute → length source ≤ MAX_SOURCE_BYTES → (unit : TypedUnit) → typed_of stage 0 source ≡ Ok unit → (p : Program)
-      → Spells (unit_lists stage unit) p → Accepts stage sources p
-  accepted compute short unit is p spelled = record {
-    units = unit ∷ [];
-    read = read_of (Ok unit) is short;
-    formed = record { stage_is = compute; unit = unit; one = refl; spelled = spelled };
-  }
+  -- with none before them they are the typed units
+  pub behind_none : (unit : ℕ) (sources : List (List ℕ)) → typed_behind stage [] unit sources ≡ typed_from stage unit sources
+  behind_none unit sources = alone (typed_from stage unit sources)
+    where
+      alone : (units : Checked (List TypedUnit)) → (units >>= λ us. Ok ([] ++ us)) ≡ units
+      alone (Ok us) = refl
+      alone (Err fault) = refl
+
+  -- one unit more
+  pub one_behind : (units : List TypedUnit) (k : ℕ) (sources : List (List ℕ)) (source : List ℕ) (unit : TypedUnit) → slice_get sources k ≡ Some source → typed_of stage k source ≡ Ok unit
+      → typed_behind stage units k (drop k sources) ≡ typed_behind stage (units ++ unit ∷ []) (k + 1) (drop (k + 1) sources)
+  one_behind units k sources source unit at is =
+      ap (typed_behind stage units k) (at_front sources k source at)
+      ∙ ap (λ t. (t >>= λ typed. typed_from stage (k + 1) (drop (k + 1) sources) >>= λ us. Ok (typed ∷ us)) >>= λ us. Ok (units ++ us)) is
+      ∙ more_behind (typed_from stage (k + 1) (drop (k + 1) sources)) units unit
+
+  -- the first fault
+  pub fault_behind : (units : List TypedUnit) (k : ℕ) (sources : List (List ℕ)) (source : List ℕ) (fault : Fault) → slice_get sources k ≡ Some source → typed_of stage k source ≡ Err fault
+      → typed_behind stage units k (drop k sources) ≡ Err fault
+  fault_behind units k sources source fault at is =
+      ap (typed_behind stage units k) (at_front sources k source at)
+      ∙ ap (λ t. (t >>= λ typed. typed_from stage (k + 1) (drop (k + 1) sources) >>= λ us. Ok (typed ∷ us)) >>= λ us. Ok (units ++ us)) is
+
+  -- ---- they are well typed
+
+  tree_typed : (tree : Checked Tree) (typed : TypedUnit) → ((us : Tree) → tree ≡ Ok us → checked stage us ≡ Ok typed → IsUnit stage typed) → (tree >>= checked stage) ≡ Ok typed → IsUnit stage typed
+  tree_typed (Ok us) typed each is = each us refl is
+  tree_typed (Err fault) typed each is = absurd cc
+
+  source_typed : (unit : ℕ) (source : List ℕ) (typed : TypedUnit) → typed_of stage unit source ≡ Ok typed → IsUnit stage typed
+  unfolding typed_of tree_of tokens_of
+  source_typed unit source typed is = tree_typed (tree_of unit source) typed (λ us read checks. checked_is stage us typed (source_parsed unit source us read) checks) is
+
+  by_first : (first : Checked TypedUnit) (more : Checked (List TypedUnit)) (units : List TypedUnit) → ((typed : TypedUnit) → first ≡ Ok typed → IsUnit stage typed)
+      → ((us : List TypedUnit) → more ≡ Ok us → AllByRecursion (IsUnit stage) us) → (first >>= λ typed. more >>= λ us. Ok (typed ∷ us)) ≡ Ok units → AllByRecursion (IsUnit stage) units
+  by_first (Ok typed) (Ok us) units one others is = subst (AllByRecursion (IsUnit stage)) (let same : typed ∷ us ≡ units = cc in same) (one typed refl, others us refl)
+  by_first (Ok typed) (Err fault) units one others is = absurd cc
+  by_first (Err fault) more units one others is = absurd cc
+
+  all_typed : (unit : ℕ) (sources : List (List ℕ)) (units : List TypedUnit) → typed_from stage unit sources ≡ Ok units → AllByRecursion (IsUnit stage) units
+  all_typed unit [] units is = subst (AllByRecursion (IsUnit stage)) (let same : [] ≡ units = cc in same) tt
+  all_typed unit (source ∷ sources) units is =
+      by_first (typed_of stage unit source) (typed_from stage (unit + 1) sources) units (source_typed unit source) (all_typed (unit + 1) sources) is
+
+  -- the typed units of sources may be linked
+  pub linkable : (sources : List (List ℕ)) (units : List TypedUnit) → typed_from stage 0 sources ≡ Ok units → AreKnown (joined_structs units) (sides_of units)
+  linkable sources units is = units_known stage units (all_typed 0 sources units is)
+
+  -- ---- the program that they make
+
+  pub linked_short : (sources : List (List ℕ)) → too_long_from 0 sources ≡ None → linked_of stage sources ≡ (typed_from stage 0 sources >>= joined stage)
+  linked_short sources none = ap (λ long. sized long (typed_from stage 0 sources) >>= joined stage) none
+
+  pub linked_long : (sources : List (List ℕ)) (unit : ℕ) → too_long_from 0 sources ≡ Some unit → linked_of stage sources ≡ Err (fault_in unit E0900)
+  linked_long sources unit long = ap (λ long. sized long (typed_from stage 0 sources) >>= joined stage) long

@@ -1,5 +1,5 @@
 -- The steps of a command in the code, against the job of its plan.
-use Rattle.std.specs.Prelude.{◌≡◌, ◌≢◌, ◌<◌, ◌≤◌, length, IsSomeAnd, ℕ, List, [], ◌∷◌, Option, Some, None, Result, Ok, Err, Contains, ◌⊎◌}
+use Rattle.std.specs.Prelude.{◌≡◌, ◌≢◌, ◌<◌, ◌≤◌, length, IsSomeAnd, ℕ, List, [], ◌++◌, Option, Some, None, Result, Ok, Err, Contains, ◌⊎◌}
 use Rattle.gsl_host.specs.declared.target.Stream.TheVariants as stream
 use Rattle.gsl_host.specs.declared.target.Target.{Target}
 use Rattle.gsl_host.specs.declared.target.Target.TheVariants.{Printing}
@@ -8,7 +8,7 @@ use Rattle.gsl_cmd.specs.declared.stop.Stop.{Stop}
 use Rattle.gsl_cmd.specs.declared.stop.Stop.TheVariants as stop
 use Rattle.gsl_form.specs.Form.{Name}
 use Rattle.gsl_cmd.specs.Checking.{Checks, refused_module}
-use Rattle.gsl_cmd.specs.Job.{Job, IsJob, Effect, IsCheckJob, checked_of, rejected, found_in}
+use Rattle.gsl_cmd.specs.Job.{Job, IsJob, Effect, Gathered, Sources, Absent, TooLong, IsCheckJob, checked_of, rejected, found_in}
 use Rattle.gsl_cmd.specs.Performs.{effect_on, KeepsAllBut, Prints}
 use Rattle.gsl_plan.specs.Plan.{Plan}
 use Rattle.gsl_cmd.specs.Texts.{told_fault, host_text, word_text}
@@ -24,14 +24,14 @@ use Rattle.gsl_base.specs.declared.stage.Stage.{Stage}
 use Rattle.gsl_base.specs.declared.fault.Code.TheVariants.{E0900}
 use Rattle.std.specs.FinMap.{get}
 
--- What a step that ended so has done of the job.
-abbrev pub Did : Name → Job → Files → Option Files → (Target → ℕ) → (Target → ℕ) → Result (Unit {0}) Stop → Type 0
-Did file job before after faults faults' (Ok done) = (job.status ≡ 0) × (job.err ≡ []) × (after ≡ Some (effect_on job.effect before))
-Did file job before after faults faults' (Err (stop.Fault fault)) =
-    (job.status ≡ 1) × (job.err ≡ told_fault file fault) × (job.effect ≡ Effect.Keeps) × (after ≡ Some before)
-Did file job before after faults faults' (Err (stop.Rejected text)) = (job.status ≡ 8) × (job.err ≡ text) × (job.effect ≡ Effect.Keeps) × (after ≡ Some before)
-Did file job before after faults faults' (Err stop.Host) = (target : Target) × Contains job.targets target × Rose faults faults' target
-Did file job before after faults faults' (Err stop.Memory) = Unit {0}
+-- What a step that ended so has done of the job; faults are of these source files.
+abbrev pub Did : List Name → Job → Files → Option Files → (Target → ℕ) → (Target → ℕ) → Result (Unit {0}) Stop → Type 0
+Did names job before after faults faults' (Ok done) = (job.status ≡ 0) × (job.err ≡ []) × (after ≡ Some (effect_on job.effect before))
+Did names job before after faults faults' (Err (stop.Fault fault)) =
+    (job.status ≡ 1) × (job.err ≡ told_fault names fault) × (job.effect ≡ Effect.Keeps) × (after ≡ Some before)
+Did names job before after faults faults' (Err (stop.Rejected text)) = (job.status ≡ 8) × (job.err ≡ text) × (job.effect ≡ Effect.Keeps) × (after ≡ Some before)
+Did names job before after faults faults' (Err stop.Host) = (target : Target) × Contains job.targets target × Rose faults faults' target
+Did names job before after faults faults' (Err stop.Memory) = Unit {0}
 
 -- What is printed on standard output is known behind this end.
 abbrev pub IsTold : Result (Unit {0}) Stop → Type 0
@@ -42,11 +42,11 @@ IsTold (Err stop.Host) = ⊥
 IsTold (Err stop.Memory) = ⊥
 
 -- A command of the plan has come to this end, and there is a job of which it has done so much.
-pub record Ended (plan : Plan) (file : Name) (before : Files) (after : Option Files) (faults faults' : Target → ℕ) (end : Result (Unit {0}) Stop) : Type 0 where
+pub record Ended (plan : Plan) (names : List Name) (before : Files) (after : Option Files) (faults faults' : Target → ℕ) (end : Result (Unit {0}) Stop) : Type 0 where
   pub job : Job
   pub is_job : IsJob plan before job
   pub out : IsTold end → job.out ≡ []
-  pub did : Did file job before after faults faults' end
+  pub did : Did names job before after faults faults' end
   pub kept : KeepsAllBut job.effect before after
 
 -- A text was printed on standard error, and the status is the one that it was printed for, or 4.
@@ -62,32 +62,45 @@ Shown faults faults' out out' err err' text status =
     ⊎ ((status ≡ 4) × AppendsSome out out' text × AppendsSome err err' host_text))
 
 -- Why a command stopped was printed, with the status that belongs to it.
-abbrev pub Reported : Name → Stop → (Target → ℕ) → (Target → ℕ) → Option (List ℕ) → Option (List ℕ) → ℕ → Type 0
-Reported file stop.Memory faults faults' before after result = (result ≡ 4) × (after ≡ before)
-Reported file stop.Host faults faults' before after result = Said faults faults' before after host_text 3 result
-Reported file (stop.Rejected text) faults faults' before after result = Said faults faults' before after text 8 result
-Reported file (stop.Fault fault) faults faults' before after result =
-    Said faults faults' before after (told_fault file fault) 1 result ⊎ ((result ≡ 4) × (after ≡ before))
+abbrev pub Reported : List Name → Stop → (Target → ℕ) → (Target → ℕ) → Option (List ℕ) → Option (List ℕ) → ℕ → Type 0
+Reported names stop.Memory faults faults' before after result = (result ≡ 4) × (after ≡ before)
+Reported names stop.Host faults faults' before after result = Said faults faults' before after host_text 3 result
+Reported names (stop.Rejected text) faults faults' before after result = Said faults faults' before after text 8 result
+Reported names (stop.Fault fault) faults faults' before after result =
+    Said faults faults' before after (told_fault names fault) 1 result ⊎ ((result ≡ 4) × (after ≡ before))
 
--- What reading a source file answers where the files are told.
-abbrev pub ReadsSourceTold : Files → Name → Result (List ℕ) Stop → Type 0
-ReadsSourceTold files name (Ok bytes) = (get files name ≡ Some bytes) × (length bytes ≤ MAX_SOURCE_BYTES)
-ReadsSourceTold files name (Err (stop.Fault fault)) =
-    IsSomeAnd (get files name) (λ bytes. MAX_SOURCE_BYTES < length bytes) × (fault ≡ fault_in 0 E0900)
-ReadsSourceTold files name (Err (stop.Rejected text)) = ⊥
-ReadsSourceTold files name (Err _) = Unit {0}
+-- What reading the source file of this number answers where the files are told.
+abbrev pub ReadsSourceTold : Files → ℕ → Name → Result (List ℕ) Stop → Type 0
+ReadsSourceTold files unit name (Ok bytes) = (get files name ≡ Some bytes) × (length bytes ≤ MAX_SOURCE_BYTES)
+ReadsSourceTold files unit name (Err (stop.Fault fault)) =
+    IsSomeAnd (get files name) (λ bytes. MAX_SOURCE_BYTES < length bytes) × (fault ≡ fault_in unit E0900)
+ReadsSourceTold files unit name (Err (stop.Rejected text)) = ⊥
+ReadsSourceTold files unit name (Err _) = Unit {0}
 
-abbrev pub ReadsSource : Option Files → Name → Result (List ℕ) Stop → Type 0
-ReadsSource (Some files) name answer = ReadsSourceTold files name answer
-ReadsSource None name answer = Unit {0}
+abbrev pub ReadsSource : Option Files → ℕ → Name → Result (List ℕ) Stop → Type 0
+ReadsSource (Some files) unit name answer = ReadsSourceTold files unit name answer
+ReadsSource None unit name answer = Unit {0}
 
--- What compiling one source answers.
-abbrev pub CompilesSource : Stage → List ℕ → Result (List ℕ) Stop → Type 0
-CompilesSource stage source (Ok bytes) = Compiles stage (source ∷ []) (Ok bytes)
-CompilesSource stage source (Err (stop.Fault fault)) = FirstFault stage (source ∷ []) fault
-CompilesSource stage source (Err stop.Memory) = Unit {0}
-CompilesSource stage source (Err (stop.Rejected text)) = ⊥
-CompilesSource stage source (Err stop.Host) = ⊥
+-- sources in front of those that are gathered
+abbrev pub behind_sources : List (List ℕ) → Gathered → Gathered
+behind_sources front (Sources sources) = Sources (front ++ sources)
+behind_sources front Absent = Absent
+behind_sources front (TooLong unit) = TooLong unit
+
+-- What reading source files answers where this is gathered.
+abbrev pub ReadsGathered : Gathered → Result (List (List ℕ)) Stop → Type 0
+ReadsGathered gathered (Ok sources) = gathered ≡ Sources sources
+ReadsGathered gathered (Err (stop.Fault fault)) = (unit : ℕ) × (gathered ≡ TooLong unit) × (fault ≡ fault_in unit E0900)
+ReadsGathered gathered (Err (stop.Rejected text)) = ⊥
+ReadsGathered gathered (Err _) = Unit {0}
+
+-- What compiling sources answers.
+abbrev pub CompilesSources : Stage → List (List ℕ) → Result (List ℕ) Stop → Type 0
+CompilesSources stage sources (Ok bytes) = Compiles stage sources (Ok bytes)
+CompilesSources stage sources (Err (stop.Fault fault)) = FirstFault stage sources fault
+CompilesSources stage sources (Err stop.Memory) = Unit {0}
+CompilesSources stage sources (Err (stop.Rejected text)) = ⊥
+CompilesSources stage sources (Err stop.Host) = ⊥
 
 -- What reading the file of a module, or of its text, answers where the files are told.
 abbrev pub ReadsFileTold : Conversion → Files → Name → Result (List ℕ) Stop → Type 0

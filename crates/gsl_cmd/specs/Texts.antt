@@ -16,9 +16,9 @@ abbrev pub fault_text : Name → Fault → List ℕ
 fault_text file fault =
     codes "ERROR: " ++ file ++ codes ":" ++ decimal fault.place.line ++ codes ": E" ++ four_digits (number_of fault.code) ++ codes "\n"
 
--- the same, of the one file of a command
-abbrev pub told_fault : Name → Fault → List ℕ
-told_fault file fault = fault_text (slice_index_or (file ∷ []) fault.place.unit []) fault
+-- the same, where these are the files of a command
+abbrev pub told_fault : List Name → Fault → List ℕ
+told_fault names fault = fault_text (slice_index_or names fault.place.unit []) fault
 
 -- what is printed where the outside failed
 abbrev pub host_text : List ℕ

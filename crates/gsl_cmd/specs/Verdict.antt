@@ -1,5 +1,5 @@
 -- What the rules say of the sources of a stage: they give one program, or they have one first fault.
-use Rattle.std.specs.Prelude.{◌≡◌, ℕ, ◌+◌, List, [], ◌∷◌, length, Option, Some, None, Result, Ok, Err, nat_lt, if◌then◌else◌}
+use Rattle.std.specs.Prelude.{◌≡◌, ℕ, ◌+◌, List, [], ◌∷◌, ◌++◌, length, Option, Some, None, Result, Ok, Err, nat_lt, if◌then◌else◌}
 use Rattle.gsl_base.specs.declared.stage.Stage.{Stage}
 use Rattle.gsl_base.specs.declared.stage.Stage.TheVariants.{Compute}
 use Rattle.gsl_base.specs.declared.fault.Code.{Code}
@@ -15,7 +15,9 @@ use Rattle.gsl_pp.specs.Unit.{preprocessed}
 use Rattle.gsl_syntax.specs.declared.statement.Global.{Global}
 use Rattle.gsl_check.specs.Units.{checked}
 use Rattle.gsl_tree.specs.declared.unit.TypedUnit.{TypedUnit}
-use Rattle.gsl_tree.specs.WellTyped.{unit_lists}
+use Rattle.gsl_tree.specs.declared.program.Program.{Program as Linked}
+use Rattle.gsl_tree.specs.WellTyped.{program_lists}
+use Rattle.gsl_link.specs.Joined.{joined}
 use Rattle.gsl_words.specs.Bytes.{bytes_of}
 use Rattle.gsl_cmd.specs.declared.compiling.TheConstants.{MAX_SOURCE_BYTES}
 use Rattle.gsl_form.specs.declared.program.Program.{Program}
@@ -55,6 +57,10 @@ abbrev pub typed_from : Stage → ℕ → List (List ℕ) → Checked (List Type
 typed_from stage unit [] = Ok []
 typed_from stage unit (source ∷ sources) = typed_of stage unit source >>= λ typed. typed_from stage (unit + 1) sources >>= λ units. Ok (typed ∷ units)
 
+-- typed units and those of the sources behind them, which are numbered from this one on
+abbrev pub typed_behind : Stage → List TypedUnit → ℕ → List (List ℕ) → Checked (List TypedUnit)
+typed_behind stage units unit sources = typed_from stage unit sources >>= λ more. Ok (units ++ more)
+
 abbrev pub sized : {A : Type 0} → Option ℕ → Checked A → Checked A
 sized (Some unit) units = Err (fault_in unit E0900)
 sized None units = units
@@ -63,38 +69,40 @@ sized None units = units
 abbrev pub units_of : Stage → List (List ℕ) → Checked (List TypedUnit)
 units_of stage sources = sized (too_long_from 0 sources) (typed_from stage 0 sources)
 
--- The units are of the form that is built so far: one unit, which spells the program.
-pub record AreOfForm (stage : Stage) (units : List TypedUnit) (p : Program) : Type 0 where
+-- the program that the sources make together, or their first fault: where each has its typed unit, it is a fault of linking
+abbrev pub linked_of : Stage → List (List ℕ) → Checked Linked
+linked_of stage sources = units_of stage sources >>= joined stage
+
+-- A linked program is of the form that is built so far: it spells this one.
+pub record IsOfForm (stage : Stage) (linked : Linked) (p : Program) : Type 0 where
   pub stage_is : stage ≡ Compute
-  pub unit : TypedUnit
-  pub one : units ≡ unit ∷ []
-  pub spelled : Spells (unit_lists stage unit) p
+  pub spelled : Spells (program_lists linked) p
 
 -- The sources give this program.
 pub record Accepts (stage : Stage) (sources : List (List ℕ)) (p : Program) : Type 0 where
-  pub units : List TypedUnit
-  pub read : units_of stage sources ≡ Ok units
-  pub formed : AreOfForm stage units p
+  pub linked : Linked
+  pub read : linked_of stage sources ≡ Ok linked
+  pub formed : IsOfForm stage linked p
 
--- The fault is the first one of the sources; where they have none, they are not of the form.
-abbrev pub FaultWhere : Stage → Fault → Checked (List TypedUnit) → Type 0
+-- The fault is the first one of the sources; where they have none, their program is not of the form.
+abbrev pub FaultWhere : Stage → Fault → Checked Linked → Type 0
 FaultWhere stage fault (Err first) = fault ≡ first
-FaultWhere stage fault (Ok units) = (fault ≡ fault_in 0 E0001) × ((p : Program) → AreOfForm stage units p → ⊥)
+FaultWhere stage fault (Ok linked) = (fault ≡ fault_in 0 E0001) × ((p : Program) → IsOfForm stage linked p → ⊥)
 
 -- The sources have this first fault.
 abbrev pub FirstFault : Stage → List (List ℕ) → Fault → Type 0
-FirstFault stage sources fault = FaultWhere stage fault (units_of stage sources)
+FirstFault stage sources fault = FaultWhere stage fault (linked_of stage sources)
 
 -- The rules give this program, or this first fault.
 abbrev pub Judges : Stage → List (List ℕ) → Checked Program → Type 0
 Judges stage sources (Ok p) = Accepts stage sources p
 Judges stage sources (Err fault) = FirstFault stage sources fault
 
--- What compiling a typed unit answers: the file of the module of its program, or that it is not of the form.
-abbrev pub CompilesUnit : Stage → TypedUnit → Result (List ℕ) Refusal → Type 0
-CompilesUnit stage unit (Ok bytes) = (p : Program) × (stage ≡ Compute) × Spells (unit_lists stage unit) p × (bytes ≡ bytes_of (module_of p))
-CompilesUnit stage unit (Err (refusal.Source fault)) = (fault ≡ fault_in 0 E0001) × ((p : Program) → stage ≡ Compute → Spells (unit_lists stage unit) p → ⊥)
-CompilesUnit stage unit (Err refusal.Memory) = Unit {0}
+-- What compiling a linked program answers: the file of the module of its program, or that it is not of the form.
+abbrev pub CompilesLinked : Stage → Linked → Result (List ℕ) Refusal → Type 0
+CompilesLinked stage linked (Ok bytes) = (p : Program) × IsOfForm stage linked p × (bytes ≡ bytes_of (module_of p))
+CompilesLinked stage linked (Err (refusal.Source fault)) = FaultWhere stage fault (Ok linked)
+CompilesLinked stage linked (Err refusal.Memory) = Unit {0}
 
 -- What compiling the sources answers: the file of the program's module, which carries the program, is small for it and is one that other
 -- consumers take; or the sources' first fault.

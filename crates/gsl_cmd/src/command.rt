@@ -1,22 +1,22 @@
 //! The commands of the program.
 
-ghost use Rattle.std.specs.Prelude.{ℕ, ◌≡◌, ◌≢◌, ◌≤◌, ◌⊎◌, [], ◌∷◌, List, Option, Some, Ok, Err, length, Contains, IfOk, OnOk};
+ghost use Rattle.std.specs.Prelude.{ℕ, ◌+◌, ◌≡◌, ◌≢◌, ◌≤◌, ◌⊎◌, ◌++◌, [], ◌∷◌, List, Option, Some, Ok, Err, length, map, Contains, IfErr, IfOk, OnOk};
 ghost use Rattle.std.specs.FinMap.{get};
 ghost use Rattle.std.specs.Option.{option_map};
 ghost use Rattle.gsl_base.specs.declared.fault.Fault.{Fault};
 ghost use Rattle.gsl_host.specs.declared.target.Stream.{Stream};
 ghost use Rattle.gsl_host.specs.declared.target.Target.{Target};
 ghost use Rattle.gsl_host.specs.Outside.{Files, NeverFall, Rose, Sets, KeepsOthers};
-ghost use Rattle.gsl_cmd.specs.Job.{Job, IsJob};
+ghost use Rattle.gsl_cmd.specs.Job.{Job, IsJob, gather, reads};
 ghost use Rattle.gsl_plan.specs.Plan.{Plan, plan_of};
-ghost use Rattle.gsl_cmd.specs.Command.{ChecksFile, Ended, Said, Shown, Reported, ReadsSource, ReadsFile, CompilesSource};
+ghost use Rattle.gsl_cmd.specs.Command.{ChecksFile, Ended, Said, Shown, Reported, ReadsGathered, ReadsSource, ReadsFile, CompilesSources, behind_sources};
 ghost use Rattle.gsl_cmd.specs.Converting.{plan_for};
 ghost use Rattle.gsl_cmd.specs.Targets.{targets_of};
 ghost use Rattle.gsl_cmd.specs.Performs.{Performs};
 ghost use Rattle.gsl_cmd.specs.Written.{Written};
 
 use crate::checking::{VALID_TEXT, judged};
-use crate::compiling::{MAX_SOURCE_BYTES, compile, fault_in};
+use crate::compiling::{MAX_SOURCE_BYTES, MAX_SOURCES, compile, fault_in};
 use crate::converting::{Conversion, MAX_MODULE_BYTES, made, too_long};
 use crate::stop::Stop;
 use crate::text::{HOST_TEXT, told_fault};
@@ -48,9 +48,9 @@ fn usage<H: Host>(alloc: Global, text: &[u8], host: &mut H) -> u8
     say(alloc, text, 2, host)
 }
 
-/// Reports why a command stopped, and gives the status.
-fn report<H: Host>(alloc: Global, file: &Text, stop: Stop, host: &mut H) -> u8
-    ensures reported { Reported file.now stop (H.faults host.old) (H.faults host.new) (H.printed host.old Stream.Err) (H.printed host.new Stream.Err) result }
+/// Reports why a command stopped, and gives the status. A fault is of one of these source files.
+fn report<H: Host>(alloc: Global, files: &[Text], stop: Stop, host: &mut H) -> u8
+    ensures reported { Reported files.now stop (H.faults host.old) (H.faults host.new) (H.printed host.old Stream.Err) (H.printed host.new Stream.Err) result }
     ensures out { H.printed host.new Stream.Out ≡ H.printed host.old Stream.Out }
     ensures files { H.files host.new ≡ H.files host.old }
     ensures faults { NeverFall (H.faults host.old) (H.faults host.new) }
@@ -59,16 +59,16 @@ fn report<H: Host>(alloc: Global, file: &Text, stop: Stop, host: &mut H) -> u8
         Stop::Memory => 4,
         Stop::Host => say(alloc, HOST_TEXT, 3, host),
         Stop::Rejected(text) => say(alloc, text.as_slice(), 8, host),
-        Stop::Fault(fault) => match told_fault(alloc, file, &fault) {
+        Stop::Fault(fault) => match told_fault(alloc, files, &fault) {
             Ok(text) => say(alloc, text.as_slice(), 1, host),
             Err(_) => 4,
         },
     }
 }
 
-/// Reads a source file.
-fn read_source<H: Host>(alloc: Global, file: &Text, host: &mut H) -> Result<Bytes, Stop>
-    ensures told { ReadsSource (H.files host.old) file.now result }
+/// Reads the source file of this number.
+fn read_source<H: Host>(alloc: Global, unit: u32, file: &Text, host: &mut H) -> Result<Bytes, Stop>
+    ensures told { ReadsSource (H.files host.old) unit file.now result }
     ensures failed { result ≡ Err Stop.Host → Rose (H.faults host.old) (H.faults host.new) (Target.Reading file.now) }
     ensures faults { NeverFall (H.faults host.old) (H.faults host.new) }
     ensures files { H.files host.new ≡ H.files host.old }
@@ -76,38 +76,76 @@ fn read_source<H: Host>(alloc: Global, file: &Text, host: &mut H) -> Result<Byte
 {
     match host.read_file(alloc, file, MAX_SOURCE_BYTES) {
         Ok(bytes) => Ok(bytes),
-        Err(ReadRefusal::TooLong) => Err(Stop::Fault(fault_in(0, Code::E0900))),
+        Err(ReadRefusal::TooLong) => Err(Stop::Fault(fault_in(unit, Code::E0900))),
         Err(ReadRefusal::Failed) => Err(Stop::Host),
         Err(ReadRefusal::Memory) => Err(Stop::Memory),
     }
 }
 
-/// Compiles a file and writes its module.
-fn compile_file<H: Host>(
+/// Reads source files, numbered from this one on, behind sources that were read.
+fn read_sources<H: Host>(
+    alloc: Global,
+    unit: u32,
+    files: &[Text],
+    sources: Sources,
+    host: &mut H,
+) -> Result<Sources, Stop>
+    requires { unit + length files.now ≤ MAX_SOURCES }
+    ensures told { (known : Files) → H.files host.old ≡ Some known → ReadsGathered (behind_sources sources (gather known unit files.now)) result }
+    ensures count { IfOk result (λ all. length all ≡ length sources + length files.now) }
+    ensures failed { result ≡ Err Stop.Host → (target : Target) × Contains (map Target.Reading files.now) target × Rose (H.faults host.old) (H.faults host.new) target }
+    ensures reached { (known : Files) → H.files host.old ≡ Some known → result ≡ Err Stop.Host →
+        (target : Target) × Contains (reads known files.now) target × Rose (H.faults host.old) (H.faults host.new) target }
+    ensures faults { NeverFall (H.faults host.old) (H.faults host.new) }
+    ensures files { H.files host.new ≡ H.files host.old }
+    ensures streams { (stream : Stream) → H.printed host.new stream ≡ H.printed host.old stream }
+{
+    match files {
+        [] => Ok(sources),
+        [file, more @ ..] => {
+            let source = read_source(alloc, unit, file, host)?;
+            let all = with_source(sources, source)?;
+            read_sources(alloc, unit + 1, more, all, host)
+        }
+    }
+}
+
+/// The sources with one more.
+fn with_source(sources: Sources, source: Bytes) -> Result<Sources, Stop>
+    ensures ok { IfOk result (λ all. all ≡ sources ++ source ∷ []) }
+    ensures err { IfErr result (λ why. why ≡ Stop.Memory) }
+{
+    let mut all = sources;
+    all.push(source)?;
+    Ok(all)
+}
+
+/// Compiles source files and writes their module.
+fn compile_files<H: Host>(
     alloc: Global,
     stage: Stage,
     out: &Text,
-    file: &Text,
+    names: &[Text],
     host: &mut H,
 ) -> Result<(), Stop>
+    requires { length names.now ≤ MAX_SOURCES }
     ensures told { (files : Files) → H.files host.old ≡ Some files →
-        Ended (Plan.Compile stage out.now (file.now ∷ [])) file.now files (H.files host.new) (H.faults host.old) (H.faults host.new) result }
-    ensures cause { result ≡ Err Stop.Host → (target : Target) × Contains (targets_of (Plan.Compile stage out.now (file.now ∷ []))) target × Rose (H.faults host.old) (H.faults host.new) target }
+        Ended (Plan.Compile stage out.now names.now) names.now files (H.files host.new) (H.faults host.old) (H.faults host.new) result }
+    ensures cause { result ≡ Err Stop.Host → (target : Target) × Contains (targets_of (Plan.Compile stage out.now names.now)) target × Rose (H.faults host.old) (H.faults host.new) target }
     ensures faults { NeverFall (H.faults host.old) (H.faults host.new) }
     ensures streams { (stream : Stream) → H.printed host.new stream ≡ H.printed host.old stream }
 {
-    let source = read_source(alloc, file, host)?;
-    let bytes = compile_source(alloc, stage, source)?;
+    let sources = read_sources(alloc, 0, names, Sources::new(alloc), host)?;
+    let bytes = compile_sources(alloc, stage, &sources)?;
     write_file(alloc, out, &bytes, host)
 }
 
-/// Compiles one source.
-fn compile_source(alloc: Global, stage: Stage, source: Bytes) -> Result<Bytes, Stop>
-    ensures { CompilesSource stage source result }
+/// Compiles sources.
+fn compile_sources(alloc: Global, stage: Stage, sources: &Sources) -> Result<Bytes, Stop>
+    requires { length sources.now ≤ MAX_SOURCES }
+    ensures { CompilesSources stage sources.now result }
 {
-    let mut sources = Sources::new(alloc);
-    sources.push(source)?;
-    match compile(alloc, stage, &sources) {
+    match compile(alloc, stage, sources) {
         Ok(bytes) => Ok(bytes),
         Err(Refusal::Source(fault)) => Err(Stop::Fault(fault)),
         Err(Refusal::Memory) => Err(Stop::Memory),
@@ -131,22 +169,23 @@ fn write_file<H: Host>(alloc: Global, out: &Text, bytes: &Bytes, host: &mut H) -
     }
 }
 
-/// Compiles a file, writes its module and gives the status.
+/// Compiles source files, writes their module and gives the status.
 fn compile_command<H: Host>(
     alloc: Global,
     stage: Stage,
     out: &Text,
-    file: &Text,
+    names: &[Text],
     host: &mut H,
 ) -> u8
-    ensures told { (files : Files) → H.files host.old ≡ Some files → (job : Job) × IsJob (Plan.Compile stage out.now (file.now ∷ [])) files job
+    requires { length names.now ≤ MAX_SOURCES }
+    ensures told { (files : Files) → H.files host.old ≡ Some files → (job : Job) × IsJob (Plan.Compile stage out.now names.now) files job
         × Performs job files (H.files host.new) (H.faults host.old) (H.faults host.new) (H.printed host.old) (H.printed host.new) result }
-    ensures cause { result ≡ 3 → (target : Target) × Contains (targets_of (Plan.Compile stage out.now (file.now ∷ []))) target × Rose (H.faults host.old) (H.faults host.new) target }
+    ensures cause { result ≡ 3 → (target : Target) × Contains (targets_of (Plan.Compile stage out.now names.now)) target × Rose (H.faults host.old) (H.faults host.new) target }
     ensures planned { result ≢ 2 }
 {
-    match compile_file(alloc, stage, out, file, host) {
+    match compile_files(alloc, stage, out, names, host) {
         Ok(()) => 0,
-        Err(stop) => report(alloc, file, stop, host),
+        Err(stop) => report(alloc, names, stop, host),
     }
 }
 
@@ -181,7 +220,7 @@ fn convert_file<H: Host>(
     host: &mut H,
 ) -> Result<(), Stop>
     ensures told { (files : Files) → H.files host.old ≡ Some files →
-        Ended (plan_for conversion file.now out.now) file.now files (H.files host.new) (H.faults host.old) (H.faults host.new) result }
+        Ended (plan_for conversion file.now out.now) [] files (H.files host.new) (H.faults host.old) (H.faults host.new) result }
     ensures cause { result ≡ Err Stop.Host → (target : Target) × Contains (targets_of (plan_for conversion file.now out.now)) target × Rose (H.faults host.old) (H.faults host.new) target }
     ensures faults { NeverFall (H.faults host.old) (H.faults host.new) }
     ensures streams { (stream : Stream) → H.printed host.new stream ≡ H.printed host.old stream }
@@ -206,7 +245,7 @@ fn convert_command<H: Host>(
 {
     match convert_file(alloc, conversion, file, out, host) {
         Ok(()) => 0,
-        Err(stop) => report(alloc, file, stop, host),
+        Err(stop) => report(alloc, &[], stop, host),
     }
 }
 
@@ -247,7 +286,7 @@ fn check_command<H: Host>(alloc: Global, file: &Text, host: &mut H) -> u8
 {
     match check_file(alloc, file, host) {
         Ok(()) => show_text(alloc, VALID_TEXT, host),
-        Err(stop) => report(alloc, file, stop, host),
+        Err(stop) => report(alloc, &[], stop, host),
     }
 }
 
@@ -278,7 +317,9 @@ pub fn glsl_main<H: Host>(alloc: Global, words: &Words, host: &mut H) -> u8
     };
     match command {
         Command::Usage(text) => usage(alloc, text.as_slice(), host),
-        Command::Compile { stage, out, file } => compile_command(alloc, stage, &out, &file, host),
+        Command::Compile { stage, out, files } => {
+            compile_command(alloc, stage, &out, files.as_slice(), host)
+        }
         Command::Disassemble { file, out } => {
             convert_command(alloc, Conversion::Disassemble, &file, &out, host)
         }

@@ -1,53 +1,102 @@
 //! Compiling: from the sources of a stage to the bytes of a module.
 
-ghost use Rattle.std.specs.Prelude.{◌≡◌, ◌<◌, ◌^◌, length, IfOk, IfSome, IfNone};
-ghost use Rattle.gsl_base.specs.Checked.{Gives};
+ghost use Rattle.std.specs.Prelude.{◌≡◌, ◌+◌, ◌<◌, ◌≤◌, ◌^◌, length, None, IfOk, IfSome, IfNone};
+ghost use Rattle.gsl_base.specs.Checked.{Gives, ◌>>=◌};
 ghost use Rattle.gsl_words.specs.Bytes.{bytes_of};
 ghost use Rattle.gsl_form.specs.declared.program.Program.{Program};
 ghost use Rattle.gsl_form.specs.Form.{IsProgram};
-ghost use Rattle.gsl_form.specs.Trees.{Spells};
-ghost use Rattle.gsl_tree.specs.WellTyped.{unit_lists};
 ghost use Rattle.gsl_cmd.specs.Lowering.{module_of};
+ghost use Rattle.gsl_link.specs.Joined.{joined};
 ghost use Rattle.gsl_parse.specs.Fed.{unit_fed};
 ghost use Rattle.gsl_pp.specs.Unit.{unit_of as given_out};
-ghost use Rattle.gsl_cmd.specs.Verdict.{Compiles, CompilesUnit, tree_of, typed_of, fault_in as first_line};
+ghost use Rattle.gsl_cmd.specs.Verdict.{Compiles, CompilesLinked, IsOfForm, linked_of, too_long_from, tree_of, typed_from, typed_of, fault_in as first_line};
 
 use crate::lowering::lower;
 use gsl_base::{Bytes, Code, Fault, Memory, Place, Raws, Refusal, Sources, Stage};
 use gsl_check::check;
-use gsl_form::{Program, read_unit};
+use gsl_form::{Program, read_linked};
 use gsl_lex::lex;
+use gsl_link::link;
 use gsl_parse::parse_feed;
 use gsl_pp::Feed;
 use gsl_syntax::Unit;
-use gsl_tree::TypedUnit;
+use gsl_tree::{Program as Linked, TypedUnit, TypedUnits};
 use gsl_words::encode;
 use std::alloc::Global;
 
 /// The most bytes of a source file.
 pub const MAX_SOURCE_BYTES: usize = 1_048_576;
 
+/// The most source files.
+pub const MAX_SOURCES: usize = 64;
+
 /// The bytes of the module that the sources of a stage compile to, or their first fault.
 ///
 /// The module keeps the rules V1 to V18, has the buffer, its members and their names where
 /// `specs/Places.antt` says, and is no larger than `specs/Weight.antt` says.
 ///
-/// One source is taken so far. `Refusal::Source` comes exactly where the sources have a fault: `E0900`
-/// where one is longer than `MAX_SOURCE_BYTES`, else the first fault of the lexer, the preprocessor, the
-/// limit on nesting, the parser or the checker, else `E0001` where its typed unit is not of the form that
-/// `docs/LANGUAGE.md` describes.
+/// `Refusal::Source` comes exactly where the sources have a fault: `E0900` of the first that is longer than `MAX_SOURCE_BYTES`, else that of
+/// the first source in their order that the lexer, the preprocessor, the limit on nesting, the parser or the checker refuses, else that of
+/// linking them, else `E0001` where the program that they make is not of the form that `docs/LANGUAGE.md` describes.
 pub fn compile(alloc: Global, stage: Stage, sources: &Sources) -> Result<Bytes, Refusal>
-    requires { length sources.now ≡ 1 }
+    requires { length sources.now ≤ MAX_SOURCES }
     ensures { Compiles stage sources.now result }
 {
-    let source = sources[0].as_slice();
-    if source.len() > MAX_SOURCE_BYTES {
-        return Err(Refusal::Source(fault_in(0, Code::E0900)));
-    }
-    match typed(alloc, stage, 0, source) {
-        Ok(unit) => compile_unit(alloc, stage, &unit),
+    match linked(alloc, stage, sources.as_slice()) {
+        Ok(program) => compile_linked(alloc, stage, &program),
         Err(refusal) => Err(refusal),
     }
+}
+
+/// The program that the sources make, or their first fault.
+fn linked(alloc: Global, stage: Stage, sources: &[Bytes]) -> Result<Linked, Refusal>
+    requires { length sources.now ≤ MAX_SOURCES }
+    ensures { Gives result (linked_of stage sources.now) }
+{
+    match first_long(0, sources) {
+        Some(unit) => Err(Refusal::Source(fault_in(unit, Code::E0900))),
+        None => linked_from(alloc, stage, sources),
+    }
+}
+
+/// The number of the first source that is too long, where they are numbered from this one on.
+fn first_long(unit: u32, sources: &[Bytes]) -> Option<u32>
+    requires { unit + length sources.now ≤ MAX_SOURCES }
+    ensures { result ≡ too_long_from unit sources.now }
+{
+    match sources {
+        [] => None,
+        [source, more @ ..] => {
+            if source.len() > MAX_SOURCE_BYTES {
+                return Some(unit);
+            }
+            first_long(unit + 1, more)
+        }
+    }
+}
+
+/// The program of sources of which none is too long, or their first fault.
+fn linked_from(alloc: Global, stage: Stage, sources: &[Bytes]) -> Result<Linked, Refusal>
+    requires few { length sources.now ≤ MAX_SOURCES }
+    requires short { too_long_from 0 sources.now ≡ None }
+    ensures { Gives result (typed_from stage 0 sources.now >>= joined stage) }
+{
+    let units = typed_all(alloc, stage, sources)?;
+    link(alloc, stage, units)
+}
+
+/// The typed units of the sources, or the first fault.
+fn typed_all(alloc: Global, stage: Stage, sources: &[Bytes]) -> Result<TypedUnits, Refusal>
+    requires few { length sources.now ≤ MAX_SOURCES }
+    requires short { too_long_from 0 sources.now ≡ None }
+    ensures { Gives result (typed_from stage 0 sources.now) }
+{
+    let mut units = TypedUnits::new(alloc);
+    for k in 0..sources.len() {
+        let unit = typed(alloc, stage, k as u32, sources[k].as_slice())?;
+        units.push(unit)?;
+    }
+    Ok(units)
 }
 
 /// The typed unit of the source file of this number, or its first fault.
@@ -79,23 +128,23 @@ fn tree_from(alloc: Global, number: u32, raws: Raws) -> Result<Unit, Refusal>
     parse_feed(alloc, feed)
 }
 
-/// The bytes of the module of a typed unit, or `E0001` where it is not of the form.
-fn compile_unit(alloc: Global, stage: Stage, unit: &TypedUnit) -> Result<Bytes, Refusal>
-    ensures { CompilesUnit stage unit.now result }
+/// The bytes of the module of a linked program, or `E0001` where it is not of the form.
+fn compile_linked(alloc: Global, stage: Stage, linked: &Linked) -> Result<Bytes, Refusal>
+    ensures { CompilesLinked stage linked.now result }
 {
-    match accepted(alloc, stage, unit)? {
+    match accepted(alloc, stage, linked)? {
         None => Err(Refusal::Source(fault_in(0, Code::E0001))),
         Some(program) => Ok(file_of(alloc, &program)?),
     }
 }
 
-/// The program of a typed unit, or `None` where it has no program of this stage.
-fn accepted(alloc: Global, stage: Stage, unit: &TypedUnit) -> Result<Option<Program>, Memory>
-    ensures found { IfOk result (λ found. IfSome found (λ p. (stage ≡ Stage.Compute) × Spells (unit_lists stage unit.now) p)) }
-    ensures none { IfOk result (λ found. IfNone found ((p : Program) → stage ≡ Stage.Compute → Spells (unit_lists stage unit.now) p → ⊥)) }
+/// The program that a linked program spells, or `None` where it has none of this stage.
+fn accepted(alloc: Global, stage: Stage, linked: &Linked) -> Result<Option<Program>, Memory>
+    ensures found { IfOk result (λ found. IfSome found (λ p. IsOfForm stage linked.now p)) }
+    ensures none { IfOk result (λ found. IfNone found ((p : Program) → IsOfForm stage linked.now p → ⊥)) }
 {
     match stage {
-        Stage::Compute => read_unit(alloc, unit),
+        Stage::Compute => read_linked(alloc, linked),
         Stage::Vertex | Stage::Fragment => Ok(None),
     }
 }

@@ -1,6 +1,6 @@
 //! The texts that the program prints.
 
-ghost use Rattle.std.specs.Prelude.{◌≡◌, ◌+◌, ◌%◌, ◌++◌, IfOk, codes};
+ghost use Rattle.std.specs.Prelude.{◌≡◌, ◌+◌, ◌%◌, ◌++◌, [], IfOk, codes, slice_index_or};
 ghost use Rattle.std.specs.Fmt.{decimal};
 ghost use Rattle.gsl_cmd.specs.Texts.{fault_text as text_of_fault, told_fault as text_told, four_digits as digits_of, line_text as text_of_line, long_text as text_of_long, broken_text as text_of_broken};
 
@@ -26,13 +26,21 @@ fn fault_text(alloc: Global, file: &str, fault: &Fault) -> Result<Bytes, Memory>
     Ok(text)
 }
 
-/// The same, of the one file of a command.
-pub fn told_fault(alloc: Global, file: &Text, fault: &Fault) -> Result<Bytes, Memory>
-    ensures { IfOk result (λ text. text ≡ text_told file.now fault.now) }
+/// The same, where these are the files of a command.
+pub fn told_fault(alloc: Global, files: &[Text], fault: &Fault) -> Result<Bytes, Memory>
+    ensures { IfOk result (λ text. text ≡ text_told files.now fault.now) }
 {
-    match fault.place.unit {
-        0 => fault_text(alloc, file.as_str(), fault),
-        _ => fault_text(alloc, "", fault),
+    fault_text(alloc, name_at(files, fault.place.unit), fault)
+}
+
+/// The name of the file of this number.
+fn name_at(files: &[Text], unit: u32) -> &str
+    ensures { result.now ≡ slice_index_or files.now unit [] }
+{
+    if (unit as usize) < files.len() {
+        files[unit as usize].as_str()
+    } else {
+        ""
     }
 }
 

@@ -1,3 +1,4 @@
+pub mod Few
 pub mod Planned
 pub mod Understood
 pub mod Walked

@@ -1,9 +1,10 @@
 -- What the words of a command line ask for. The first word is the program's own name.
-use Rattle.std.specs.Prelude.{ℕ, Bool, false, ◌==◌, List, [], ◌∷◌, Option, Some, None, codes, if◌then◌else◌}
+use Rattle.std.specs.Prelude.{ℕ, Bool, false, ◌==◌, List, [], ◌∷◌, length, nat_le, Option, Some, None, codes, if◌then◌else◌}
 use Rattle.std.specs.Option.{option_map}
 use Rattle.std.specs.Str.{bytes_eq}
 use Rattle.gsl_base.specs.declared.stage.Stage.{Stage}
 use Rattle.gsl_base.specs.declared.stage.Stage.TheVariants.{Vertex, Fragment, Compute}
+use Rattle.gsl_plan.specs.declared.planning.TheConstants.{MAX_FILES}
 use Rattle.gsl_plan.specs.declared.command.Command.{Command}
 use Rattle.gsl_plan.specs.declared.command.Command.TheVariants as command
 
@@ -40,16 +41,21 @@ abbrev pub stage_of : Name → Option Stage
 stage_of word =
     if bytes_eq word (codes "vert") then Some Vertex else if bytes_eq word (codes "frag") then Some Fragment else if bytes_eq word (codes "comp") then Some Compute else None
 
-abbrev pub compile_in : Option Stage → Name → Name → Option Plan
-compile_in None out file = None
-compile_in (Some stage) out file = Some (Compile stage out (file ∷ []))
+abbrev pub compile_in : Option Stage → Name → List Name → Option Plan
+compile_in None out files = None
+compile_in (Some stage) out files = Some (Compile stage out files)
+
+-- one source file or more, and not too many
+abbrev pub are_files : List Name → Bool
+are_files [] = false
+are_files (file ∷ files) = nat_le (length (file ∷ files)) MAX_FILES
 
 -- the stage by its word
-abbrev pub compile_for : Name → Name → Name → Option Plan
-compile_for stage out file = compile_in (stage_of stage) out file
+abbrev pub compile_for : Name → Name → List Name → Option Plan
+compile_for stage out files = if are_files files then compile_in (stage_of stage) out files else None
 
 abbrev pub compile_of : List Name → Option Plan
-compile_of (stage ∷ out ∷ file ∷ []) = compile_for stage out file
+compile_of (stage ∷ out ∷ files) = compile_for stage out files
 compile_of _ = None
 
 abbrev pub disassemble_of : List Name → Option Plan
@@ -69,7 +75,7 @@ abbrev pub given : Option (List Name) → (List Name → Option Plan) → Option
 given None f = None
 given (Some words) f = f words
 
--- `compile STAGE OUT FILE`, `dis MODULE OUT`, `asm TEXT OUT`, `check MODULE`
+-- `compile STAGE OUT FILE..`, `dis MODULE OUT`, `asm TEXT OUT`, `check MODULE`
 abbrev pub named : Name → List Name → Option Plan
 named command words =
     if bytes_eq command (codes "compile") then compile_of words else if bytes_eq command (codes "dis") then disassemble_of words
@@ -86,7 +92,7 @@ plan_of _ = None
 -- the plan of a command in the code
 abbrev pub plan_in : Command → Option Plan
 plan_in (command.Usage text) = None
-plan_in (command.Compile stage out file) = Some (Compile stage out (file ∷ []))
+plan_in (command.Compile stage out files) = Some (Compile stage out files)
 plan_in (command.Disassemble file out) = Some (Disassemble file out)
 plan_in (command.Assemble file out) = Some (Assemble file out)
 plan_in (command.Check file) = Some (Check file)

@@ -1,17 +1,30 @@
 //! The commands of the program.
 
-use gsl_base::{Bytes, Stage, Text};
+use gsl_base::{Bytes, Stage, Text, Words};
 
 /// What the words of a command line ask for.
 #[derive(Drop)]
 pub enum Command {
     /// The words are no command. This text says how the program is called.
     Usage(Bytes),
-    Compile { stage: Stage, out: Text, file: Text },
+    /// Compiles one source file or more, of which there are at most 64.
+    Compile {
+        stage: Stage,
+        out: Text,
+        files: Words,
+    },
     /// Shows the module of a file as text.
-    Disassemble { file: Text, out: Text },
+    Disassemble {
+        file: Text,
+        out: Text,
+    },
     /// Writes the module of a text.
-    Assemble { file: Text, out: Text },
+    Assemble {
+        file: Text,
+        out: Text,
+    },
     /// Judges a module.
-    Check { file: Text },
+    Check {
+        file: Text,
+    },
 }

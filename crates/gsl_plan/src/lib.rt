@@ -9,4 +9,4 @@ mod matching;
 mod planning;
 
 pub use command::Command;
-pub use planning::plan;
+pub use planning::{MAX_FILES, plan};

@@ -43,7 +43,7 @@ fn writing<'a>(alloc: Global) -> Result<Command<'a>, AllocError>
         alloc,
         "compile",
         "Compiles a shader to a module",
-        "gsl compile STAGE OUT FILE",
+        "gsl compile STAGE OUT FILE..",
     )?;
     let disassemble = operated(alloc, "dis", "Shows a module as text", "gsl dis MODULE OUT")?;
     let assemble = operated(

@@ -17,6 +17,9 @@ use clap::{ArgMatches, Error};
 use gsl_base::{Bytes, Memory, Stage, Text, Words};
 use std::alloc::Global;
 
+/// The most source files of a command.
+pub const MAX_FILES: usize = 64;
+
 /// The command that the words are, or why they are none. The first word is the program's own name.
 pub fn plan(alloc: Global, words: &Words) -> Result<Command, Memory>
     ensures { IfOk result (λ command. plan_in command ≡ plan_of words.now) }
@@ -83,22 +86,43 @@ fn compile_of(alloc: Global, operands: &[&str]) -> Result<Command, Memory>
     ensures { IfOk result (λ found. plan_in found ≡ spec.compile_of (texts operands.now)) }
 {
     match operands {
-        [stage, out, file] => compile_for(alloc, stage, out, file),
+        [stage, out, files @ ..] => compile_for(alloc, stage, out, files),
         _ => usage(alloc),
     }
 }
 
-fn compile_for(alloc: Global, stage: &str, out: &str, file: &str) -> Result<Command, Memory>
-    ensures { IfOk result (λ found. plan_in found ≡ spec.compile_for stage.now out.now file.now) }
+fn compile_for(alloc: Global, stage: &str, out: &str, files: &[&str]) -> Result<Command, Memory>
+    ensures { IfOk result (λ found. plan_in found ≡ spec.compile_for stage.now out.now (texts files.now)) }
 {
+    if !are_files(files) {
+        return usage(alloc);
+    }
     match stage_of(stage) {
         Some(stage) => Ok(Command::Compile {
             stage,
             out: Text::from_str(alloc, out)?,
-            file: Text::from_str(alloc, file)?,
+            files: names_of(alloc, files)?,
         }),
         None => usage(alloc),
     }
+}
+
+/// Whether there is one file, and not too many.
+fn are_files(files: &[&str]) -> bool
+    ensures { result ≡ spec.are_files (texts files.now) }
+{
+    !files.is_empty() && files.len() <= MAX_FILES
+}
+
+/// The names of files.
+fn names_of(alloc: Global, files: &[&str]) -> Result<Words, Memory>
+    ensures { IfOk result (λ names. names ≡ texts files.now) }
+{
+    let mut names = Words::new(alloc);
+    for k in 0..files.len() {
+        names.push(Text::from_str(alloc, files[k])?)?;
+    }
+    Ok(names)
 }
 
 /// The stage of a word.

@@ -23,7 +23,7 @@ fn shown(alloc: Global, line: &str) -> Result<String, Memory> {
 fn told(alloc: Global, command: Command) -> Result<String, Memory> {
     match command {
         Command::Usage(_text) => Ok(String::from_str(alloc, "usage")?),
-        Command::Compile { stage, out, file } => joined(alloc, compiling(stage), &out, &file),
+        Command::Compile { stage, out, files } => all(alloc, compiling(stage), &out, &files),
         Command::Disassemble { file, out } => joined(alloc, "dis", &file, &out),
         Command::Assemble { file, out } => joined(alloc, "asm", &file, &out),
         Command::Check { file } => joined(alloc, "check", &file, &Text::from_str(alloc, "alone")?),
@@ -36,6 +36,17 @@ fn compiling(stage: Stage) -> &'static str {
         Stage::Vertex => "compile vert",
         Stage::Fragment => "compile frag",
     }
+}
+
+fn all(alloc: Global, name: &str, first: &Text, others: &Words) -> Result<String, Memory> {
+    let mut text = String::from_str(alloc, name)?;
+    text.push_str(" ")?;
+    text.push_str(first.as_str())?;
+    for k in 0..others.len() {
+        text.push_str(" ")?;
+        text.push_str(others[k].as_str())?;
+    }
+    Ok(text)
 }
 
 fn joined(alloc: Global, name: &str, first: &Text, second: &Text) -> Result<String, Memory> {
@@ -53,6 +64,10 @@ fn each_command_has_its_operands(rt: HostRuntime) -> Result<(), Fail> {
     assert_eq!(rt;
         shown(alloc, "compile comp o.spv a.comp")?.as_str(),
         "compile comp o.spv a.comp"
+    );
+    assert_eq!(rt;
+        shown(alloc, "compile comp o.spv a.comp b.comp -")?.as_str(),
+        "compile comp o.spv a.comp b.comp -"
     );
     assert_eq!(rt;
         shown(alloc, "compile vert o.spv a.vert")?.as_str(),
@@ -96,8 +111,8 @@ fn other_words_are_no_command(rt: HostRuntime) -> Result<(), Fail> {
     for line in [
         "compile geom o.spv a.geom",
         "compile comp o.spv",
-        "compile comp o.spv a.comp b.comp",
         "compile comp -o a.comp",
+        "compile comp o.spv a.comp -b b.comp",
         "dis m.spv",
         "dis m.spv o.txt more",
         "dis --help o.txt",

@@ -29,10 +29,10 @@ returns-in-Err-clause-told g c = λ files told.
     let first = g.H.Host.faults c.args.host.now in
     let then = g.H.Host.faults c.check_file.new.host in
     let last = g.H.Host.faults c.report.new.host in
-    let said = subst (λ (shown : Option (List ℕ)). Reported c.args.file.now c.in-Err.stop then last shown (g.H.Host.printed c.report.new.host stream.Err) c.report.result)
+    let said = subst (λ (shown : Option (List ℕ)). Reported [] c.in-Err.stop then last shown (g.H.Host.printed c.report.new.host stream.Err) c.report.result)
     (streams stream.Err) c.report.ensures.reported in
-    let came = subst (λ (after : Option Files). Ended plan c.args.file.now files after first then (Err c.in-Err.stop)) (sym c.report.ensures.files)
+    let came = subst (λ (after : Option Files). Ended plan [] files after first then (Err c.in-Err.stop)) (sym c.report.ensures.files)
     (ended c.args.file.now files (g.H.Host.files c.check_file.new.host) first then (c.in-Err.ensures.files ∙ told) c.in-Err.stop (c.in-Err.ensures.told files told)
     (λ e. c.in-Err.ensures.failed (ap Err e))) in
-    done_err plan c.args.file.now files (g.H.Host.files c.report.new.host) first then last (g.H.Host.printed c.args.host.now) (g.H.Host.printed c.report.new.host)
+    done_err plan [] files (g.H.Host.files c.report.new.host) first then last (g.H.Host.printed c.args.host.now) (g.H.Host.printed c.report.new.host)
     c.in-Err.ensures.faults c.report.ensures.faults (c.report.ensures.out ∙ streams stream.Out) c.in-Err.stop c.report.result came said

@@ -18,7 +18,7 @@ pub returns-in-Compile-clause-written : goal.returns-in-Compile-clause-written
 returns-in-Compile-clause-written g c = λ zero plan planned files told.
     subst (λ (one : Plan). Written one files (g.H.Host.files c.compile_command.new.host))
     (same_plan (rw c.in-Compile.is at c.in-Ok.ensures) planned)
-    (performed_written (Plan.Compile c.in-Compile.stage c.in-Compile.out (c.in-Compile.file ∷ [])) files _ _ _ _ _ _ zero (c.compile_command.ensures.told files told))
+    (performed_written (Plan.Compile c.in-Compile.stage c.in-Compile.out c.in-Compile.files) files _ _ _ _ _ _ zero (c.compile_command.ensures.told files told))
 
 pub returns-in-Disassemble-clause-written : goal.returns-in-Disassemble-clause-written
 returns-in-Disassemble-clause-written g c = λ zero plan planned files told.
