@@ -13,13 +13,13 @@ use Rattle.gsl_lex.specs.Refused.{alone, other_types, other_keywords, reserved, 
 use Rattle.gsl_lex.specs.Tables.{lookup, among, key_of}
 use Rattle.gsl_lex.specs.Searching.{is_lower, under, IsAt}
 
--- What an item shows, where all items show what a function gives of 0 to 25.
-pub picked : {A B : Type 0} (show : A → B) (f : ℕ → B) (items : List A) (i : ℕ) (item : A) → IsAt items i item → map show items ≡ map f (range_with_len 0 26) → i < 26 → show item ≡ f i
-picked show f items i item at same low =
+-- What an item shows, where all items show what a function gives of so many numbers from 0 on.
+pub picked : {A B : Type 0} {n : ℕ} (show : A → B) (f : ℕ → B) (items : List A) (i : ℕ) (item : A) → IsAt items i item → map show items ≡ map f (range_with_len 0 n) → i < n → show item ≡ f i
+picked {n} show f items i item at same low =
     let here : slice_get (map show items) i ≡ Some (show item) = slice_get-map show items i ∙ ap (option_map show) at.is in
     sym (get_or_from_slice_get (map show items) i (show item) (show item) here)
     ∙ ap (λ l. get_or l i (show item)) same
-    ∙ get_or-map-range_with_len f 0 26 i i (show item) low (omega arith)
+    ∙ get_or-map-range_with_len f 0 n i i (show item) low (omega arith)
 
 apart : (word s : List ℕ) (c : ℕ) → first_of s ≡ c → eqb (first_of word) c ≡ false → bytes_eq word s ≡ false
 apart word s c first other =

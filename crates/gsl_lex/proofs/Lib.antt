@@ -14,4 +14,5 @@ pub mod Marks
 pub mod Sound
 pub mod Cuts
 pub mod Rising
+pub mod Seconds
 pub mod Answered

@@ -1,9 +1,9 @@
 -- How the text goes on from one byte to the next.
-use Rattle.std.proofs.Common.{◌≡◌, ℕ, zero, suc, ◌+◌, ◌<◌, ◌≤◌, Bool, true, false, cond, ◌&&◌, List, [], ◌∷◌, length, get_or, take, ◌-◌, drop, Some, None, refl, ap, sym, ◌∙◌, arith, eqb, ltb, length-drop}
+use Rattle.std.proofs.Common.{◌≡◌, ℕ, zero, suc, ◌+◌, ◌<◌, ◌≤◌, Bool, true, false, cond, not, ◌&&◌, List, [], ◌∷◌, length, get_or, take, ◌-◌, drop, Some, None, refl, ap, sym, ◌∙◌, arith, eqb, ltb, length-drop}
 use Rattle.std.proofs.lemmas.Bool.{and_parts, eqb-true, cond-false, or_parts, ltb-true, lt-ltb, true≢false}
 use Rattle.std.proofs.lemmas.List.{take_rest}
 use Rattle.gsl_lex.specs.declared.text.Char.{Char}
-use Rattle.gsl_lex.specs.Lines.{is_end, is_pair, unified, one_ends, numbered, joined, text_from, end_len, after_join}
+use Rattle.gsl_lex.specs.Lines.{is_plain, is_end, is_pair, unified, one_ends, numbered, joined, text_from, end_len, after_join}
 
 -- a line end becomes one LF
 pub ends_at : (bytes : List ℕ) → 0 < end_len bytes → one_ends bytes ≡ 10 ∷ one_ends (drop (end_len bytes) bytes)
@@ -120,6 +120,22 @@ text_empty line bytes none = at_end line bytes (omega arith)
 pub text_first : (line : ℕ) (bytes : List ℕ) → 1 ≤ length bytes → after_join bytes ≡ None → end_len bytes ≡ 0 → text_from line bytes ≡ on line (get_or bytes 0 0) ∷ text_from line (drop 1 bytes)
 text_first line [] some no_join none = absurd (omega arith)
 text_first line (a ∷ bytes) some no_join none = text_byte line a bytes no_join none
+
+not_so : (b : Bool) → not b ≡ true → b ≡ false
+not_so true e = absurd (true≢false (sym e))
+not_so false e = refl
+
+plain_len : (a : ℕ) (bytes : List ℕ) → eqb a 13 ≡ false → eqb a 10 ≡ false → end_len (a ∷ bytes) ≡ 0
+plain_len a [] no_return no_feed = rw (no_return, no_feed) refl
+plain_len a (b ∷ bytes) no_return no_feed = rw (no_return, no_feed) refl
+
+-- what is no line end and no backslash is the text's next
+pub plain_first : (line : ℕ) (bytes : List ℕ) → 1 ≤ length bytes → is_plain (get_or bytes 0 0) ≡ true → text_from line bytes ≡ on line (get_or bytes 0 0) ∷ text_from line (drop 1 bytes)
+plain_first line [] some plain = absurd (omega arith)
+plain_first line (a ∷ bytes) some plain =
+    let first = and_parts (not (eqb a 92)) _ plain in
+    let ends = and_parts (not (eqb a 13)) _ first.1 in
+    text_byte line a bytes (cond-false _ _ _ (ap (λ b. b && ltb 0 (end_len bytes)) (not_so _ first.0))) (plain_len a bytes (not_so _ ends.0) (not_so _ ends.1))
 
 pub drop_rest : (n : ℕ) (bytes : List ℕ) → drop n bytes ≡ take (length bytes - n) (drop n bytes)
 drop_rest n bytes = sym (take_rest bytes n)

@@ -1,6 +1,6 @@
 -- The text of a source file (GLSL 4.50, 3.1 and 3.2): its bytes with their physical lines, one line feed
 -- for each line end, and joined lines as one.
-use Rattle.std.specs.Prelude.{ℕ, ◌+◌, Bool, ◌==◌, ◌&&◌, ◌||◌, nat_lt, List, [], ◌∷◌, drop, if◌then◌else◌, Option, Some, None}
+use Rattle.std.specs.Prelude.{ℕ, ◌+◌, Bool, not, ◌==◌, ◌&&◌, ◌||◌, nat_lt, List, [], ◌∷◌, drop, if◌then◌else◌, Option, Some, None}
 use Rattle.gsl_lex.specs.declared.text.Char.{Char}
 use Rattle.gsl_lex.specs.Ascii.{line_feed, carriage_return, backslash}
 
@@ -11,6 +11,10 @@ is_end a = a == carriage_return || a == line_feed
 -- whether two bytes are one line end: CR LF or LF CR
 abbrev pub is_pair : ℕ → ℕ → Bool
 is_pair a b = (a == carriage_return && b == line_feed) || (a == line_feed && b == carriage_return)
+
+-- whether the byte is no line end and no backslash
+abbrev pub is_plain : ℕ → Bool
+is_plain a = not (a == backslash) && (not (a == carriage_return) && not (a == line_feed))
 
 -- the byte, or LF for one that ends a line
 abbrev pub unified : ℕ → ℕ

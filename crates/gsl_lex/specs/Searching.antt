@@ -1,15 +1,23 @@
 -- How the code searches the tables: among spellings of as many bytes, under the letter that a word begins with, and by the two parts
 -- of a word. This is not the rule, which stands in `Tables.antt`.
-use Rattle.std.specs.Prelude.{◌≡◌, ℕ, ◌+◌, Bool, true, false, ◌==◌, ◌&&◌, nat_le, List, [], ◌∷◌, length, Option, Some, None, if◌then◌else◌}
+use Rattle.std.specs.Prelude.{◌≡◌, ℕ, ◌+◌, Bool, true, false, ◌==◌, ◌&&◌, ◌||◌, nat_le, List, [], ◌∷◌, length, Option, Some, None, if◌then◌else◌}
 use Rattle.std.specs.List.{filter, slice_get}
 use Rattle.gsl_base.specs.Prefix.{after}
-use Rattle.gsl_lex.specs.Ascii.{lower_a, lower_z}
+use Rattle.gsl_lex.specs.Ascii.{plus, dash, lower_a, lower_z}
 use Rattle.gsl_lex.specs.Bytes.{first_of}
 use Rattle.gsl_lex.specs.Tables.{among}
 
 -- whether the byte is one of `a` to `z`
 abbrev pub is_lower : ℕ → Bool
 is_lower byte = nat_le lower_a byte && nat_le byte lower_z
+
+-- whether the byte is one of those that print, but no space
+abbrev pub is_mark : ℕ → Bool
+is_mark byte = nat_le 33 byte && nat_le byte 126
+
+-- whether the byte is one of `+ - < = > & ^ |`
+abbrev pub is_second : ℕ → Bool
+is_second byte = byte == plus || byte == dash || byte == 60 || byte == 61 || byte == 62 || byte == 38 || byte == 94 || byte == 124
 
 -- The item stands at this index.
 pub record IsAt {A : Type 0} (items : List A) (i : ℕ) (item : A) : Type 0 where

@@ -11,29 +11,74 @@ ghost use Rattle.gsl_lex.specs.Spellings.{keywords};
 ghost use Rattle.gsl_lex.specs.Tables as spec;
 
 use crate::rows::{
-    KEYWORDS, MATRICES, MATRIX_SIZES, ONE_BYTE, OPAQUE_KINDS, OPAQUES, REFUSED, SHADOW_KINDS,
+    KEYWORDS, MARKS, MATRICES, MATRIX_SIZES, OPAQUE_KINDS, OPAQUES, REFUSED, SHADOW_KINDS,
     SHADOW_SAMPLERS, THREE_BYTES, TWO_BYTES,
 };
 use gsl_base::{Key, Punct};
 
+/// How many bytes a refused word has at least.
+const SHORTEST: usize = 3;
+
 /// The punctuator of this one byte.
+#[tactic(auto, using(crate::proofs::Seconds::one_none))]
 pub fn one_of(first: u8) -> Option<Punct>
     ensures { result ≡ spec.punct_of (first ∷ []) }
 {
-    lookup(&ONE_BYTE, &[first])
+    if is_mark(first) {
+        mark_at(usize::from(first) - 33)
+    } else {
+        None
+    }
+}
+
+/// Whether the byte is one from `!` to `~`.
+fn is_mark(byte: u8) -> bool
+    ensures { result ≡ searching.is_mark byte }
+{
+    b'!' <= byte && byte <= b'~'
+}
+
+/// The punctuator of the byte that is this one behind `!`.
+fn mark_at(index: usize) -> Option<Punct>
+    requires { index < 94 }
+    ensures { result ≡ spec.punct_of ((33 + index) ∷ []) }
+{
+    item_at(&MARKS, index)
+}
+
+fn item_at<T: Copy>(items: &[T], index: usize) -> T
+    requires { index < length items.now }
+    ensures { searching.IsAt items.now index result }
+{
+    items[index]
+}
+
+/// Whether a punctuator has the byte as its second one.
+fn is_second(byte: u8) -> bool
+    ensures { result ≡ searching.is_second byte }
+{
+    matches!(byte, b'+' | b'-' | b'<' | b'=' | b'>' | b'&' | b'^' | b'|')
 }
 
 /// The punctuator of these two bytes.
+#[tactic(auto, using(crate::proofs::Seconds::two_none))]
 pub fn two_of(first: u8, second: u8) -> Option<Punct>
     ensures { result ≡ spec.punct_of (first ∷ second ∷ []) }
 {
+    if !is_second(second) {
+        return None;
+    }
     lookup(&TWO_BYTES, &[first, second])
 }
 
 /// The punctuator of these three bytes.
+#[tactic(auto, using(crate::proofs::Seconds::three_none))]
 pub fn three_of(first: u8, second: u8, third: u8) -> Option<Punct>
     ensures { result ≡ spec.punct_of (first ∷ second ∷ third ∷ []) }
 {
+    if !is_second(second) {
+        return None;
+    }
     lookup(&THREE_BYTES, &[first, second, third])
 }
 
@@ -47,10 +92,13 @@ pub fn key_of(spelling: &[u8]) -> Option<Key>
 }
 
 /// Whether the word is one that the profile refuses.
-#[tactic(auto, using(crate::proofs::Joints::refused_is))]
+#[tactic(auto, using(crate::proofs::Joints::refused_is, crate::proofs::Seconds::short_not_refused))]
 pub fn is_refused(word: &[u8]) -> bool
     ensures { result ≡ spec.is_refused word.now }
 {
+    if word.len() < SHORTEST {
+        return false;
+    }
     stands_alone(word) || is_joined(word)
 }
 

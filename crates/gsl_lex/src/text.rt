@@ -47,6 +47,22 @@ impl<'a> Cursor<'a> {
     pub fn step(&self) -> Option<(Char, Cursor<'a>)>
         ensures { MatchOption result (self.now ≡ []) (λ r. (self.now ≡ r.0 ∷ r.1) × (r.0.line < 2 ^ 32)) }
     {
+        match self.rest {
+            [byte, after @ ..] if is_plain(*byte) => Some((
+                Char {
+                    byte: *byte,
+                    line: self.line,
+                },
+                Cursor::at(after, self.line),
+            )),
+            _ => self.step_joined(),
+        }
+    }
+
+    /// The same where the byte may be a line end, or a backslash before one.
+    fn step_joined(&self) -> Option<(Char, Cursor<'a>)>
+        ensures { MatchOption result (self.now ≡ []) (λ r. (self.now ≡ r.0 ∷ r.1) × (r.0.line < 2 ^ 32)) }
+    {
         let (rest, line) = self.unjoined();
         first_at(rest, line)
     }
@@ -110,6 +126,13 @@ fn first_at(bytes: &[u8], line: usize) -> Option<(Char, Cursor)>
             Cursor::at(&bytes[end..], line + 1),
         )),
     }
+}
+
+/// Whether the byte is no line end and no backslash.
+fn is_plain(byte: u8) -> bool
+    ensures { result ≡ spec.is_plain byte }
+{
+    byte != b'\\' && byte != b'\r' && byte != b'\n'
 }
 
 fn is_end(byte: u8) -> bool
