@@ -4,7 +4,6 @@ use Rattle.std.specs.List.{filter}
 use Rattle.std.specs.Str.{bytes_eq}
 use Rattle.std.proofs.lemmas.Bool.{true≢false, cond-false, eq-eqb}
 use Rattle.std.proofs.lemmas.Slice.Eq.{bytes_eq-Decides}
-use Rattle.gsl_base.specs.declared.token.Punct.{Punct}
 use Rattle.gsl_lex.specs.Spellings.{puncts}
 use Rattle.gsl_lex.specs.Tables.{lookup, punct_of}
 use Rattle.gsl_lex.specs.Searching.{of_len}

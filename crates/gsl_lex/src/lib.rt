@@ -18,4 +18,4 @@ mod text;
 pub use cooking::{MAX_WORD_BYTES, cook};
 pub use laws::{one_answer, one_cut, rows_are_rules};
 pub use lexing::lex;
-pub use rows::{ONE_BYTE, THREE_BYTES, TWO_BYTES};
+pub use rows::{MARKS, THREE_BYTES, TWO_BYTES};

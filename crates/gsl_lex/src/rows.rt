@@ -2,36 +2,7 @@
 
 use gsl_base::{Key, Punct};
 
-/// The punctuators of one byte (GLSL 4.50, chapter 9); `#` is one of the preprocessor (3.3).
-pub const ONE_BYTE: [(&[u8], Punct); 25] = [
-    (b"(", Punct::LeftParen),
-    (b")", Punct::RightParen),
-    (b"[", Punct::LeftBracket),
-    (b"]", Punct::RightBracket),
-    (b"{", Punct::LeftBrace),
-    (b"}", Punct::RightBrace),
-    (b".", Punct::Dot),
-    (b",", Punct::Comma),
-    (b";", Punct::Semicolon),
-    (b":", Punct::Colon),
-    (b"?", Punct::Question),
-    (b"+", Punct::Plus),
-    (b"-", Punct::Dash),
-    (b"~", Punct::Tilde),
-    (b"!", Punct::Bang),
-    (b"*", Punct::Star),
-    (b"/", Punct::Slash),
-    (b"%", Punct::Percent),
-    (b"<", Punct::LeftAngle),
-    (b">", Punct::RightAngle),
-    (b"&", Punct::Ampersand),
-    (b"^", Punct::Caret),
-    (b"|", Punct::VerticalBar),
-    (b"=", Punct::Equal),
-    (b"#", Punct::Hash),
-];
-
-/// The punctuators of one byte, by the bytes from `!` to `~`.
+/// The punctuators of one byte (GLSL 4.50, chapter 9), by the bytes from `!` to `~`; `#` is one of the preprocessor (3.3).
 pub const MARKS: [Option<Punct>; 94] = [
     Some(Punct::Bang),
     None,

@@ -1,5 +1,5 @@
 use gsl_base::{Code, Fault, Memory, Place, Punct, Raw, RawKind, Refusal, Text};
-use gsl_lex::{ONE_BYTE, THREE_BYTES, TWO_BYTES, lex};
+use gsl_lex::{MARKS, THREE_BYTES, TWO_BYTES, lex};
 use std::alloc::Global;
 
 /// Each raw token after `|` where it starts a line, `_` where it is spaced, or `,`: a word as it is, a
@@ -50,11 +50,13 @@ fn show_bytes(text: &mut Text, bytes: &[u8]) -> Result<(), Memory> {
 }
 
 fn show_punct(text: &mut Text, punct: Punct) -> Result<(), Memory> {
-    for rows in [
-        ONE_BYTE.as_slice(),
-        TWO_BYTES.as_slice(),
-        THREE_BYTES.as_slice(),
-    ] {
+    let marks = MARKS.as_slice();
+    for k in 0..marks.len() {
+        if marks[k] == Some(punct) {
+            return show_bytes(text, &[b'!' + k as u8]);
+        }
+    }
+    for rows in [TWO_BYTES.as_slice(), THREE_BYTES.as_slice()] {
         for (spelling, one) in rows {
             if *one == punct {
                 return show_bytes(text, spelling);
