@@ -1,5 +1,5 @@
 -- The job of `check`: that there is one, what its steps have done of it, and what status 0 says.
-use Rattle.std.proofs.Common.{◌≡◌, ℕ, ◌+◌, ◌*◌, ◌^◌, ◌<◌, ◌≤◌, List, [], ◌∷◌, length, Option, Some, None, Result, Ok, Err, refl, ap, sym, subst, ◌∙◌, arith, inl, inr, length-append}
+use Rattle.std.proofs.Common.{◌≡◌, ℕ, ◌+◌, ◌^◌, ◌<◌, ◌≤◌, List, [], ◌∷◌, length, Option, Some, None, Result, Ok, Err, refl, ap, sym, subst, ◌∙◌, arith, inl, inr, length-append}
 use Rattle.std.proofs.lemmas.Bool.{lt-ltb, le-ltb, cond-true, cond-false}
 use Rattle.std.specs.Prelude.{IsSomeAnd, Contains, option_map, IfOk, MatchResult}
 use Rattle.std.specs.FinMap.{get}
@@ -17,7 +17,7 @@ use Rattle.gsl_words.specs.declared.module.Module.{Module}
 use Rattle.gsl_words.specs.Bytes.{bytes_of, instr_words, module_words}
 use Rattle.gsl_words.specs.Faults.{Judges, HasFault}
 use Rattle.gsl_valid.specs.Placed.{words_from, count_of_words, header_size}
-use Rattle.gsl_valid.specs.Valid.{Valid, broken}
+use Rattle.gsl_valid.specs.Valid.{broken}
 use Rattle.gsl_plan.specs.Plan.{Plan, Name}
 use Rattle.gsl_cmd.specs.declared.stop.Stop.{Stop}
 use Rattle.gsl_cmd.specs.declared.stop.Stop.TheVariants as stop

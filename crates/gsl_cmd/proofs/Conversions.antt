@@ -5,7 +5,6 @@ use Rattle.std.specs.FinMap.{get}
 use Rattle.std.proofs.lemmas.Bool.{lt-ltb, le-ltb, cond-true, cond-false}
 use Rattle.gsl_base.specs.declared.fault.Fault.{Fault}
 use Rattle.gsl_base.specs.Ranges.{AreBytes}
-use Rattle.gsl_base.specs.declared.stage.Stage.{Stage}
 use Rattle.gsl_words.specs.declared.fault.WordFault.{WordFault}
 use Rattle.gsl_words.specs.Faults.{HasFault}
 use Rattle.gsl_host.specs.declared.target.Target.{Target}
@@ -19,7 +18,7 @@ use Rattle.gsl_cmd.specs.declared.converting.Conversion.TheVariants.{Disassemble
 use Rattle.gsl_cmd.specs.declared.converting.TheConstants.{MAX_MODULE_BYTES}
 use Rattle.gsl_cmd.specs.Converting.{Made, Makes, Shows, plan_for}
 use Rattle.gsl_cmd.specs.Targets.{targets_of}
-use Rattle.gsl_cmd.specs.Job.{Job, Gathered, Sources, Absent, TooLong, IsCompileJob, gather, reads, Found, Missing, Longer, Whole, IsJob, IsConversionJob, rejected, made_of, found_in}
+use Rattle.gsl_cmd.specs.Job.{Job, Found, Missing, Longer, Whole, IsJob, IsConversionJob, rejected, made_of, found_in}
 use Rattle.gsl_cmd.specs.Command.{Did, Ended, ReadsFileTold, Gives, Rejects}
 use Rattle.gsl_cmd.proofs.Converted.{conversion_job}
 use Rattle.gsl_cmd.proofs.Jobs.{keeps_same, some_job}

@@ -1,7 +1,8 @@
 -- The job of a command, and how far its steps have come with it.
-use Rattle.std.proofs.Common.{◌≡◌, ◌≢◌, ℕ, zero, suc, ◌<◌, ◌≤◌, List, [], ◌∷◌, ◌++◌, length, Option, Some, None, Ok, Err, refl, ap, sym, subst, ◌∙◌, arith, inl, inr, ◌⊎◌, append_assoc, append-nil}
+use Rattle.std.proofs.Common.{◌≡◌, ◌≢◌, ℕ, zero, suc, ◌+◌, ◌-◌, ◌<◌, ◌≤◌, get_or, drop, take, List, [], ◌∷◌, ◌++◌, length, Option, Some, None, Ok, Err, refl, ap, sym, subst, ◌∙◌, arith, inl, inr, ◌⊎◌, append_assoc, append-nil}
 use Rattle.std.specs.Prelude.{Bool, not, if◌then◌else◌, map, Result, IsSomeAnd, OnOk, Contains}
 use Rattle.std.specs.FinMap.{get, insert}
+use Rattle.std.proofs.Math.Seq.{take-length}
 use Rattle.std.proofs.lemmas.Bool.{lt-ltb, le-ltb, cond-true, cond-false}
 use Rattle.gsl_base.specs.declared.stage.Stage.{Stage}
 use Rattle.gsl_base.specs.declared.stage.Stage.TheVariants.{Vertex, Fragment, Compute}
@@ -10,7 +11,7 @@ use Rattle.gsl_base.specs.declared.fault.Fault.{Fault}
 use Rattle.gsl_base.specs.Checked.{Checked}
 use Rattle.gsl_host.specs.declared.target.Target.{Target}
 use Rattle.gsl_host.specs.declared.target.Target.TheVariants.{Reading, Writing}
-use Rattle.gsl_host.specs.Outside.{Files, KeepsOthers, Sets, NeverFall, Rose}
+use Rattle.gsl_host.specs.Outside.{Files, KeepsOthers, Sets, Rose}
 use Rattle.gsl_cmd.specs.declared.compiling.TheConstants.{MAX_SOURCE_BYTES}
 use Rattle.gsl_cmd.specs.declared.stop.Stop.{Stop}
 use Rattle.gsl_cmd.specs.declared.stop.Stop.TheVariants as stop
@@ -144,6 +145,25 @@ module _ (files : Files) (front : List (List ℕ)) (unit : ℕ) where
 
     pub reads_first : Contains (reads files (name ∷ names)) (Reading name)
     reads_first = (0, omega arith, refl)
+
+-- what is read behind the first file
+rest_is : (names : List Name) → take (length names - 1) (drop 1 names) ≡ drop 1 names
+rest_is [] = refl
+rest_is (name ∷ names) = ap (λ n. take n names) (let one : suc (length names) - 1 ≡ length names = omega arith in one) ∙ take-length names
+
+more_named : (names : List Name) (target : Target) → Contains (map Reading (drop 1 names)) target → Contains (map Reading names) target
+more_named [] target at = at
+more_named (name ∷ names) target (k, within, here) = (suc k, omega (arith, within), here)
+
+pub rest_named : (names : List Name) (target : Target) → Contains (map Reading (take (length names - 1) (drop 1 names))) target → Contains (map Reading names) target
+rest_named names target at = more_named names target (subst (λ (l : List Name). Contains (map Reading l) target) (rest_is names) at)
+
+pub rest_read : (files : Files) (names : List Name) (name : Name) (source : List ℕ) (target : Target) → 1 ≤ length names → name ≡ get_or names 0 name → get files name ≡ Some source
+    → length source ≤ MAX_SOURCE_BYTES → Contains (reads files (take (length names - 1) (drop 1 names))) target → Contains (reads files names) target
+rest_read files [] name source target some first read short at = absurd (omega (arith, some))
+rest_read files (n ∷ names) name source target some first read short at =
+    reads_more files [] 0 n names source target (subst (λ (x : Name). get files x ≡ Some source) first read) short
+    (subst (λ (l : List Name). Contains (reads files l) target) (rest_is (n ∷ names)) at)
 
 -- want of memory is no failure of the host
 pub memory_reads : (g : Gathered) (why : Stop) → why ≡ stop.Memory → ReadsGathered g (Err why)

@@ -1,5 +1,5 @@
 -- The module of a program is one that other consumers take.
-use Rattle.std.proofs.Common.{◌≡◌, ℕ, zero, suc, ◌+◌, ◌*◌, ◌%◌, ◌<◌, ◌≤◌, Bool, true, false, cond, not, ◌&&◌, List, [], ◌∷◌, length, Option, Some, None, refl, ap, ◌∙◌, arith}
+use Rattle.std.proofs.Common.{◌≡◌, ℕ, zero, suc, ◌+◌, ◌*◌, ◌%◌, ◌<◌, Bool, true, false, cond, not, ◌&&◌, [], ◌∷◌, length, Option, Some, None, refl, ap, ◌∙◌, arith}
 use Rattle.std.specs.Prelude.{replicate, is_some}
 use Rattle.std.specs.List.{list_any, list_all}
 use Rattle.std.proofs.Math.ListN.{length-replicate}
@@ -9,12 +9,11 @@ use Rattle.gsl_instr.specs.declared.enumerant.storage_class.TheConstants as stor
 use Rattle.gsl_instr.specs.Forms.{form_of}
 use Rattle.gsl_words.specs.declared.module.Module.{Module}
 use Rattle.gsl_valid.specs.Instruction.{read}
-use Rattle.gsl_valid.specs.Kinds.{Shape, OfVoid, OfInt, OfStruct, OfPointer, OfFunction, NoType, Variable, On, OnMember, shape_of, variable_is}
+use Rattle.gsl_valid.specs.Kinds.{Shape, OfVoid, OfInt, OfStruct, OfPointer, OfFunction, NoType, Variable, On, shape_of, variable_is}
 use Rattle.gsl_valid.specs.Ids.{result}
 use Rattle.gsl_valid.specs.Search.{Test, Passes}
 use Rattle.gsl_valid.specs.Types.{outside_of, runtime_type}
 use Rattle.gsl_valid.specs.Decorations.{has, number_in, number_on_member}
-use Rattle.gsl_valid.specs.LayoutRules.{is_storage}
 use Rattle.gsl_valid.specs.Portable.{Portable, switches_well, merge_before, is_block, has_block, block_alone, has_length, grows_last, may_have, has_parts, member_in, marked_by, marked_variable, members_aligned, is_aligned, end_behind, is_padded, rounded, laid_by, laid_for, laid_for_all}
 use Rattle.gsl_blocks.specs.Blocks.{role_or}
 use Rattle.gsl_valid.specs.Kinds.{decoration_of}

@@ -1,26 +1,24 @@
 -- What the rules say of sources.
-use Rattle.std.proofs.Common.{◌≡◌, ℕ, zero, suc, ◌+◌, ◌<◌, ◌≤◌, List, [], ◌∷◌, ◌++◌, drop, length, Option, Some, None, Ok, Err, refl, ap, sym, subst, ◌∙◌, arith, append_assoc, inl, inr}
+use Rattle.std.proofs.Common.{◌≡◌, ℕ, zero, suc, ◌+◌, ◌<◌, ◌≤◌, List, [], ◌∷◌, ◌++◌, drop, get_or, length, Option, Some, None, Ok, Err, refl, ap, sym, subst, ◌∙◌, arith, append_assoc, inl, inr}
 use Rattle.std.specs.Prelude.{slice_get}
 use Rattle.std.specs.List.{AllByRecursion}
 use Rattle.std.proofs.lemmas.Bool.{cases_lt, lt-ltb, le-ltb, cond-true, cond-false}
 use Rattle.gsl_base.specs.Checked.{Checked, ◌>>=◌}
 use Rattle.gsl_base.specs.declared.stage.Stage.{Stage}
-use Rattle.gsl_base.specs.declared.fault.Code.TheVariants.{E0001, E0900}
+use Rattle.gsl_base.specs.declared.fault.Code.TheVariants.{E0900}
 use Rattle.gsl_base.specs.declared.fault.Fault.{Fault}
 use Rattle.gsl_check.specs.Units.{checked}
 use Rattle.gsl_check_law.proofs.Wholes.{checked_is}
-use Rattle.gsl_form.specs.declared.program.Program.{Program}
 use Rattle.gsl_link.specs.Joined.{joined}
 use Rattle.gsl_link.specs.Units.{AreKnown}
 use Rattle.gsl_link_law.proofs.Asked.{units_known}
 use Rattle.gsl_link_units.specs.Declarations.{sides_of}
 use Rattle.gsl_link_units.specs.Structs.{joined_structs}
 use Rattle.gsl_parse_law.proofs.Parsed.{source_parsed}
-use Rattle.gsl_tree.specs.declared.program.Program.{Program as Linked}
 use Rattle.gsl_tree.specs.declared.unit.TypedUnit.{TypedUnit}
 use Rattle.gsl_tree.specs.WellTyped.{IsUnit}
 use Rattle.gsl_cmd.specs.declared.compiling.TheConstants.{MAX_SOURCE_BYTES}
-use Rattle.gsl_cmd.specs.Verdict.{Tree, fault_in, linked_of, sized, too_long_from, tokens_of, tree_of, typed_behind, typed_from, typed_of, units_of}
+use Rattle.gsl_cmd.specs.Verdict.{Tree, fault_in, linked_of, sized, too_long_from, tokens_of, tree_of, typed_behind, typed_from, typed_of}
 
 same_some : {A : Type 0} {a b : A} → ◌≡◌ {A = Option A} (Some a) (Some b) → a ≡ b
 same_some e = cc
@@ -40,6 +38,11 @@ pub short_at : (unit : ℕ) (sources : List (List ℕ)) (k : ℕ) (source : List
 short_at unit [] k source none at = absurd (let never : ◌≡◌ {A = Option (List ℕ)} None (Some source) = at in cc)
 short_at unit (s ∷ sources) zero source none at = subst (λ (x : List ℕ). length x ≤ MAX_SOURCE_BYTES) (same_some at) (first_short unit s sources none).0
 short_at unit (s ∷ sources) (suc k) source none at = short_at (unit + 1) sources k source (first_short unit s sources none).1 at
+
+pub short_within : (unit : ℕ) (sources : List (List ℕ)) (k : ℕ) (source : List ℕ) → too_long_from unit sources ≡ None → k < length sources → source ≡ get_or sources k source → length source ≤ MAX_SOURCE_BYTES
+short_within unit [] k source none within at = absurd (omega (arith, within))
+short_within unit (s ∷ sources) zero source none within at = subst (λ (x : List ℕ). length x ≤ MAX_SOURCE_BYTES) (sym at) (first_short unit s sources none).0
+short_within unit (s ∷ sources) (suc k) source none within at = short_within (unit + 1) sources k source (first_short unit s sources none).1 (omega (arith, within)) at
 
 -- ---- typed units, one after the other
 

@@ -69,9 +69,13 @@ sized None units = units
 abbrev pub units_of : Stage → List (List ℕ) → Checked (List TypedUnit)
 units_of stage sources = sized (too_long_from 0 sources) (typed_from stage 0 sources)
 
--- the program that the sources make together, or their first fault: where each has its typed unit, it is a fault of linking
+-- the program that typed units make together; their fault, if they have one, goes before those of linking
+abbrev pub linked_behind : Stage → Checked (List TypedUnit) → Checked Linked
+linked_behind stage units = units >>= joined stage
+
+-- the program that the sources make together, or their first fault
 abbrev pub linked_of : Stage → List (List ℕ) → Checked Linked
-linked_of stage sources = units_of stage sources >>= joined stage
+linked_of stage sources = linked_behind stage (units_of stage sources)
 
 -- A linked program is of the form that is built so far: it spells this one.
 pub record IsOfForm (stage : Stage) (linked : Linked) (p : Program) : Type 0 where

@@ -1,15 +1,14 @@
 //! Compiling: from the sources of a stage to the bytes of a module.
 
 ghost use Rattle.std.specs.Prelude.{◌≡◌, ◌+◌, ◌<◌, ◌≤◌, ◌^◌, length, None, IfOk, IfSome, IfNone};
-ghost use Rattle.gsl_base.specs.Checked.{Gives, ◌>>=◌};
+ghost use Rattle.gsl_base.specs.Checked.{Gives};
 ghost use Rattle.gsl_words.specs.Bytes.{bytes_of};
 ghost use Rattle.gsl_form.specs.declared.program.Program.{Program};
 ghost use Rattle.gsl_form.specs.Form.{IsProgram};
 ghost use Rattle.gsl_cmd.specs.Lowering.{module_of};
-ghost use Rattle.gsl_link.specs.Joined.{joined};
 ghost use Rattle.gsl_parse.specs.Fed.{unit_fed};
 ghost use Rattle.gsl_pp.specs.Unit.{unit_of as given_out};
-ghost use Rattle.gsl_cmd.specs.Verdict.{Compiles, CompilesLinked, IsOfForm, linked_of, too_long_from, tree_of, typed_from, typed_of, fault_in as first_line};
+ghost use Rattle.gsl_cmd.specs.Verdict.{Compiles, CompilesLinked, IsOfForm, linked_behind, linked_of, too_long_from, tree_of, typed_from, typed_of, fault_in as first_line};
 
 use crate::lowering::lower;
 use gsl_base::{Bytes, Code, Fault, Memory, Place, Raws, Refusal, Sources, Stage};
@@ -79,7 +78,7 @@ fn first_long(unit: u32, sources: &[Bytes]) -> Option<u32>
 fn linked_from(alloc: Global, stage: Stage, sources: &[Bytes]) -> Result<Linked, Refusal>
     requires few { length sources.now ≤ MAX_SOURCES }
     requires short { too_long_from 0 sources.now ≡ None }
-    ensures { Gives result (typed_from stage 0 sources.now >>= joined stage) }
+    ensures { Gives result (linked_behind stage (typed_from stage 0 sources.now)) }
 {
     let units = typed_all(alloc, stage, sources)?;
     link(alloc, stage, units)

@@ -1,4 +1,4 @@
-use Rattle.std.proofs.Common.{ℕ, List, [], ◌∷◌, ◌∙◌, sym, subst, arith, Option, Err}
+use Rattle.std.proofs.Common.{ℕ, List, ◌∙◌, sym, subst, arith, Option, Err}
 use Rattle.gsl_host.specs.declared.target.Stream.TheVariants as stream
 use Rattle.gsl_host.specs.Outside.{Files}
 use Rattle.gsl_plan.specs.Plan.{Plan}
