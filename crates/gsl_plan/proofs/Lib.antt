@@ -1,4 +1,3 @@
-pub mod Few
 pub mod Planned
 pub mod Understood
 pub mod Walked
