@@ -1,0 +1,14 @@
+pub mod Unlike
+pub mod Rows
+pub mod Types
+pub mod Structs
+pub mod Trees
+pub mod Calls
+pub mod Sorted
+pub mod Sited
+pub mod Wholes
+pub mod Once
+pub mod Leaves
+pub mod Counted
+pub mod Undefined
+pub mod Faultless
