@@ -5,6 +5,7 @@
 
 mod bytes;
 mod chains;
+mod laws;
 mod loads;
 mod parts;
 mod pointer;
@@ -12,6 +13,7 @@ mod stores;
 
 pub use bytes::bytes_of;
 pub use chains::into;
+pub use laws::words_are_the_machines;
 pub use loads::{counted, loaded};
 pub use pointer::{Pointer, Reached};
 pub use stores::{block_stored, variable_stored};
