@@ -1,0 +1,4 @@
+pub mod Loops
+pub mod Told
+pub mod Orders
+pub mod Walked
