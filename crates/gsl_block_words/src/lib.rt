@@ -1,0 +1,7 @@
+//! The words of a block in the bytes of its buffer: its value as they tell it, and the bytes with the words of a value put.
+#![tactic(auto)]
+
+mod bytes;
+mod reading;
+
+pub use reading::read;
