@@ -78,12 +78,12 @@ group_or (kind.Leaf n) = 0
 group_or kind.Array = 0
 group_or (kind.Group n) = n
 
-abbrev is_leaf : Kind → Bool
+abbrev pub is_leaf : Kind → Bool
 is_leaf (kind.Leaf n) = true
 is_leaf kind.Array = false
 is_leaf (kind.Group n) = false
 
-abbrev is_array : Kind → Bool
+abbrev pub is_array : Kind → Bool
 is_array (kind.Leaf n) = false
 is_array kind.Array = true
 is_array (kind.Group n) = false

@@ -2,6 +2,8 @@
 #![tactic(auto)]
 
 mod bytes;
+mod putting;
 mod reading;
 
+pub use putting::put;
 pub use reading::read;
