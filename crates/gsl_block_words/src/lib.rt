@@ -2,8 +2,10 @@
 #![tactic(auto)]
 
 mod bytes;
+mod laying;
 mod putting;
 mod reading;
 
+pub use laying::lay_block;
 pub use putting::put;
 pub use reading::read;
