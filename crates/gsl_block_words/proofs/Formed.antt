@@ -38,7 +38,7 @@ layer_same (Ty-F.Array e n) = asked (Ty-F.Array e.0 n) ∙ e.1 ∙ sym (laid (Ty
 layer_same (Ty-F.Runtime e) = asked (Ty-F.Runtime e.0) ∙ sym (laid (Ty-F.Runtime e.0))
 layer_same (Ty-F.Struct k) = asked (Ty-F.Struct k) ∙ sym (laid (Ty-F.Struct k))
 
-same_plain : (t : Ty) → is_plain t ≡ plain t
+pub same_plain : (t : Ty) → is_plain t ≡ plain t
 same_plain = ind-Ty Same (λ x y is. subst (λ z. Same (roll-Ty z)) is (layer_same y))
 
 -- ---- the types of members

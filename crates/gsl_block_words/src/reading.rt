@@ -4,6 +4,8 @@ ghost use Rattle.std.specs.Prelude.{◌≡◌, ◌<◌, ◌≤◌, ◌+◌, ◌*
 ghost use Rattle.gsl_layout.specs.Kinds.{kind_of};
 ghost use Rattle.gsl_layout.specs.Layout.{element_of, need};
 ghost use Rattle.gsl_layout.specs.declared.kind.Kind.TheVariants as kind;
+ghost use Rattle.gsl_meaning.specs.Blocks.{value_of};
+ghost use Rattle.gsl_views.specs.Seen.{seen};
 ghost use Rattle.gsl_views.specs.Viewed.{IsArray, elements as elements_of};
 ghost use Rattle.gsl_values.specs.declared.value.Value.TheVariants.{Many};
 ghost use Rattle.gsl_block_words.specs.Reading as spec;
@@ -121,10 +123,12 @@ fn members(
     Ok(all)
 }
 
-/// The value of a layout in bytes from their start on.
+/// The value of a layout in bytes from their start on; past the end stand zeros.
+#[tactic(auto, unfolding(crate::specs::Reading::read_at))]
 pub fn read(alloc: Global, laid: &Laid, bytes: &[u8]) -> Result<Value, Memory>
-    ensures { IfOk result (λ v. v ≡ spec.read_at laid.now 0 bytes.now) }
+    ensures { IfOk result (λ v. v ≡ value_of (seen laid.now 0 bytes.now)) }
 {
+    // what a layout needs is a word
     let _need = laid.need();
     read_at(alloc, laid, 0, bytes)
 }
