@@ -1,12 +1,13 @@
 -- Calls by their depth.
-use Rattle.std.proofs.Common.{◌≡◌, refl, sym, ap, subst, ◌∙◌, ℕ, zero, suc, ◌-◌, ◌<◌, List, Some, None, slice_get, Result, arith}
+use Rattle.std.proofs.Common.{◌≡◌, refl, sym, ap, subst, ◌∙◌, ℕ, zero, suc, ◌-◌, ◌<◌, List, [], Some, None, slice_get, Result, arith}
 use Rattle.gsl_types.specs.declared.ty.Ty.{Ty}
+use Rattle.gsl_types.specs.declared.ty.Ty.TheVariants.{Void}
 use Rattle.gsl_values.specs.declared.value.Value.{Value}
 use Rattle.gsl_tree.specs.declared.unit.Function.{Function}
 use Rattle.gsl_meaning.specs.State.{State}
 use Rattle.gsl_meaning.specs.Running.{Ran, Run, Got, Goes, behind, spending}
 use Rattle.gsl_meaning.specs.Expressions.{Called}
-use Rattle.gsl_meaning.specs.Shader.{calls, function_of, result_type, running, running_found, setting_of}
+use Rattle.gsl_meaning.specs.Shader.{calls, function_of, main_of, result_type, running, running_found, setting_of}
 use Rattle.gsl_perform.specs.declared.stop.Stop.{Stop}
 use Rattle.gsl_perform.specs.declared.stop.Stop.TheVariants as stop
 use Rattle.gsl_perform.specs.declared.world.World.{World}
@@ -59,3 +60,15 @@ module _ (f : Framed) (depth number : ℕ) (args : List Value) where
       subst (Does r after)
       (sym (opens some g found before.store before.units ∙ ap (λ x. behind x (λ u. performs (around f (depth - 1)) g (result_type (slice_get f.program.prototypes number)) args)) is))
       (subst (λ y. Does r after (performs (around f (depth - 1)) g y args spent.store spent.units)) typed does)
+
+-- ---- `main`
+
+pub no_main : (f : Framed) → slice_get f.program.functions f.program.main ≡ None → (state : State) (units : ℕ) → main_of f.program f.input (slice_get f.program.functions f.program.main) state units ≡ Goes
+no_main f none state units = ap (λ g. main_of f.program f.input g state units) none
+
+pub main_performed : (f : Framed) (g : Function) → slice_get f.program.functions f.program.main ≡ Some g → (ty : Ty) → ty ≡ Void → (args : List Value) → args ≡ [] → (before after : World) (r : Result Called Stop)
+    → Does r after (performs (around f 64) g ty args before.store before.units) → Does r after (main_of f.program f.input (slice_get f.program.functions f.program.main) before.store before.units)
+unfolding performs around
+main_performed f g found ty bare args none before after r does =
+    subst (λ o. Does r after (main_of f.program f.input o before.store before.units)) (sym found)
+    (subst (λ vs. Does r after (performs (around f 64) g Void vs before.store before.units)) none (subst (λ t. Does r after (performs (around f 64) g t args before.store before.units)) bare does))

@@ -8,9 +8,9 @@ ghost use Rattle.gsl_perform.specs.Framed.{around};
 ghost use Rattle.gsl_flow.specs.Flows.{flow_of};
 ghost use Rattle.gsl_perform_main.specs.Calling as words;
 
-use crate::finding::{function_of, result_type};
+use crate::finding::{function_of, main_of, result_type};
 use crate::zeros::zeros;
-use gsl_base::Memory;
+use gsl_base::{List, Memory};
 use gsl_flow::{Body, Left, spend};
 use gsl_perform::{Around, Called, Frame, Stop, World};
 use gsl_tree::Function;
@@ -60,7 +60,24 @@ fn performs<F: Fn(Global, &Frame<'_>, usize, u32, Values, &mut World) -> Result<
     Ok(Called { value, params })
 }
 
+/// The body of a function, where calls nest at most so deep.
+#[cycle(call)]
+fn performs_at(
+    alloc: Global,
+    frame: &Frame<'_>,
+    depth: usize,
+    f: &Function,
+    ty: &Ty,
+    args: Values,
+    w: &mut World,
+) -> Result<Called, Stop>
+    ensures { Does result w.new (words.performs (around frame.now depth) f.now ty.now args w.old.store w.old.units) }
+{
+    performs(alloc, frame, depth, call, f, ty, args, w)
+}
+
 /// A call of a function, where calls nest at most so deep: each uses a unit.
+#[cycle(call)]
 pub fn call(
     alloc: Global,
     frame: &Frame<'_>,
@@ -81,7 +98,22 @@ pub fn call(
         None => Err(Stop::Goes),
         Some(f) => {
             spend(w)?;
-            performs(alloc, frame, depth - 1, call, f, ty, args, w)
+            performs_at(alloc, frame, depth - 1, f, ty, args, w)
         }
+    }
+}
+
+/// How deep calls nest at most.
+const MOST_CALLS: usize = 64;
+
+/// The function that is `main`, from the world as it begins.
+pub fn run(alloc: Global, frame: &Frame<'_>, w: &mut World) -> Result<Called, Stop>
+    ensures { Does result w.new (spec.main_of frame.now.program frame.now.input (slice_get frame.now.program.functions frame.now.program.main) w.old.store w.old.units) }
+{
+    let none = Ty::Void;
+    let program = frame.program();
+    match main_of(program) {
+        None => Err(Stop::Goes),
+        Some(f) => performs_at(alloc, frame, MOST_CALLS, f, &none, List::new(alloc), w),
     }
 }

@@ -3,7 +3,7 @@
 ghost use Rattle.std.specs.Prelude.{◌≡◌, ◌==◌, MatchOption, None, Some, slice_get};
 ghost use Rattle.gsl_meaning.specs.Shader as spec;
 
-use gsl_tree::{Function, Functions, Prototypes};
+use gsl_tree::{Function, Functions, Program, Prototypes};
 use gsl_types::Ty;
 
 /// Whether a function has a head.
@@ -35,4 +35,15 @@ pub(crate) fn result_type<'a>(heads: &'a Prototypes, none: &'a Ty, number: u32) 
         return none;
     }
     &heads[number as usize].result
+}
+
+/// The function that is `main`, if there is one of its number.
+pub(crate) fn main_of<'a>(program: &'a Program) -> Option<&'a Function>
+    ensures { MatchOption result (slice_get program.now.functions program.now.main ≡ None) (λ f. slice_get program.now.functions program.now.main ≡ Some f.now) }
+{
+    let number = program.main as usize;
+    if number >= program.functions.len() {
+        return None;
+    }
+    Some(&program.functions[number])
 }

@@ -1,0 +1,4 @@
+pub mod Seeing
+pub mod Puts
+pub mod Formed
+pub mod Buffered
