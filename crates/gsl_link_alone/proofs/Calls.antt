@@ -35,7 +35,8 @@ module _ (n : Numbering) where
   join : (a b x y : List Call) → x ≡ news a → y ≡ news b → x ++ y ≡ news (a ++ b)
   join a b x y first second = ap (λ l. l ++ y) first ∙ ap (λ l. news a ++ l) second ∙ sym (map-append (renumbered_call n.heads) a b)
 
-  flat_new : {A : Type 0} (calls : A → List Call) (new : A → A) (xs : List A) → AllByRecursion (λ x. calls (new x) ≡ news (calls x)) xs → flat_map calls (map new xs) ≡ news (flat_map calls xs)
+  -- one after the other
+  pub flat_new : {A : Type 0} (calls : A → List Call) (new : A → A) (xs : List A) → AllByRecursion (λ x. calls (new x) ≡ map (renumbered_call n.heads) (calls x)) xs → flat_map calls (map new xs) ≡ map (renumbered_call n.heads) (flat_map calls xs)
   flat_new calls new [] all = refl
   flat_new calls new (x ∷ xs) all = join (calls x) (flat_map calls xs) (calls (new x)) (flat_map calls (map new xs)) all.0 (flat_new calls new xs all.1)
 

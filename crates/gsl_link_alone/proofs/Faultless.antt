@@ -17,7 +17,7 @@ use Rattle.gsl_link_whole.specs.Numbers.{declared_blocks}
 use Rattle.gsl_link_whole.specs.Whole.{all_sizes, whole}
 use Rattle.gsl_link_calls.specs.declared.call.Call.{Call}
 use Rattle.gsl_link_calls.specs.Calls.{all_calls}
-use Rattle.gsl_link.specs.Joined.{IsLinked, Row, as_unit, fault_of, first_fault, joined, rows, sizes_of}
+use Rattle.gsl_link.specs.Joined.{IsLinked, Row, as_unit, fault_of, first_fault, joined, rows, sizes_of, unless_faulty}
 use Rattle.gsl_link.specs.Rows.{disagreement, is_undefined, large_function, large_globals, no_main, or_then, recursion, same_binding, same_location, second_definition, size_disagreement, too_deep, too_heavy, too_many_leaves, undefined_call, used_twice}
 use Rattle.gsl_link.specs.Units.{AreUnits}
 use Rattle.gsl_link.proofs.OneUnit.{joined_is, one_agrees}
@@ -51,19 +51,19 @@ neither : (first second : Option Place) → or_then first second ≡ None → (f
 neither None second none = (refl, none)
 neither (Some place) second none = cc
 
--- the rows of a program that the units show
-pub record AreAgreed (stage : Stage) (units : List TypedUnit) (p : Program) : Type 0 where
-  pub agreed : disagreement p.structs (sides_of units) ≡ None
-  pub second : second_definition p ≡ None
-  pub main : no_main p ≡ None
-  pub calls : undefined_call p (sides_of units) ≡ None
-  pub recursion : recursion p ≡ None
-  pub once : used_twice p (sides_of units) ≡ None
-  pub leaves : too_many_leaves p (sides_of units) ≡ None
-  pub deep : too_deep p ≡ None
-  pub heavy : too_heavy p ≡ None
+-- no row applies to a program, by its units
+record HasNoRow (stage : Stage) (units : List TypedUnit) (p : Program) : Type 0 where
+  agreed : disagreement p.structs (sides_of units) ≡ None
+  second : second_definition p ≡ None
+  main : no_main p ≡ None
+  calls : undefined_call p (sides_of units) ≡ None
+  recursion : recursion p ≡ None
+  once : used_twice p (sides_of units) ≡ None
+  leaves : too_many_leaves p (sides_of units) ≡ None
+  deep : too_deep p ≡ None
+  heavy : too_heavy p ≡ None
 
-all_none : (stage : Stage) (units : List TypedUnit) → fault_of stage units ≡ None → AreAgreed stage units (whole stage units)
+all_none : (stage : Stage) (units : List TypedUnit) → fault_of stage units ≡ None → HasNoRow stage units (whole stage units)
 all_none stage units none =
     let all = no_rows (rows (all_sizes units) (sides_of units) (whole stage units)) none in
     record {
@@ -93,7 +93,7 @@ module _ (stage : Stage) (units : List TypedUnit) (are : AreUnits stage units) (
   once : StandsOnce p
   once = joined_once stage units
 
-  facts : AreAgreed stage units p
+  facts : HasNoRow stage units p
   facts = all_none stage units none
 
   abbrev alone : Side
@@ -139,8 +139,18 @@ module _ (stage : Stage) (units : List TypedUnit) (are : AreUnits stage units) (
   whole_linked : IsLinked p
   whole_linked = record { typed = is; faultless = faultless_alone }
 
+  whole_again : joined stage (as_unit p ∷ []) ≡ Ok p
+  unfolding joined
+  whole_again = ap (unless_faulty (whole stage (as_unit p ∷ []))) faultless_alone ∙ ap Ok (whole_alone p is once)
+
 -- what was joined is linked
 pub joined_linked : (stage : Stage) (units : List TypedUnit) (p : Program) → AreUnits stage units → joined stage units ≡ Ok p → IsLinked p
 joined_linked stage units p are is =
     let whole_of = joined_is stage units p is in
     subst IsLinked (sym whole_of.is) (whole_linked stage units are whole_of.faultless)
+
+-- and joined again it is itself
+pub joined_again : (stage : Stage) (units : List TypedUnit) (p : Program) → AreUnits stage units → joined stage units ≡ Ok p → joined p.stage (as_unit p ∷ []) ≡ Ok p
+joined_again stage units p are is =
+    let whole_of = joined_is stage units p is in
+    subst (λ (q : Program). joined q.stage (as_unit q ∷ []) ≡ Ok q) (sym whole_of.is) (whole_again stage units are whole_of.faultless)

@@ -1,8 +1,9 @@
 -- The leaves of global variables, counted at the declarations that stand for them, are no more than those counted at the first ones.
-use Rattle.std.proofs.Common.{◌≡◌, refl, sym, ap, ◌∙◌, subst, ℕ, ◌+◌, ◌<◌, ◌≤◌, ◌⊎◌, inl, inr, Bool, true, false, cond, not, List, [], ◌∷◌, ◌++◌, append-nil, Some, None, arith}
+use Rattle.std.proofs.Common.{◌≡◌, refl, sym, ap, ◌∙◌, subst, ℕ, ◌+◌, ◌<◌, ◌≤◌, ◌⊎◌, inl, inr, Bool, true, false, cond, not, List, [], ◌∷◌, ◌++◌, append-nil, Option, Some, None, arith}
 use Rattle.std.specs.Prelude.{filter, nat_lt, if◌then◌else◌}
 use Rattle.std.specs.List.{list_any}
 use Rattle.std.proofs.lemmas.Bool.{cases_lt, lt-ltb, ltb-true, true≢false}
+use Rattle.gsl_base.specs.declared.fault.Place.{Place}
 use Rattle.gsl_types.specs.Leaves.{told_leaves}
 use Rattle.gsl_types.specs.declared.ty.StructType.{StructType}
 use Rattle.gsl_tree.specs.declared.unit.GlobalVar.{GlobalVar}
@@ -18,6 +19,17 @@ total w (x ∷ xs) = w x + total w xs
 
 -- ---- the row
 
+not_passed : (b : Bool) (place : Place) (later : Option Place) → (if b then Some place else later) ≡ None → (b ≡ false) × (later ≡ None)
+not_passed true place later none = cc
+not_passed false place later none = (refl, none)
+
+at_most : (most n : ℕ) → nat_lt most n ≡ false → n ≤ most
+at_most most n is = by_case (cases_lt most n)
+  where
+    by_case : (most < n) ⊎ (n ≤ most) → n ≤ most
+    by_case (inl over) = let never : ⊥ = true≢false (sym (lt-ltb most n over) ∙ is) in elim never [ ]
+    by_case (inr within) = within
+
 module _ (structs : List StructType) where
   abbrev pub leaves : GlobalVar → ℕ
   leaves g = told_leaves structs g.ty
@@ -27,26 +39,11 @@ module _ (structs : List StructType) where
 
   pub within_most : (before : ℕ) (globals : List Sited) → passes_behind structs before globals ≡ None → before ≤ most_leaves → before + total site_leaves globals ≤ most_leaves
   within_most before [] none below = omega (arith, below)
-  within_most before (a ∷ globals) none below = by_case (cases_lt most_leaves (before + told_leaves structs a.global.ty)) (within_most (before + told_leaves structs a.global.ty) globals)
-    where
-      here : ℕ
-      here = before + told_leaves structs a.global.ty
-
-      next : (b : Bool) → nat_lt most_leaves (before + told_leaves structs a.global.ty) ≡ b → (if b then Some a.global.place else passes_behind structs (before + told_leaves structs a.global.ty) globals) ≡ None → passes_behind structs (before + told_leaves structs a.global.ty) globals ≡ None
-      next true is e = cc
-      next false is e = e
-
-      by_case : (most_leaves < before + told_leaves structs a.global.ty) ⊎ (before + told_leaves structs a.global.ty ≤ most_leaves)
-          → (passes_behind structs (before + told_leaves structs a.global.ty) globals ≡ None → before + told_leaves structs a.global.ty ≤ most_leaves → (before + told_leaves structs a.global.ty) + total site_leaves globals ≤ most_leaves)
-          → before + (told_leaves structs a.global.ty + total site_leaves globals) ≤ most_leaves
-      by_case (inl over) later = let never : ⊥ = passed (nat_lt most_leaves (before + told_leaves structs a.global.ty)) (lt-ltb most_leaves (before + told_leaves structs a.global.ty) over) none in elim never [ ]
-        where
-          passed : (b : Bool) → b ≡ true → (if b then Some a.global.place else passes_behind structs (before + told_leaves structs a.global.ty) globals) ≡ None → ⊥
-          passed true is e = cc
-          passed false is e = true≢false (sym is)
-      by_case (inr within) later =
-          let bound = later (next (nat_lt most_leaves (before + told_leaves structs a.global.ty)) refl none) within in
-          omega (arith, bound)
+  within_most before (a ∷ globals) none below =
+      let behind = before + told_leaves structs a.global.ty in
+      let is = not_passed (nat_lt most_leaves behind) a.global.place (passes_behind structs behind globals) none in
+      let bound = within_most behind globals is.1 (at_most most_leaves behind is.0) in
+      omega (arith, bound)
 
   pub none_passes : (before : ℕ) (globals : List Sited) → before + total site_leaves globals ≤ most_leaves → passes_behind structs before globals ≡ None
   none_passes before [] bound = refl

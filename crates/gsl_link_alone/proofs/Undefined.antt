@@ -21,7 +21,7 @@ use Rattle.gsl_link_calls.specs.declared.call.Call.{Call}
 use Rattle.gsl_link_calls.specs.Calls.{all_calls, function_calls, global_calls, renumbered_call, renumbered_calls, unit_calls}
 use Rattle.gsl_link_law.proofs.Joining.{in_flat, mapped_from}
 use Rattle.gsl_link_law.proofs.Linked.{side_is}
-use Rattle.gsl_link_law.proofs.Members.{In, all_in, get_at, in_behind, in_filter, in_front, in_get, in_map, in_parts, map_in}
+use Rattle.gsl_link_law.proofs.Members.{In, all_from, all_in, get_at, in_behind, in_filter, in_front, in_get, in_map, in_parts, map_in}
 use Rattle.gsl_link_law.proofs.Sites.{all_sited, two_left}
 use Rattle.gsl_link_law.proofs.Variables.{IsNew, globals_stand}
 use Rattle.gsl_link_alone.specs.Alone.{StandsOnce}
@@ -81,20 +81,17 @@ module _ (p : Program) (is : IsProgram p) (once : StandsOnce p) where
   abbrev call : Call → Call
   call = renumbered_call n.heads
 
-  flat_same : {A : Type 0} (part : A → List Call) (new : A → A) (xs : List A) → ((x : A) → In x xs → part (new x) ≡ map call (part x)) → flat_map part (map new xs) ≡ map call (flat_map part xs)
-  flat_same part new [] each = refl
-  flat_same part new (x ∷ xs) each =
-      ap (λ l. l ++ flat_map part (map new xs)) (each x (inl refl)) ∙ ap (λ l. map call (part x) ++ l) (flat_same part new xs (λ y at. each y (inr at))) ∙ sym (map-append call (part x) (flat_map part xs))
-
   functions_calls : map call (flat_map function_calls p.functions) ≡ flat_map function_calls p.functions
   functions_calls =
-      sym (flat_same function_calls (renumbered_function n) p.functions (λ f at. function_new (program_lists p) n f (all_in (IsFunction (program_lists p)) p.functions is.typed.functions f at)))
-      ∙ ap (flat_map function_calls) (functions_own p is once)
+      let new = renumbered_function n in
+      let each = λ (f : Function) (at : In f p.functions). function_new (program_lists p) n f (all_in (IsFunction (program_lists p)) p.functions is.typed.functions f at) in
+      sym (calls.flat_new n function_calls new p.functions (all_from (λ (f : Function). function_calls (new f) ≡ map call (function_calls f)) p.functions each)) ∙ ap (flat_map function_calls) (functions_own p is once)
 
   globals_calls : map call (flat_map global_calls p.globals) ≡ flat_map global_calls p.globals
   globals_calls =
-      sym (flat_same global_calls (renumbered_global n) p.globals (λ g at. let place = get_at g p.globals at in global_new (program_lists p) n place.0 g (is.typed.globals place.0 g place.1).init))
-      ∙ ap (flat_map global_calls) (globals_own p is once)
+      let new = renumbered_global n in
+      let each = λ (g : GlobalVar) (at : In g p.globals). let place = get_at g p.globals at in global_new (program_lists p) n place.0 g (is.typed.globals place.0 g place.1).init in
+      sym (calls.flat_new n global_calls new p.globals (all_from (λ (g : GlobalVar). global_calls (new g) ≡ map call (global_calls g)) p.globals each)) ∙ ap (flat_map global_calls) (globals_own p is once)
 
   -- the calls of the program as one unit are its own
   pub calls_alone : all_calls (side p is once ∷ []) ≡ program_calls p

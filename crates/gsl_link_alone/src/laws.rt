@@ -18,9 +18,10 @@ ghost use Rattle.gsl_link.specs.Joined.{as_unit, IsLinked, joined};
 ghost use Rattle.gsl_link.specs.Units.{AreUnits};
 ghost use Rattle.gsl_link_alone.specs.Alone.{InRow, IsIdentity, StandsOnce};
 
-/// What units that were checked make together, where they have no fault of linking, has none as one unit.
+/// What units that were checked make together, where they have no fault of linking, has none as one unit, and is what that unit makes.
 pub fn joined_programs_are_linked()
-    ensures { (stage : Stage) (units : List TypedUnit) (p : Program) → AreUnits stage units → joined stage units ≡ Ok p → IsLinked p }
+    ensures linked { (stage : Stage) (units : List TypedUnit) (p : Program) → AreUnits stage units → joined stage units ≡ Ok p → IsLinked p }
+    ensures again { (stage : Stage) (units : List TypedUnit) (p : Program) → AreUnits stage units → joined stage units ≡ Ok p → joined p.stage (as_unit p ∷ []) ≡ Ok p }
 {}
 
 /// In what units make together each struct, shared variable, block, input and output, and head of a function stands once.
