@@ -1,9 +1,8 @@
 -- What a well typed block has of what its layout asks.
-use Rattle.std.proofs.Common.{◌≡◌, refl, sym, ap, subst, ◌∙◌, ℕ, zero, suc, ◌+◌, ◌<◌, ◌≤◌, ◌^◌, List, [], ◌∷◌, length, slice_get, Option, Some, None, IsTrue, arith}
+use Rattle.std.proofs.Common.{◌≡◌, refl, sym, ap, subst, ◌∙◌, suc, ◌<◌, List, [], ◌∷◌, length, IsTrue, arith}
 use Rattle.std.specs.Prelude.{Bool, true, false, ◌&&◌}
 use Rattle.std.specs.List.{AllByRecursion}
 use Rattle.std.proofs.lemmas.Bool.{and_parts, true≢false}
-use Rattle.std.proofs.lemmas.Option.{none-some}
 use Rattle.gsl_types.specs.Known.{IsSound}
 use Rattle.gsl_types.specs.declared.ty.Member.{Member}
 use Rattle.gsl_types.specs.declared.ty.StructType.{StructType}
@@ -11,13 +10,12 @@ use Rattle.gsl_types.specs.declared.ty.Ty.{Ty}
 use Rattle.gsl_types.specs.declared.ty.Ty.TheOpen.{Ty-F}
 use Rattle.gsl_types.specs.declared.ty.Ty.TheViews.{roll-Ty, out-Ty, roll-out-Ty}
 use Rattle.gsl_types.specs.declared.ty.Ty.TheFolds.{fold-roll-Ty, ind-Ty, map-Ty}
-use Rattle.gsl_layout.specs.Extents.{AreMembers, ArePlain, last_open, may_be_last, plain, plain_kind}
+use Rattle.gsl_layout.specs.Extents.{AreMembers, last_open, may_be_last, plain, plain_kind}
 use Rattle.gsl_tree.specs.declared.unit.BlockKind.{BlockKind}
-use Rattle.gsl_tree.specs.declared.unit.Block.{Block}
 use Rattle.gsl_tree.specs.declared.unit.BlockMember.{BlockMember}
 use Rattle.gsl_tree.specs.Around.{is_buffer}
 use Rattle.gsl_tree.specs.Laying.{members_of}
-use Rattle.gsl_tree.specs.WellTyped.{is_plain, is_plain_kind, is_member_kind, is_member_type, IsBlock, IsBlockMember, AreBlockMembers, IsStructDeclared, IsVariableType}
+use Rattle.gsl_tree.specs.WellTyped.{is_plain, is_plain_kind, is_member_kind, is_member_type, AreBlockMembers}
 
 -- ---- what is plain
 

@@ -1,5 +1,5 @@
 -- The words of blocks put into buffers, in words of which each is one call of the code.
-use Rattle.std.specs.Prelude.{ℕ, Bool, not, ◌==◌, ◌&&◌, if◌then◌else◌, List, [], ◌∷◌}
+use Rattle.std.specs.Prelude.{ℕ, Bool, not, ◌==◌, ◌&&◌, if◌then◌else◌, List, ◌∷◌}
 use Rattle.gsl_base.specs.declared.input.Buffer.{Buffer}
 use Rattle.gsl_types.specs.declared.ty.StructType.{StructType}
 use Rattle.gsl_values.specs.declared.value.Value.{Value}

@@ -1,5 +1,5 @@
 -- Records of what a shader begins with and leaves, field by field.
-use Rattle.std.proofs.Common.{◌≡◌, refl, ap, ◌∙◌, ℕ, List, [], map, length}
+use Rattle.std.proofs.Common.{◌≡◌, ap, ◌∙◌, ℕ, List, [], map, length}
 use Rattle.std.specs.Prelude.{Bool, if◌then◌else◌}
 use Rattle.gsl_base.specs.declared.input.Buffer.{Buffer}
 use Rattle.gsl_base.specs.declared.input.Input.{Input}

@@ -1,4 +1,4 @@
-use Rattle.std.proofs.Common.{◌∙◌, sym, ap, subst, length, arith, ◌≡◌, ◌+◌, ◌^◌}
+use Rattle.std.proofs.Common.{◌∙◌, sym, ap, subst, length, arith, ◌≡◌, ◌^◌}
 use Rattle.std.specs.Prelude.{IfOk}
 use Rattle.gsl_values.specs.declared.value.Value.{Value}
 use Rattle.gsl_values.specs.declared.value.Value.TheVariants.{Many}
