@@ -29,6 +29,7 @@ use Rattle.gsl_link_whole.specs.Numbers.{same_block, same_interface, same_shared
 use Rattle.gsl_link.specs.Joined.{IsLinked, joined}
 use Rattle.gsl_link.specs.Units.{AreUnits, IsNamedOnce, is_other_head, most_units}
 use Rattle.gsl_link_law.specs.Placed.{AllPlaced, IsPlaced}
+use Rattle.gsl_link_law.proofs.Agreed.{names_swap}
 use Rattle.gsl_link_law.proofs.Same.{type_is, type_itself}
 use Rattle.gsl_link_law.proofs.Structs.{all_placed}
 use Rattle.gsl_link_law.proofs.Typed.{known_units}
@@ -37,7 +38,7 @@ use Rattle.gsl_link_alone.proofs.Unlike.{Unlike, again_unlike, falls}
 use Rattle.gsl_link_checked.specs.Answers.{AreAnswers, DeclaresOnce}
 use Rattle.gsl_link_checked.proofs.Named.{AreParams, Names, same_head}
 use Rattle.gsl_link_checked.proofs.Over.{retyped_one}
-use Rattle.gsl_link_checked.proofs.Standing.{names_itself, one_struct, same_names, stands, struct_there}
+use Rattle.gsl_link_checked.proofs.Standing.{one_struct, stands, struct_there}
 use Rattle.gsl_link_checked.proofs.Unlikes.{all_any, unlike_each, unlike_other, unlike_passing}
 use Rattle.gsl_link_checked.proofs.Wholes.{UnitNamed, checked_named}
 
@@ -55,7 +56,7 @@ types_same (x ∷ a) (y ∷ b) is =
 function_apart : (a b : Prototype) → same_head a b ≡ false → same_function a b ≡ false
 function_apart a b apart = falls (same_function a b) (λ is.
     let parts = and_parts (bytes_eq a.name b.name) (same_params a.params b.params) is in
-    let names : bytes_eq b.name a.name ≡ true = subst (λ (name : List ℕ). bytes_eq name a.name ≡ true) (same_names a.name b.name parts.0) (names_itself a.name) in
+    let names = names_swap a.name b.name parts.0 in
     true≢false (sym (and_from (bytes_eq b.name a.name) (same_types b.params a.params) names (types_same a.params b.params parts.1)) ∙ apart))
 
 functions_apart : (heads : List Prototype) → Unlike same_head heads → Unlike same_function heads

@@ -1,5 +1,5 @@
 -- What is declared so far in a unit has names of its own.
-use Rattle.std.proofs.Common.{◌≡◌, refl, sym, ap, ◌∙◌, ℕ, ◌+◌, Bool, true, false, not, ◌&&◌, List, [], ◌∷◌, ◌++◌, length, slice_get, Option, Some, None, is_some}
+use Rattle.std.proofs.Common.{◌≡◌, refl, sym, ap, ◌∙◌, ℕ, ◌+◌, Bool, true, false, not, ◌&&◌, List, [], ◌∷◌, ◌++◌, length, Option, Some, None, is_some}
 use Rattle.std.specs.List.{AllByRecursion}
 use Rattle.std.specs.Str.{bytes_eq}
 use Rattle.std.proofs.lemmas.Bool.{and_parts, true≢false}
@@ -23,13 +23,15 @@ use Rattle.gsl_check_decl.specs.Structs.{struct_of, with_struct}
 use Rattle.gsl_check_decl.specs.Globals.{inner_names, members_named, with_block, with_global, with_head, with_interface}
 use Rattle.gsl_check_heads.specs.Builtins.{built_in}
 use Rattle.gsl_check_heads.specs.Heads.{is_of}
+use Rattle.gsl_check_law.proofs.Declarators.{found_last}
 use Rattle.gsl_check_law.proofs.Found.{all_append, all_map}
 use Rattle.gsl_check_law.proofs.Longer.{Front, front_append}
 use Rattle.gsl_link_whole.specs.Numbers.{same_block, same_interface, same_shared}
+use Rattle.gsl_link_law.proofs.Agreed.{names_same}
 use Rattle.gsl_link_law.proofs.Members.{In, all_in}
 use Rattle.gsl_link_alone.proofs.Unlike.{Unlike, falls}
 use Rattle.gsl_link_checked.proofs.Unlikes.{unlike_more}
-use Rattle.gsl_link_checked.proofs.Standing.{AreRows, IsPlain, has, has_more, has_new, rows_grow, rows_more, rows_struct, same_names, stands, stands_more}
+use Rattle.gsl_link_checked.proofs.Standing.{AreRows, IsPlain, has, has_more, has_new, rows_grow, rows_more, rows_struct, stands, stands_more}
 use Rattle.gsl_link_checked.proofs.Over.{IsOver, over_more}
 
 -- ---- the lists of a unit and its outermost scope
@@ -97,7 +99,7 @@ module _ (structs : List StructType) (scope : Scope) (globals : List GlobalVar) 
 
   -- two names of which the scope has one alone
   differ : (a b : List ℕ) → has scope a ≡ false → has scope b ≡ true → bytes_eq a b ≡ false
-  differ a b new there = falls (bytes_eq a b) (λ same. true≢false (sym there ∙ ap (has scope) (sym (same_names a b same)) ∙ new))
+  differ a b new there = falls (bytes_eq a b) (λ same. true≢false (sym there ∙ ap (has scope) (sym (names_same a b same)) ∙ new))
 
   -- ---- one more
 
@@ -108,11 +110,7 @@ module _ (structs : List StructType) (scope : Scope) (globals : List GlobalVar) 
       let more = structs ++ s ∷ [] in
       let row : Declared = (name, entry.Struct (length structs)) in
       names_kept more (row ∷ scope) (keeps_row scope row)
-      (rows_struct more scope (rows_grow structs scope is.rows more (front_append structs (s ∷ []))) s (length structs) (last structs s) new)
-    where
-      last : (xs : List StructType) (x : StructType) → slice_get (xs ++ x ∷ []) (length xs) ≡ Some x
-      last [] x = refl
-      last (y ∷ xs) x = last xs x
+      (rows_struct more scope (rows_grow structs scope is.rows more (front_append structs (s ∷ []))) s (length structs) (found_last structs s) new)
 
   pub names_global : (g : GlobalVar) (n : ℕ) → has scope g.name ≡ false → Names structs ((g.name, entry.Global n) ∷ scope) (globals ++ g ∷ []) blocks interfaces heads
   names_global g n new =

@@ -2,13 +2,13 @@
 use Rattle.std.proofs.Common.{◌≡◌, refl, sym, ap, ◌∙◌, subst, ℕ, inl, inr, Bool, true, false, ◌||◌, nat_eq, List, [], ◌∷◌, slice_get, Some, is_some, if◌then◌else◌}
 use Rattle.std.specs.List.{list_any}
 use Rattle.std.specs.Str.{bytes_eq}
-use Rattle.std.proofs.lemmas.Bool.{true≢false, eq-eqb, eqb-true}
-use Rattle.std.proofs.lemmas.Slice.Eq.{bytes_eq-Decides}
+use Rattle.std.proofs.lemmas.Bool.{true≢false, eqb-true}
 use Rattle.gsl_types.specs.declared.ty.StructType.{StructType}
 use Rattle.gsl_names.specs.declared.entry.Entry.{Entry}
 use Rattle.gsl_names.specs.declared.entry.Entry.TheVariants as entry
 use Rattle.gsl_names.specs.Scopes.{Declared, Scope, all_in, first_of}
-use Rattle.gsl_link_law.proofs.Members.{In, any_from, any_in}
+use Rattle.gsl_link_law.proofs.Agreed.{name_itself}
+use Rattle.gsl_link_law.proofs.Members.{In, any_from}
 
 -- ---- names
 
@@ -16,15 +16,9 @@ use Rattle.gsl_link_law.proofs.Members.{In, any_from, any_in}
 abbrev pub has : Scope → List ℕ → Bool
 has scope name = is_some (first_of (all_in scope name))
 
-pub same_names : (a b : List ℕ) → bytes_eq a b ≡ true → a ≡ b
-same_names a b is = (bytes_eq-Decides a b).0 is
-
-pub names_itself : (a : List ℕ) → bytes_eq a a ≡ true
-names_itself a = (bytes_eq-Decides a a).1 refl
-
 -- a name that is declared is there
 pub has_new : (scope : Scope) (name : List ℕ) (e : Entry) → has ((name, e) ∷ scope) name ≡ true
-has_new scope name e = ap (λ b. is_some (first_of (if b then e ∷ all_in scope name else all_in scope name))) (names_itself name)
+has_new scope name e = ap (λ b. is_some (first_of (if b then e ∷ all_in scope name else all_in scope name))) (name_itself name name refl)
 
 -- and all others stay
 pub has_more : (scope : Scope) (row : Declared) (name : List ℕ) → has scope name ≡ true → has (row ∷ scope) name ≡ true
@@ -61,7 +55,7 @@ is_struct n entry.Size = false
 abbrev pub stands : Scope → ℕ → Bool
 stands scope n = list_any (λ (row : Declared). is_struct n row.1) scope
 
--- Rows of structs have the names of their structs, and no two rows have one name.
+-- Rows of structs have the names of their structs, and those of one name are of one struct.
 pub record AreRows (structs : List StructType) (scope : Scope) : Type 0 where
   pub named : (row : Declared) (n : ℕ) → In row scope → is_struct n row.1 ≡ true → (s : StructType) × (slice_get structs n ≡ Some s) × (s.name ≡ row.0)
   pub once : (row other : Declared) (n m : ℕ) → In row scope → In other scope → is_struct n row.1 ≡ true → is_struct m other.1 ≡ true → row.0 ≡ other.0 → n ≡ m
@@ -150,7 +144,3 @@ stands_more scope row n is = by_test (is_struct n row.1)
     by_test : (b : Bool) → (b || stands scope n) ≡ true
     by_test true = refl
     by_test false = is
-
--- the struct of a row stands
-pub stands_row : (scope : Scope) (name : List ℕ) (n : ℕ) → In (name, entry.Struct n) scope → stands scope n ≡ true
-stands_row scope name n at = any_in (λ (row : Declared). is_struct n row.1) scope (name, entry.Struct n) at (eq-eqb n n refl)

@@ -16,7 +16,7 @@ AreAnswers stage [] [] = Unit {0}
 AreAnswers stage (tree ∷ trees) (unit ∷ units) = IsParsed tree × (checked stage tree ≡ Ok unit) × AreAnswers stage trees units
 AreAnswers stage _ _ = ⊥
 
--- Each variable that is shared, block, input and output of a unit has a name of its own, and each function has one head.
+-- No two variables that are shared, no two blocks, and no two inputs and outputs of a unit have one name, and each function has one head.
 pub record DeclaresOnce (unit : TypedUnit) : Type 0 where
   pub variables : again same_shared (filter is_shared unit.globals) ≡ []
   pub blocks : again same_block unit.blocks ≡ []

@@ -11,7 +11,8 @@ ghost use Rattle.gsl_link.specs.Joined.{IsLinked, joined};
 ghost use Rattle.gsl_link.specs.Units.{AreUnits, most_units};
 ghost use Rattle.gsl_link_checked.specs.Answers.{AreAnswers, DeclaresOnce};
 
-/// In a unit that the checker answers each shared variable, block, input and output has a name of its own, and each function has one head.
+/// In a unit that the checker answers no two variables that are shared, no two blocks, and no two inputs and outputs have one name, and each
+/// function has one head.
 pub fn names_are_declared_once()
     ensures { (stage : Stage) (tree : List Global) (unit : TypedUnit) → IsParsed tree → checked stage tree ≡ Ok unit → DeclaresOnce unit }
 {}
