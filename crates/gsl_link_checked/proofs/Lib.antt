@@ -1,0 +1,9 @@
+pub mod Unlikes
+pub mod Standing
+pub mod Over
+pub mod Named
+pub mod Writing
+pub mod Heading
+pub mod Topmost
+pub mod Wholes
+pub mod Joined
