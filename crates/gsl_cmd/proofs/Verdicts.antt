@@ -1,23 +1,28 @@
 -- What the rules say of sources.
 use Rattle.std.proofs.Common.{◌≡◌, ℕ, zero, suc, ◌+◌, ◌<◌, ◌≤◌, List, [], ◌∷◌, ◌++◌, drop, get_or, length, Option, Some, None, Ok, Err, refl, ap, sym, subst, ◌∙◌, arith, append_assoc, inl, inr}
-use Rattle.std.specs.Prelude.{slice_get}
+use Rattle.std.specs.Prelude.{IfOk, Result, slice_get}
 use Rattle.std.specs.List.{AllByRecursion}
 use Rattle.std.proofs.lemmas.Bool.{cases_lt, lt-ltb, le-ltb, cond-true, cond-false}
-use Rattle.gsl_base.specs.Checked.{Checked, ◌>>=◌}
+use Rattle.gsl_base.specs.Checked.{Checked, Gives, ◌>>=◌}
 use Rattle.gsl_base.specs.declared.stage.Stage.{Stage}
 use Rattle.gsl_base.specs.declared.fault.Code.TheVariants.{E0900}
 use Rattle.gsl_base.specs.declared.fault.Fault.{Fault}
+use Rattle.gsl_base.specs.declared.fault.Refusal.{Refusal}
 use Rattle.gsl_check.specs.Units.{checked}
 use Rattle.gsl_check_law.proofs.Wholes.{checked_is}
-use Rattle.gsl_link.specs.Joined.{joined}
+use Rattle.gsl_formed.specs.Formed.{IsParsed}
+use Rattle.gsl_link.specs.Joined.{IsLinked, joined}
 use Rattle.gsl_link.specs.Units.{AreKnown}
+use Rattle.gsl_link_checked.proofs.Joined.{answers_linked}
+use Rattle.gsl_link_checked.specs.Answers.{AreAnswers}
 use Rattle.gsl_link_law.proofs.Asked.{units_known}
 use Rattle.gsl_link_units.specs.Declarations.{sides_of}
 use Rattle.gsl_link_units.specs.Structs.{joined_structs}
 use Rattle.gsl_parse_law.proofs.Parsed.{source_parsed}
+use Rattle.gsl_tree.specs.declared.program.Program.{Program as Linked}
 use Rattle.gsl_tree.specs.declared.unit.TypedUnit.{TypedUnit}
 use Rattle.gsl_tree.specs.WellTyped.{IsUnit}
-use Rattle.gsl_cmd.specs.declared.compiling.TheConstants.{MAX_SOURCE_BYTES}
+use Rattle.gsl_cmd.specs.declared.compiling.TheConstants.{MAX_SOURCE_BYTES, MAX_SOURCES}
 use Rattle.gsl_cmd.specs.Verdict.{Tree, fault_in, linked_of, sized, too_long_from, tokens_of, tree_of, typed_behind, typed_from, typed_of}
 
 same_some : {A : Type 0} {a b : A} → ◌≡◌ {A = Option A} (Some a) (Some b) → a ≡ b
@@ -104,6 +109,53 @@ module _ (stage : Stage) where
   -- the typed units of sources may be linked
   pub linkable : (sources : List (List ℕ)) (units : List TypedUnit) → typed_from stage 0 sources ≡ Ok units → AreKnown (joined_structs units) (sides_of units)
   linkable sources units is = units_known stage units (all_typed 0 sources units is)
+
+  -- ---- and what the checker answers for trees
+
+  tree_answered : (tree : Checked Tree) (typed : TypedUnit) → ((us : Tree) → tree ≡ Ok us → IsParsed us) → (tree >>= checked stage) ≡ Ok typed → (us : Tree) × IsParsed us × (checked stage us ≡ Ok typed)
+  tree_answered (Ok us) typed each is = (us, each us refl, is)
+  tree_answered (Err fault) typed each is = absurd cc
+
+  source_answered : (unit : ℕ) (source : List ℕ) (typed : TypedUnit) → typed_of stage unit source ≡ Ok typed → (us : Tree) × IsParsed us × (checked stage us ≡ Ok typed)
+  unfolding typed_of tree_of tokens_of
+  source_answered unit source typed is = tree_answered (tree_of unit source) typed (source_parsed unit source) is
+
+  abbrev Answers : List TypedUnit → Type 0
+  Answers units = (trees : List Tree) × AreAnswers stage trees units
+
+  answers_by_first : (first : Checked TypedUnit) (more : Checked (List TypedUnit)) (units : List TypedUnit) → ((typed : TypedUnit) → first ≡ Ok typed → (us : Tree) × IsParsed us × (checked stage us ≡ Ok typed))
+      → ((us : List TypedUnit) → more ≡ Ok us → Answers us) → (first >>= λ typed. more >>= λ us. Ok (typed ∷ us)) ≡ Ok units → Answers units
+  answers_by_first (Ok typed) (Ok us) units one others is =
+      let tree = one typed refl in
+      let trees = others us refl in
+      subst Answers (let same : typed ∷ us ≡ units = cc in same) (tree.0 ∷ trees.0, (tree.1, tree.2, trees.1))
+  answers_by_first (Ok typed) (Err fault) units one others is = absurd cc
+  answers_by_first (Err fault) more units one others is = absurd cc
+
+  all_answered : (unit : ℕ) (sources : List (List ℕ)) (units : List TypedUnit) → typed_from stage unit sources ≡ Ok units → Answers units
+  all_answered unit [] units is = subst Answers (let same : [] ≡ units = cc in same) ([], tt)
+  all_answered unit (source ∷ sources) units is =
+      answers_by_first (typed_of stage unit source) (typed_from stage (unit + 1) sources) units (source_answered unit source) (all_answered (unit + 1) sources) is
+
+  -- as many as sources
+  count_by_first : (first : Checked TypedUnit) (more : Checked (List TypedUnit)) (units : List TypedUnit) (count : ℕ) → ((us : List TypedUnit) → more ≡ Ok us → length us ≡ count)
+      → (first >>= λ typed. more >>= λ us. Ok (typed ∷ us)) ≡ Ok units → length units ≡ count + 1
+  count_by_first (Ok typed) (Ok us) units count others is = let same : units ≡ typed ∷ us = cc in omega (arith, ap length same, others us refl)
+  count_by_first (Ok typed) (Err fault) units count others is = absurd cc
+  count_by_first (Err fault) more units count others is = absurd cc
+
+  all_counted : (unit : ℕ) (sources : List (List ℕ)) (units : List TypedUnit) → typed_from stage unit sources ≡ Ok units → length units ≡ length sources
+  all_counted unit [] units is = ap length (let same : units ≡ [] = cc in same)
+  all_counted unit (source ∷ sources) units is =
+      let counted = count_by_first (typed_of stage unit source) (typed_from stage (unit + 1) sources) units (length sources) (all_counted (unit + 1) sources) is in omega (arith, counted)
+
+  -- What sources make is linked: a program without a fault of linking, as one unit too.
+  pub made_is_linked : (sources : List (List ℕ)) (units : List TypedUnit) (result : Result Linked Refusal) → length sources ≤ MAX_SOURCES → typed_from stage 0 sources ≡ Ok units
+      → Gives result (joined stage units) → IfOk result IsLinked
+  made_is_linked sources units (Ok p) few typed is =
+      let answers = all_answered 0 sources units typed in
+      answers_linked stage answers.0 units p answers.1 (omega (arith, few, all_counted 0 sources units typed)) is
+  made_is_linked sources units (Err why) few typed is = tt
 
   -- ---- the program that they make
 

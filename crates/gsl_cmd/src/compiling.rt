@@ -6,6 +6,7 @@ ghost use Rattle.gsl_words.specs.Bytes.{bytes_of};
 ghost use Rattle.gsl_form.specs.declared.program.Program.{Program};
 ghost use Rattle.gsl_form.specs.Form.{IsProgram};
 ghost use Rattle.gsl_cmd.specs.Lowering.{module_of};
+ghost use Rattle.gsl_link.specs.Joined.{IsLinked};
 ghost use Rattle.gsl_parse.specs.Fed.{unit_fed};
 ghost use Rattle.gsl_pp.specs.Unit.{unit_of as given_out};
 ghost use Rattle.gsl_cmd.specs.Verdict.{Compiles, CompilesLinked, IsOfForm, linked_behind, linked_of, too_long_from, tree_of, typed_from, typed_of, fault_in as first_line};
@@ -47,10 +48,11 @@ pub fn compile(alloc: Global, stage: Stage, sources: &Sources) -> Result<Bytes, 
     }
 }
 
-/// The program that the sources make, or their first fault.
-fn linked(alloc: Global, stage: Stage, sources: &[Bytes]) -> Result<Linked, Refusal>
+/// The program that the sources make, or their first fault. It is well typed, and has no fault of linking as one unit.
+pub fn linked(alloc: Global, stage: Stage, sources: &[Bytes]) -> Result<Linked, Refusal>
     requires { length sources.now ≤ MAX_SOURCES }
-    ensures { Gives result (linked_of stage sources.now) }
+    ensures made { Gives result (linked_of stage sources.now) }
+    ensures linked { IfOk result IsLinked }
 {
     match first_long(0, sources) {
         Some(unit) => Err(Refusal::Source(fault_in(unit, Code::E0900))),
@@ -78,7 +80,8 @@ fn first_long(unit: u32, sources: &[Bytes]) -> Option<u32>
 fn linked_from(alloc: Global, stage: Stage, sources: &[Bytes]) -> Result<Linked, Refusal>
     requires few { length sources.now ≤ MAX_SOURCES }
     requires short { too_long_from 0 sources.now ≡ None }
-    ensures { Gives result (linked_behind stage (typed_from stage 0 sources.now)) }
+    ensures made { Gives result (linked_behind stage (typed_from stage 0 sources.now)) }
+    ensures linked { IfOk result IsLinked }
 {
     let units = typed_all(alloc, stage, sources)?;
     link(alloc, stage, units)

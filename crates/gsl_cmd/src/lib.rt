@@ -21,7 +21,7 @@ mod text;
 mod validity;
 
 pub use command::glsl_main;
-pub use compiling::{MAX_SOURCE_BYTES, compile};
+pub use compiling::{MAX_SOURCE_BYTES, MAX_SOURCES, compile, linked};
 pub use gsl_manifest::{
     BufferLine, BufferLines, Manifest, ManifestRefusal, PushLine, listing, read_manifest,
 };

@@ -6,8 +6,8 @@ use Rattle.gsl_cmd.proofs.compiling.compile.Goals as goal
 
 pub returns-in-Ok : goal.returns-in-Ok
 returns-in-Ok c =
-    compiled c.args.stage c.args.sources.now c.in-Ok.program c.compile_linked.result (ap (linked_of c.args.stage) (sym c.as_slice.ensures) ∙ (rw c.in-Ok.is at c.linked.ensures)) c.compile_linked.ensures
+    compiled c.args.stage c.args.sources.now c.in-Ok.program c.compile_linked.result (ap (linked_of c.args.stage) (sym c.as_slice.ensures) ∙ (rw c.in-Ok.is at c.linked.ensures.made)) c.compile_linked.ensures
 
 pub returns-in-Err : goal.returns-in-Err
 returns-in-Err c =
-    refused c.args.stage c.args.sources.now c.in-Err.refusal (subst (λ (s : List (List ℕ)). Refuses c.in-Err.refusal (linked_of c.args.stage s)) c.as_slice.ensures (rw c.in-Err.is at c.linked.ensures))
+    refused c.args.stage c.args.sources.now c.in-Err.refusal (subst (λ (s : List (List ℕ)). Refuses c.in-Err.refusal (linked_of c.args.stage s)) c.as_slice.ensures (rw c.in-Err.is at c.linked.ensures.made))
