@@ -1,0 +1,3 @@
+pub mod Sorted
+pub mod Placing
+pub mod Products
