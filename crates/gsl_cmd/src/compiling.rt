@@ -48,7 +48,7 @@ pub fn compile(alloc: Global, stage: Stage, sources: &Sources) -> Result<Bytes, 
 }
 
 /// The program that the sources make, or their first fault.
-fn linked(alloc: Global, stage: Stage, sources: &[Bytes]) -> Result<Linked, Refusal>
+pub fn linked(alloc: Global, stage: Stage, sources: &[Bytes]) -> Result<Linked, Refusal>
     requires { length sources.now ≤ MAX_SOURCES }
     ensures { Gives result (linked_of stage sources.now) }
 {

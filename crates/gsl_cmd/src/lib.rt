@@ -21,11 +21,12 @@ mod text;
 mod validity;
 
 pub use command::glsl_main;
-pub use compiling::{MAX_SOURCE_BYTES, compile};
+pub use compiling::{MAX_SOURCE_BYTES, MAX_SOURCES, compile, fault_in, linked};
 pub use gsl_manifest::{
     BufferLine, BufferLines, Manifest, ManifestRefusal, PushLine, listing, read_manifest,
 };
 pub use laws::{one_job, one_verdict};
 pub use lowering::lower;
 pub use meaning::{headline, module_runs};
+pub use text::{HOST_TEXT, told_fault};
 pub use validity::{module_is_placed, module_is_portable, module_is_small, module_is_valid};
