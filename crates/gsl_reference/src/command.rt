@@ -1,12 +1,13 @@
 //! A run of a shader: from the words of a command line and the files that they name to a listing and a status.
 
+ghost use Rattle.std.specs.Prelude.{◌≡◌, ◌≤◌, length, IfOk};
 ghost use Rattle.gsl_tree.specs.WellTyped.{IsProgram};
 
 use crate::inputs::{manifest, read_inputs, read_named};
 use crate::stop::Stop;
-use crate::texts::{GOING_TEXT, STRAYED_TEXT, misfit_text};
-use gsl_base::{Bytes, Code, Input, Refusal, Sources, Stage, Text, Words};
-use gsl_cmd::{HOST_TEXT, MAX_SOURCE_BYTES, MAX_SOURCES, fault_in, linked, listing, told_fault};
+use crate::texts::{GOING_TEXT, HOST_TEXT, STRAYED_TEXT, fault_text, misfit_text};
+use gsl_base::{Bytes, Code, Fault, Input, Place, Refusal, Sources, Stage, Text, Words};
+use gsl_cmd::{MAX_SOURCE_BYTES, MAX_SOURCES, linked, listing};
 use gsl_host::{Host, HostRefusal, ReadRefusal, Stream};
 use gsl_meaning::fits;
 use gsl_perform_run::{Performed, perform};
@@ -30,7 +31,7 @@ fn report<H: Host>(alloc: Global, files: &[Text], stop: Stop, host: &mut H) -> u
         Stop::Going => say(alloc, GOING_TEXT, status, host),
         Stop::Strayed => say(alloc, STRAYED_TEXT, status, host),
         Stop::Input(text) => say(alloc, text.as_slice(), status, host),
-        Stop::Fault(fault) => match told_fault(alloc, files, &fault) {
+        Stop::Fault(fault) => match fault_text(alloc, files, &fault) {
             Ok(text) => say(alloc, text.as_slice(), status, host),
             Err(_) => 4,
         },
@@ -46,14 +47,20 @@ fn read_source<H: Host>(
 ) -> Result<Bytes, Stop> {
     match host.read_file(alloc, file, MAX_SOURCE_BYTES) {
         Ok(bytes) => Ok(bytes),
-        Err(ReadRefusal::TooLong) => Err(Stop::Fault(fault_in(unit, Code::E0900))),
+        Err(ReadRefusal::TooLong) => Err(Stop::Fault(Fault {
+            place: Place { unit, line: 1 },
+            code: Code::E0900,
+        })),
         Err(ReadRefusal::Failed) => Err(Stop::Host),
         Err(ReadRefusal::Memory) => Err(Stop::Memory),
     }
 }
 
 /// Reads source files in their order.
-fn read_sources<H: Host>(alloc: Global, files: &[Text], host: &mut H) -> Result<Sources, Stop> {
+fn read_sources<H: Host>(alloc: Global, files: &[Text], host: &mut H) -> Result<Sources, Stop>
+    requires { length files.now ≤ MAX_SOURCES }
+    ensures { IfOk result (λ sources. length sources ≡ length files.now) }
+{
     let mut sources = Sources::new(alloc);
     for k in 0..files.len() {
         let source = read_source(alloc, k as u32, &files[k], host)?;
@@ -63,7 +70,10 @@ fn read_sources<H: Host>(alloc: Global, files: &[Text], host: &mut H) -> Result<
 }
 
 /// The program that sources make.
-fn program(alloc: Global, stage: Stage, sources: &Sources) -> Result<Program, Stop> {
+fn program(alloc: Global, stage: Stage, sources: &Sources) -> Result<Program, Stop>
+    requires { length sources.now ≤ MAX_SOURCES }
+    ensures { IfOk result IsProgram }
+{
     match linked(alloc, stage, sources.as_slice()) {
         Ok(program) => Ok(program),
         Err(Refusal::Source(fault)) => Err(Stop::Fault(fault)),
@@ -92,7 +102,9 @@ fn run_files<H: Host>(
     inputs: &Text,
     files: &[Text],
     host: &mut H,
-) -> Result<Bytes, Stop> {
+) -> Result<Bytes, Stop>
+    requires { length files.now ≤ MAX_SOURCES }
+{
     let sources = read_sources(alloc, files, host)?;
     let bytes = read_inputs(alloc, inputs, host)?;
     let program = program(alloc, stage, &sources)?;

@@ -1,7 +1,10 @@
-//! The lines of a manifest or an input that is refused.
+//! The texts that a run prints where it lists nothing.
 
-use gsl_base::{Bytes, InputRefusal, Memory};
+use gsl_base::{Bytes, Fault, InputRefusal, Memory, Text};
 use std::alloc::Global;
+
+/// What is printed where a call of the host failed.
+pub const HOST_TEXT: &[u8] = b"ERROR: host\n";
 
 /// What is printed where the units were used up.
 pub const GOING_TEXT: &[u8] = b"steps used up\n";
@@ -11,6 +14,20 @@ pub const STRAYED_TEXT: &[u8] = b"strayed\n";
 
 /// What is printed where the manifest is too long.
 const LONG_TEXT: &[u8] = b"INPUT: too long\n";
+
+/// `ERROR: FILE:LINE: Ennnn`, of a fault in one of these source files.
+pub fn fault_text(alloc: Global, files: &[Text], fault: &Fault) -> Result<Bytes, Memory> {
+    let unit = fault.place.unit as usize;
+    let file = if unit < files.len() {
+        files[unit].as_str()
+    } else {
+        ""
+    };
+    let line = fault.place.line;
+    let number = fault.code.number();
+    let text = format!(in alloc; "ERROR: {file}:{line}: E{number:04}\n")?;
+    Bytes::from_slice(alloc, text.as_str().as_bytes())
+}
 
 /// `INPUT: too long`
 pub fn long_text(alloc: Global) -> Result<Bytes, Memory> {
