@@ -88,7 +88,7 @@ contains_front x (y ∷ xs) ys (suc k, within, here) =
     let later = contains_front x xs ys (k, omega arith, here) in
     (suc later.0, omega (arith, later.1), later.2)
 
-contains_last : {X : Type 0} (x : X) (xs : List X) → Contains (xs ++ x ∷ []) x
+pub contains_last : {X : Type 0} (x : X) (xs : List X) → Contains (xs ++ x ∷ []) x
 contains_last x [] = (0, omega arith, refl)
 contains_last x (y ∷ xs) =
     let later = contains_last x xs in

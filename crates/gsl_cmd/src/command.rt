@@ -26,7 +26,7 @@ use gsl_plan::{Command, plan};
 use std::alloc::Global;
 
 /// Prints a text on standard error. The status is the one given, or 4 where memory was wanting.
-fn say<H: Host>(alloc: Global, text: &[u8], status: u8, host: &mut H) -> u8
+pub fn say<H: Host>(alloc: Global, text: &[u8], status: u8, host: &mut H) -> u8
     ensures said { Said (H.faults host.old) (H.faults host.new) (H.printed host.old Stream.Err) (H.printed host.new Stream.Err) text.now status result }
     ensures out { H.printed host.new Stream.Out ≡ H.printed host.old Stream.Out }
     ensures files { H.files host.new ≡ H.files host.old }
@@ -83,7 +83,7 @@ fn read_source<H: Host>(alloc: Global, unit: u32, file: &Text, host: &mut H) -> 
 }
 
 /// Reads source files, numbered from this one on, behind sources that were read.
-fn read_sources<H: Host>(
+pub fn read_sources<H: Host>(
     alloc: Global,
     unit: u32,
     files: &[Text],
@@ -262,7 +262,7 @@ fn check_file<H: Host>(alloc: Global, file: &Text, host: &mut H) -> Result<(), S
 }
 
 /// Prints a text on standard output, and gives the status.
-fn show_text<H: Host>(alloc: Global, text: &[u8], host: &mut H) -> u8
+pub fn show_text<H: Host>(alloc: Global, text: &[u8], host: &mut H) -> u8
     ensures shown { Shown (H.faults host.old) (H.faults host.new) (H.printed host.old Stream.Out) (H.printed host.new Stream.Out)
         (H.printed host.old Stream.Err) (H.printed host.new Stream.Err) text.now result }
     ensures files { H.files host.new ≡ H.files host.old }

@@ -20,7 +20,7 @@ mod stop;
 mod text;
 mod validity;
 
-pub use command::glsl_main;
+pub use command::{glsl_main, read_sources, say, show_text};
 pub use compiling::{MAX_SOURCE_BYTES, MAX_SOURCES, compile, linked};
 pub use gsl_manifest::{
     BufferLine, BufferLines, Manifest, ManifestRefusal, PushLine, listing, read_manifest,
@@ -28,4 +28,6 @@ pub use gsl_manifest::{
 pub use laws::{one_job, one_verdict};
 pub use lowering::lower;
 pub use meaning::{headline, module_runs};
+pub use stop::Stop;
+pub use text::{HOST_TEXT, told_fault};
 pub use validity::{module_is_placed, module_is_portable, module_is_small, module_is_valid};

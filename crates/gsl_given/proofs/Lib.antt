@@ -1,3 +1,4 @@
 pub mod Placing
 pub mod Found
 pub mod Lines
+pub mod Reached

@@ -11,7 +11,7 @@ use Rattle.gsl_given.specs.declared.stop.Stop.{Stop}
 use Rattle.gsl_given.specs.declared.stop.Stop.TheVariants as stop
 use Rattle.gsl_given.specs.Given.{Answers, and_then, buffer_found, buffers_found}
 
-rest_is : (lines : List BufferLine) → take (length lines - 1) (drop 1 lines) ≡ drop 1 lines
+pub rest_is : (lines : List BufferLine) → take (length lines - 1) (drop 1 lines) ≡ drop 1 lines
 rest_is [] = refl
 rest_is (line ∷ lines) = ap (λ n. take n lines) (let one : suc (length lines) - 1 ≡ length lines = omega arith in one) ∙ take-length lines
 

@@ -1,5 +1,5 @@
 -- What a run is given: its manifest, with the bytes of the files that it names.
-use Rattle.std.specs.Prelude.{◌≡◌, ℕ, Bool, ◌==◌, ◌&&◌, ◌||◌, nat_lt, IsSomeAnd, ◌<◌, ◌≤◌, List, [], ◌∷◌, map, length, Contains, ◌⊎◌, Option, Some, None, Result, Ok, Err, if◌then◌else◌}
+use Rattle.std.specs.Prelude.{◌≡◌, ℕ, Bool, false, not, ◌++◌, ◌==◌, ◌&&◌, ◌||◌, nat_lt, IsSomeAnd, ◌<◌, ◌≤◌, List, [], ◌∷◌, map, length, Contains, ◌⊎◌, Option, Some, None, Result, Ok, Err, if◌then◌else◌}
 use Rattle.std.specs.FinMap.{get}
 use Rattle.gsl_base.specs.declared.input.Buffer.{Buffer}
 use Rattle.gsl_base.specs.declared.input.Input.{Input}
@@ -69,6 +69,20 @@ given files m = and_then (buffers_found files [] m.buffers) (λ buffers. and_the
 abbrev pub push_names : Option PushLine → List Name
 push_names None = []
 push_names (Some line) = line.path ∷ []
+
+-- the files that a manifest names, in the order in which they are read
+abbrev pub names_of : Manifest → List Name
+names_of m = map (λ (line : BufferLine). line.path) m.buffers ++ push_names m.push
+
+-- whether reading goes on behind a file
+abbrev pub is_short : Option (List ℕ) → Bool
+is_short None = false
+is_short (Some bytes) = not (nat_lt MAX_FILE_BYTES (length bytes))
+
+-- what is read of files that are named, up to the first that is absent or too long
+abbrev pub reads : Files → List Name → List Target
+reads files [] = []
+reads files (name ∷ names) = Reading name ∷ (if is_short (get files name) then reads files names else [])
 
 -- the reading of a file that a manifest names
 abbrev pub IsNamed : Manifest → Target → Type 0

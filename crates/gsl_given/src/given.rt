@@ -56,6 +56,8 @@ pub fn manifest_of(alloc: Global, bytes: &[u8]) -> Result<Manifest, Stop>
 pub fn read_input<H: Host>(alloc: Global, manifest: Manifest, host: &mut H) -> Result<Input, Stop>
     ensures told { (files : Files) → H.files host.old ≡ Some files → spec.Answers (spec.given files manifest) result }
     ensures failed { result ≡ Err Stop.Host → (target : Target) × spec.IsNamed manifest target × Rose (H.faults host.old) (H.faults host.new) target }
+    ensures reached { (files : Files) → H.files host.old ≡ Some files → result ≡ Err Stop.Host →
+        (target : Target) × Contains (spec.reads files (spec.names_of manifest)) target × Rose (H.faults host.old) (H.faults host.new) target }
     ensures faults { NeverFall (H.faults host.old) (H.faults host.new) }
     ensures files { H.files host.new ≡ H.files host.old }
     ensures streams { (stream : Stream) → H.printed host.new stream ≡ H.printed host.old stream }
@@ -84,6 +86,8 @@ fn read_buffers<H: Host>(
 ) -> Result<Buffers, Stop>
     ensures told { (files : Files) → H.files host.old ≡ Some files → spec.Answers (spec.buffers_found files before lines.now) result }
     ensures failed { result ≡ Err Stop.Host → (target : Target) × Contains (map (λ (line : Line). Target.Reading line.path) lines.now) target × Rose (H.faults host.old) (H.faults host.new) target }
+    ensures reached { (files : Files) → H.files host.old ≡ Some files → result ≡ Err Stop.Host →
+        (target : Target) × Contains (spec.reads files (map (λ (line : Line). line.path) lines.now)) target × Rose (H.faults host.old) (H.faults host.new) target }
     ensures faults { NeverFall (H.faults host.old) (H.faults host.new) }
     ensures files { H.files host.new ≡ H.files host.old }
     ensures streams { (stream : Stream) → H.printed host.new stream ≡ H.printed host.old stream }

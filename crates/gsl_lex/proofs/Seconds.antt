@@ -1,13 +1,16 @@
 -- What is no spelling of a table by one of its bytes or by its length is not looked up.
 use Rattle.std.proofs.Common.{◌≡◌, ℕ, Bool, true, false, List, [], ◌∷◌, length, get_or, None, refl, ap, sym, ◌∙◌, ltb}
 use Rattle.std.specs.List.{list_all}
+use Rattle.std.specs.Option.{option_map}
 use Rattle.std.specs.Str.{bytes_eq}
 use Rattle.std.proofs.lemmas.Bool.{and_parts, true≢false, cond-false}
 use Rattle.std.proofs.lemmas.Slice.Eq.{bytes_eq-Decides}
+use Rattle.gsl_lex.specs.declared.text.Char.{Char}
 use Rattle.gsl_lex.specs.Bytes.{first_of}
 use Rattle.gsl_lex.specs.Spellings.{puncts}
 use Rattle.gsl_lex.specs.Refused.{refused, other_types, other_keywords, reserved, functions, variables, matrices, matrix_sizes, opaques, opaque_kinds, shadow_samplers, shadow_kinds}
 use Rattle.gsl_lex.specs.Tables.{lookup, among, punct_of, is_refused}
+use Rattle.gsl_lex.specs.Reading.{next_of, three_at, two_at, one_at, or_else, punct_at}
 use Rattle.gsl_lex.specs.Searching.{of_len, is_mark, is_second}
 use Rattle.gsl_lex.proofs.Lengths.{punct_among}
 
@@ -66,6 +69,21 @@ three_none a b c other = sym (lookup_none second (of_len 3 puncts) (a ∷ b ∷ 
 pub one_none : (a : ℕ) → is_mark a ≡ false → None ≡ punct_of (a ∷ [])
 unfolding mark
 one_none a other = sym (lookup_none mark (of_len 1 puncts) (a ∷ []) marks other) ∙ punct_among (a ∷ [])
+
+three_at_none : (a : ℕ) (text : List Char) → is_second (next_of text) ≡ false → three_at a text ≡ None
+three_at_none a [] other = refl
+three_at_none a (c ∷ []) other = refl
+three_at_none a (c ∷ d ∷ text) other = ap (option_map (λ p. (p, text))) (sym (three_none a c.byte d.byte other))
+
+two_at_none : (a : ℕ) (text : List Char) → is_second (next_of text) ≡ false → two_at a text ≡ None
+two_at_none a [] other = refl
+two_at_none a (c ∷ text) other = ap (option_map (λ p. (p, text))) (sym (two_none a c.byte other))
+
+-- a punctuator is of one byte where the next byte is the second of none
+pub alone : (a : ℕ) (text : List Char) → is_second (next_of text) ≡ false → one_at a text ≡ punct_at a text
+unfolding punct_at
+alone a text other =
+    sym (ap (λ x. or_else x (or_else (two_at a text) (one_at a text))) (three_at_none a text other) ∙ ap (λ x. or_else x (one_at a text)) (two_at_none a text other))
 
 -- a word of fewer than three bytes is not refused
 pub short_not_refused : (word : List ℕ) → ltb 2 (length word) ≡ false → false ≡ is_refused word

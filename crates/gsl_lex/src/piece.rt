@@ -4,7 +4,7 @@ ghost use Rattle.std.specs.Prelude.{◌≡◌, ◌<◌, [], ◌∷◌, ◌++◌,
 ghost use Rattle.gsl_lex.specs.Bytes as bytes;
 ghost use Rattle.gsl_lex.specs.Reading as spec;
 
-use crate::tables::{one_of, three_of, two_of};
+use crate::tables::{is_second, one_of, three_of, two_of};
 use crate::text::Cursor;
 use gsl_base::{Memory, Punct, RawKind, Text};
 use std::alloc::Global;
@@ -223,10 +223,13 @@ fn mark<'a>(first: u8, after: Cursor<'a>) -> (Lexeme, Cursor<'a>)
 }
 
 /// The longest punctuator that a text begins with, if there is one, and the place after it.
-#[tactic(auto, unfolding(crate::specs::Reading::punct_at))]
+#[tactic(auto, unfolding(crate::specs::Reading::punct_at), using(crate::proofs::Seconds::alone))]
 fn punct_at<'a>(first: u8, after: &Cursor<'a>) -> Option<(Punct, Cursor<'a>)>
     ensures { result ≡ spec.punct_at first after.now }
 {
+    if !is_second(after.next_byte()) {
+        return one_at(first, after);
+    }
     if let Some(found) = three_at(first, after) {
         return Some(found);
     }

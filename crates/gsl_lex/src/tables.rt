@@ -54,7 +54,7 @@ fn item_at<T: Copy>(items: &[T], index: usize) -> T
 }
 
 /// Whether a punctuator has the byte as its second one.
-fn is_second(byte: u8) -> bool
+pub fn is_second(byte: u8) -> bool
     ensures { result ≡ searching.is_second byte }
 {
     matches!(byte, b'+' | b'-' | b'<' | b'=' | b'>' | b'&' | b'^' | b'|')

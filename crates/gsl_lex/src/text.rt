@@ -81,7 +81,17 @@ impl<'a> Cursor<'a> {
     pub fn next_byte(&self) -> u8
         ensures { result ≡ next_of self.now }
     {
-        match self.step() {
+        match self.rest {
+            [byte, ..] if is_plain(*byte) => *byte,
+            _ => self.next_joined(),
+        }
+    }
+
+    /// The same where the byte may be a line end, or a backslash before one.
+    fn next_joined(&self) -> u8
+        ensures { result ≡ next_of self.now }
+    {
+        match self.step_joined() {
             Some((here, _)) => here.byte,
             None => 0,
         }

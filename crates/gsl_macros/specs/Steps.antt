@@ -1,12 +1,19 @@
 -- What calls that change a list of tokens and a count have to do with the definition.
-use Rattle.std.specs.Prelude.{◌≡◌, ℕ, ◌<◌, nat_lt, List, ◌∷◌, ◌++◌, length, if◌then◌else◌, Option, Some, None, Result, Ok, Err}
+use Rattle.std.specs.Prelude.{◌≡◌, ℕ, ◌<◌, Bool, false, not, nat_lt, List, [], ◌∷◌, ◌++◌, length, if◌then◌else◌, Option, Some, None, is_some, Result, Ok, Err}
 use Rattle.gsl_base.specs.Checked.{Checked, Refuses}
 use Rattle.gsl_base.specs.declared.fault.Code.TheVariants.{E0901}
 use Rattle.gsl_base.specs.declared.fault.Place.{Place}
 use Rattle.gsl_base.specs.declared.fault.Refusal.{Refusal}
 use Rattle.gsl_base.specs.declared.fault.Refusal.TheVariants.{Source, Memory}
+use Rattle.gsl_base.specs.declared.token.Raw.{Raw}
 use Rattle.gsl_macros.specs.declared.stream.Hid.{Hid}
-use Rattle.gsl_macros.specs.Expanding.{Seen, Split, Parted, Trace, at, ended, faulted, give}
+use Rattle.gsl_macros.specs.Tables.{Entries}
+use Rattle.gsl_macros.specs.Expanding.{Seen, Split, Parted, Trace, at, fresh, named, ended, faulted, give}
+
+-- whether the next token of a segment names no macro
+abbrev pub is_plain : Entries → List Raw → Bool
+is_plain table [] = false
+is_plain table (raw ∷ rest) = not (is_some (named table (fresh raw)))
 
 -- Unless it wanted memory, the answer is what a call gave, with what it left behind.
 abbrev pub Leaves : {A B : Type 0} → Result A Refusal → (A → B) → Checked B → Type 0

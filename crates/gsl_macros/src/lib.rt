@@ -12,7 +12,7 @@ mod unread;
 
 pub use expand::fault;
 pub use hides::Hides;
-pub use moves::{MAX_DEPTH, all, next};
+pub use moves::{MAX_DEPTH, all, next, next_plain};
 pub use spelled::{Mark, Spelled, mark_of};
 pub use stream::{Hid, Stream};
 pub use table::{Body, Macro, Macros, Shift, Table};

@@ -1,6 +1,6 @@
 //! The moves: each gives out the first token or replaces it.
 
-ghost use Rattle.std.specs.Prelude.{◌≡◌, ◌<◌, ◌+◌, [], ◌∷◌, ◌++◌, length, Some};
+ghost use Rattle.std.specs.Prelude.{◌≡◌, ℕ, ◌<◌, ◌+◌, [], ◌∷◌, ◌++◌, length, Some, MatchOption};
 ghost use Rattle.std.specs.Option.{option_map};
 ghost use Rattle.gsl_macros.specs.Expanding as spec;
 ghost use Rattle.gsl_macros.specs.Steps as steps;
@@ -9,11 +9,26 @@ use crate::expand::{arguments, count, fault, fits, put, put_call, put_number, us
 use crate::hides::Hides;
 use crate::stream::{Hid, Stream, copied};
 use crate::table::{Body, Macro, Macros};
-use gsl_base::{Code, List, Refusal, Text};
+use gsl_base::{Code, List, Raw, Refusal, Text};
 use std::alloc::Global;
 
 /// How deep the uses of function macros nest in one another's arguments.
 pub const MAX_DEPTH: u32 = 256;
+
+/// The next token, where it stands so in the source, names no macro and the count allows it: most tokens do, and are given out as they
+/// are. Elsewhere nothing changes, and `next` gives the token.
+#[tactic(auto, using(crate::proofs::Drawn::gives_plain))]
+pub fn next_plain(macros: &Macros, stream: &mut Stream, left: &mut u32) -> Option<Raw>
+    ensures { MatchOption result ((stream.new ≡ stream.old) × (left.new ≡ left.old)) (λ raw. (depth : ℕ) → spec.traced macros.now depth stream.old left.old ≡ spec.give (spec.fresh raw) (spec.traced macros.now depth stream.new left.new)) }
+{
+    let now = *left;
+    if now == 0 {
+        return None;
+    }
+    let raw = stream.take_plain(&macros.table)?;
+    *left = now - 1;
+    Some(raw)
+}
 
 /// The next token that is given out, where arguments may nest so deep.
 #[cycle(moves)]

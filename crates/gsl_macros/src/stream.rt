@@ -1,11 +1,13 @@
 //! Tokens that are still to be looked at: a stack of those that replacements put, above the rest of the segment.
 
-ghost use Rattle.std.specs.Prelude.{◌≡◌, [], ◌∷◌, ◌++◌, length, IfOk, OnOk, MatchOption, map};
+ghost use Rattle.std.specs.Prelude.{◌≡◌, [], ◌∷◌, ◌++◌, length, None, IfOk, OnOk, MatchOption, is_some, map};
 ghost use Rattle.gsl_macros.specs.Expanding as spec;
-ghost use Rattle.gsl_macros.specs.Spelling.{mark_of as mark_in};
+ghost use Rattle.gsl_macros.specs.Spelling.{mark_of as mark_in, word_of};
+ghost use Rattle.gsl_macros.specs.Steps as steps;
 
 use crate::hides::Hides;
 use crate::spelled::{Mark, Spelled, mark_of};
+use crate::table::Table;
 use crate::unread::Unread;
 use gsl_base::{List, Memory, Place, Raw, RawKind};
 use std::alloc::Global;
@@ -107,6 +109,20 @@ impl Stream {
         }
     }
 
+    /// Takes the first token where it stands so in the source and names no macro.
+    #[tactic(auto, using(crate::proofs::Drawn::plain_names))]
+    pub fn take_plain(&mut self, table: &Table) -> Option<Raw>
+        ensures { MatchOption result (self.new ≡ self.old) (λ raw. (self.old ≡ spec.fresh raw ∷ self.new) × (spec.named table.now (spec.fresh raw) ≡ None)) }
+    {
+        if !self.pending.is_empty() {
+            return None;
+        }
+        if !is_plain(&self.rest, table) {
+            return None;
+        }
+        self.rest.take()
+    }
+
     /// Puts a token in front.
     pub fn push(&mut self, token: Hid) -> Result<(), Memory>
         ensures { OnOk result (self.new ≡ token ∷ self.old) }
@@ -162,6 +178,25 @@ fn is_open(kind: &RawKind) -> bool
     ensures { result ≡ spec.is_open (mark_in kind.now) }
 {
     matches!(mark_of(kind), Mark::Opens)
+}
+
+/// Whether the next token names no macro.
+fn is_plain(rest: &Unread, table: &Table) -> bool
+    ensures { result ≡ steps.is_plain table.now rest.now }
+{
+    match rest.first() {
+        Some(raw) => !is_named(table, &raw.kind),
+        None => false,
+    }
+}
+
+fn is_named(table: &Table, kind: &RawKind) -> bool
+    ensures { result ≡ is_some (spec.named_by table.now [] (word_of kind.now)) }
+{
+    match kind {
+        RawKind::Word(name) => table.find(name).is_some(),
+        _ => false,
+    }
 }
 
 fn opens_raw(rest: &Unread) -> bool

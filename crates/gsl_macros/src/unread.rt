@@ -92,13 +92,13 @@ impl Unread {
         first
     }
 
-    /// Gives room back where a quarter or more is free.
+    /// Gives room back where half of it or more is free.
     fn give_back(&mut self)
         ensures { self.new ≡ self.old }
     {
         let room = self.items.capacity();
         if room > LITTLE {
-            if self.items.len() <= room - room / 4 {
+            if self.items.len() <= room / 2 {
                 self.items.shrink_to_fit();
             }
         }

@@ -35,13 +35,13 @@ whole root = record { root = root; path = []; picked = None }
 abbrev pub member_of : Access → ℕ → Access
 member_of access number = record access { path = access.path ++ number ∷ [] }
 
--- the part at an index: of a swizzle the component at that position
-abbrev pub part_number : Option (List ℕ) → ℕ → ℕ
-part_number None index = index
-part_number (Some positions) index = slice_index positions index
+abbrev pub index_in : Access → Option (List ℕ) → ℕ → Access
+index_in access None index = record access { path = access.path ++ index ∷ [] }
+index_in access (Some positions) index = record access { picked = Some (slice_index positions index ∷ []) }
 
+-- The part at an index. Of a swizzle it picks the one component at that position; a swizzle of a scalar has no part that a path could lead to.
 abbrev pub index_of : Access → ℕ → Access
-index_of access index = record { root = access.root; path = access.path ++ part_number access.picked index ∷ []; picked = None }
+index_of access index = index_in access access.picked index
 
 -- a swizzle of a swizzle picks of the positions that are picked
 abbrev pub picked_of : Option (List ℕ) → List ℕ → List ℕ

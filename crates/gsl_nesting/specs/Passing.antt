@@ -12,8 +12,15 @@ pub record Passed : Type 0 where
 abbrev pub at_start : Passed
 at_start = record { list = false; label = false; counters = at_first }
 
+-- what is known, unless the weight passes 256
+abbrev pub within : Bool → Bool → Counters → Option Passed
+within list label n = if nat_lt 256 (weight n) then None else Some (record { list = list; label = label; counters = n })
+
 -- behind one token more, unless the weight passes 256 there
 abbrev pub passed : Passed → Bool → Kind → Option Passed
-passed p on kind =
-    let n = counted p.list p.label on kind p.counters in
-    if nat_lt 256 (weight n) then None else Some (record { list = begins_list kind; label = before_label kind; counters = n })
+passed p on kind = within (begins_list kind) (before_label kind) (counted p.list p.label on kind p.counters)
+
+-- the same where the weight may have passed it before
+abbrev pub passed_on : Option Passed → Bool → Kind → Option Passed
+passed_on None on kind = None
+passed_on (Some p) on kind = passed p on kind

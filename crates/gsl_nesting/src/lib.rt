@@ -7,4 +7,4 @@
 mod nesting;
 mod stack;
 
-pub use nesting::{Nesting, first_deep, is_continuation};
+pub use nesting::{Depth, Nesting, first_deep, is_continuation};

@@ -1,6 +1,6 @@
 //! The limit on nesting.
 
-ghost use Rattle.std.specs.Prelude.{◌≡◌, ◌≤◌, ◌<◌, IfOk, OnOk};
+ghost use Rattle.std.specs.Prelude.{◌≡◌, ◌≤◌, ◌<◌, Some, IfOk, OnOk, is_some};
 ghost use Rattle.std.specs.Option.{option_map};
 ghost use Rattle.gsl_base.specs.declared.token.Token.{Token as OneToken};
 ghost use Rattle.gsl_syntax.specs.Nesting as spec;
@@ -110,7 +110,7 @@ impl Walk {
         requires holds { Holds self.old }
         requires within { self.old.weight ≤ 256 }
         ensures counted { OnOk result (counters self.new ≡ spec.push list (counters self.old)) }
-        ensures holds { OnOk result (Holds self.new) }
+        ensures holds { Holds self.new }
     {
         self.below.push(self.top)?;
         self.top = fresh(list);
@@ -157,7 +157,7 @@ impl Walk {
         requires holds { Holds self.old }
         requires within { self.old.weight ≤ 256 }
         ensures counted { OnOk result (counters self.new ≡ spec.counted_punct list on punct (counters self.old)) }
-        ensures holds { OnOk result (Holds self.new) }
+        ensures holds { Holds self.new }
     {
         match punct {
             Punct::LeftParen | Punct::LeftBracket => self.push(false)?,
@@ -198,7 +198,7 @@ impl Walk {
         requires holds { Holds self.old }
         requires within { self.old.weight ≤ 256 }
         ensures counted { OnOk result (counters self.new ≡ spec.counted list label on kind.now (counters self.old)) }
-        ensures holds { OnOk result (Holds self.new) }
+        ensures holds { Holds self.new }
     {
         match kind {
             Kind::Punct(punct) => self.punct(list, on, *punct),
@@ -259,6 +259,59 @@ impl Model for Nesting {
     ghost view = { λ n. record { list = n.list; label = n.label; counters = counters n.walk } };
 
     ghost invariant = { λ n. Holds n.walk × (n.walk.weight ≤ 256) };
+}
+
+/// The same, or nothing once a token nested too deeply; tokens are passed in place.
+#[derive(Drop)]
+pub struct Depth {
+    walk: Walk,
+    list: bool,
+    label: bool,
+}
+
+impl Model for Depth {
+    ghost use Rattle.std.specs.Prelude.{Option};
+    ghost use Rattle.gsl_nesting.specs.Passing.{Passed, within};
+    ghost use Rattle.gsl_nesting.specs.Walking.{counters, Holds};
+
+    ghost Value = { Option Passed };
+
+    ghost view = { λ d. within d.list d.label (counters d.walk) };
+
+    ghost invariant = { λ d. Holds d.walk };
+}
+
+impl Depth {
+    /// Before the first token.
+    pub fn new(alloc: Global) -> Depth
+        ensures { result ≡ Some passing.at_start }
+    {
+        Depth {
+            walk: Walk::new(alloc),
+            list: false,
+            label: false,
+        }
+    }
+
+    /// Whether no token nested too deeply.
+    pub fn is_within(&self) -> bool
+        ensures { result ≡ is_some self.now }
+    {
+        self.walk.weight <= LIMIT
+    }
+
+    /// Passes a token of this kind, which another follows that continues a statement or does not.
+    pub fn pass(&mut self, kind: &Kind, on: bool) -> Result<(), Memory>
+        ensures { OnOk result (self.new ≡ passing.passed_on self.old on kind.now) }
+    {
+        if self.walk.weight > LIMIT {
+            return Ok(());
+        }
+        self.walk.count(self.list, self.label, on, kind)?;
+        self.list = begins_list(kind);
+        self.label = before_label(kind);
+        Ok(())
+    }
 }
 
 impl Nesting {

@@ -1,6 +1,6 @@
 //! Counters of the brackets that are open.
 
-ghost use Rattle.std.specs.Prelude.{◌≡◌, [], ◌∷◌, ◌↔◌, IsTrue, OnOk, MatchOption};
+ghost use Rattle.std.specs.Prelude.{◌≡◌, [], ◌∷◌, ◌↔◌, IsTrue, OnOk, OnErr, MatchOption};
 
 use gsl_base::{List, Memory};
 use gsl_syntax::Counter;
@@ -34,7 +34,8 @@ impl Stack {
 
     /// Puts a counter on top.
     pub fn push(&mut self, counter: Counter) -> Result<(), Memory>
-        ensures { OnOk result (self.new ≡ counter ∷ self.old) }
+        ensures ok { OnOk result (self.new ≡ counter ∷ self.old) }
+        ensures memory { OnErr result (self.new ≡ self.old) }
     {
         self.items.push(counter)
     }

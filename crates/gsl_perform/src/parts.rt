@@ -30,7 +30,7 @@ pub(crate) fn indexed(alloc: Global, access: Access, index: u32, w: &World) -> R
     if index as usize >= parts_at(alloc, &access, &w.store) {
         return Err(Stop::Strays);
     }
-    Ok(access.index_of(index)?)
+    Ok(access.index_of(alloc, index)?)
 }
 
 /// A value is stored, and is what is given.

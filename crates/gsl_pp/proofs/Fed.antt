@@ -1,5 +1,5 @@
 -- What a feed still has to give out, step by step.
-use Rattle.std.proofs.Common.{◌≡◌, ℕ, zero, suc, ◌+◌, ◌<◌, Bool, true, false, List, [], ◌∷◌, ◌++◌, length, take, drop, map, Option, Some, None, Result, Ok, Err, if◌then◌else◌, refl, inl, inr, ap, sym, ◌∙◌, subst, arith, append_assoc, append-nil}
+use Rattle.std.proofs.Common.{◌≡◌, ℕ, zero, suc, ◌<◌, Bool, true, false, List, [], ◌∷◌, ◌++◌, length, take, drop, map, Option, Some, None, MatchOption, Result, Ok, Err, if◌then◌else◌, refl, inl, inr, ap, sym, ◌∙◌, subst, arith, append_assoc, append-nil}
 use Rattle.std.specs.List.{prefix_len}
 use Rattle.std.specs.Option.{option_map}
 use Rattle.gsl_base.specs.Checked.{Checked, ◌>>=◌, Refuses}
@@ -109,6 +109,13 @@ draws_here s now tokens later raws (Ok None) e h =
 draws_here s now tokens later raws (Err (Source fault)) e h =
     ap (λ t. then_from t (λ left. unit_from raws 0 (with_left s left))) h ∙ then_faulted fault (λ left. unit_from raws 0 (with_left s left))
 draws_here s now tokens later raws (Err Memory) e h = tt
+
+-- a token of the source that names no macro, where there is one
+pub plain_here : (s now : State) (tokens later : Seen) (raws : List Raw) (x : Option Raw)
+    → MatchOption x ((now ≡ s) × (later ≡ tokens)) (λ raw. (now ≡ with_left s now.left) × (traced s.macros 256 tokens s.left ≡ give (fresh raw) (traced s.macros 256 later now.left)))
+    → MatchOption x (rest_of now later raws ≡ rest_of s tokens raws) (λ raw. rest_of s tokens raws ≡ give (fresh raw) (rest_of now later raws))
+plain_here s now tokens later raws None h = ap (λ (n : State). rest_of n later raws) h.0 ∙ ap (λ t. rest_of s t raws) h.1
+plain_here s now tokens later raws (Some raw) h = draws_here s now tokens later raws (Ok (Some (fresh raw))) h.0 h.1
 
 pub turn_line : (r : Raw) (raws rest line : List Raw) (s now : State) (stream : Seen) (n : ℕ) → true ≡ is_directive r → n ≡ prefix_len goes_on_line raws → line ≡ take n raws → directed s r.place line ≡ Ok now → stream ≡ [] → rest ≡ drop n raws →
     unit_from (r ∷ raws) 0 s ≡ rest_of now stream rest

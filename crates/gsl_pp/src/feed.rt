@@ -7,7 +7,7 @@ ghost use Rattle.std.specs.Str.{bytes_eq};
 ghost use Rattle.indexmap.specs.IndexMap.{insert_entry};
 ghost use Rattle.gsl_base.specs.Checked.{Gives};
 ghost use Rattle.gsl_base.specs.declared.fault.Refusal.{Refusal};
-ghost use Rattle.gsl_macros.specs.Expanding.{ended as at_its_end, fresh, traced};
+ghost use Rattle.gsl_macros.specs.Expanding.{ended as at_its_end, fresh, give, traced};
 ghost use Rattle.gsl_macros.specs.Steps as steps;
 ghost use Rattle.gsl_pp.specs.Directives.{is_live, outermost, with_left};
 ghost use Rattle.gsl_pp.specs.Feeding as feeding;
@@ -19,7 +19,10 @@ use crate::state::{MAX_TOKENS, State};
 use crate::version::{at, versioned};
 use crate::word::is_hash;
 use gsl_base::{Code, Fault, Memory, Place, Raw, Raws, Refusal, Text, Token, Tokens};
-use gsl_macros::{Hid, MAX_DEPTH, Macro, Macros, Shift, Stream, Table, Unread, fault, next};
+use gsl_lex::cook;
+use gsl_macros::{
+    Hid, MAX_DEPTH, Macro, Macros, Shift, Stream, Table, Unread, fault, next, next_plain,
+};
 use std::alloc::Global;
 use std::mem::replace;
 
@@ -111,10 +114,21 @@ impl Feed {
         ensures told { feeding.Tells result (feeding.goes_on self.old) (feeding.goes_on self.new) }
         ensures refused { self.new.refused ≡ self.old.refused }
     {
+        if let Some(raw) = self.plain() {
+            return Ok(Some(live_raw(raw)?));
+        }
         match self.draw()? {
             Some(token) => Ok(Some(live(self.alloc, token)?)),
             None => Ok(None),
         }
+    }
+
+    /// The next token, where it is one of this segment that stands so in the source and names no macro, as most do.
+    fn plain(&mut self) -> Option<Raw>
+        ensures plain { MatchOption result (feeding.goes_on self.new ≡ feeding.goes_on self.old) (λ raw. feeding.goes_on self.old ≡ give (fresh raw) (feeding.goes_on self.new)) }
+        ensures refused { self.new.refused ≡ self.old.refused }
+    {
+        plain(&mut self.state, &mut self.stream)
     }
 
     /// The next token that is given out.
@@ -191,6 +205,12 @@ fn draw(alloc: Global, state: &mut State, stream: &mut Stream) -> Result<Option<
     next(alloc, &state.macros, MAX_DEPTH, stream, &mut state.left)
 }
 
+fn plain(state: &mut State, stream: &mut Stream) -> Option<Raw>
+    ensures { MatchOption result ((state.new ≡ state.old) × (stream.new ≡ stream.old)) (λ raw. (state.new ≡ with_left state.old state.new.left) × (traced state.old.macros MAX_DEPTH stream.old state.old.left ≡ give (fresh raw) (traced state.old.macros MAX_DEPTH stream.new state.new.left))) }
+{
+    next_plain(&state.macros, stream, &mut state.left)
+}
+
 /// No token.
 fn empty(alloc: Global) -> Stream
     ensures { result ≡ [] }
@@ -264,6 +284,14 @@ fn live(alloc: Global, token: Hid) -> Result<Token, Refusal>
     ensures { Gives result (spec.live_of token) }
 {
     token.spelled.cook(alloc, token.place)
+}
+
+/// The same of a token as it stands in the source.
+#[tactic(auto, unfolding(crate::specs::Unit::live_of, gsl_lex::specs::Cooking::token_of))]
+fn live_raw(raw: Raw) -> Result<Token, Refusal>
+    ensures { Gives result (spec.live_of (fresh raw)) }
+{
+    cook(raw)
 }
 
 /// The fault with which a unit begins, if there is one; what stands behind `#version` is left.

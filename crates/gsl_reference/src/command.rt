@@ -1,150 +1,133 @@
-//! A run of a shader: from the words of a command line and the files that they name to a listing and a status.
+//! A run of a shader, from the words of a command line to a status.
 
-ghost use Rattle.std.specs.Prelude.{◌≡◌, ◌≤◌, length, IfOk};
-ghost use Rattle.gsl_tree.specs.WellTyped.{IsProgram};
+ghost use Rattle.std.specs.Prelude.{◌≡◌, ◌≢◌, ◌≤◌, ◌⊎◌, ◌++◌, ◌∷◌, [], Some, None, length};
+ghost use Rattle.gsl_host.specs.declared.target.Stream.{Stream};
+ghost use Rattle.gsl_host.specs.declared.target.Target.{Target};
+ghost use Rattle.gsl_host.specs.Outside.{Files, Name, NeverFall, Rose};
+ghost use Rattle.gsl_cmd.specs.Command.{Said};
+ghost use Rattle.gsl_cmd.specs.Job.{Job};
+ghost use Rattle.gsl_cmd.specs.Performs.{Performs};
+ghost use Rattle.gsl_plan.specs.Plan.{are_files as may_be_files, stage_of as stage_named};
+ghost use Rattle.gsl_reference.specs.Asked.{Asked, asked_for, asked_in, asked_of};
+ghost use Rattle.gsl_reference.specs.Owed.{IsJob};
+ghost use Rattle.gsl_reference.specs.Steps.{Reported};
+ghost use Rattle.gsl_reference.specs.Texts.{usage_text};
 
-use crate::inputs::{manifest, read_inputs, read_named};
+use crate::running::run_files;
 use crate::stop::Stop;
-use crate::texts::{GOING_TEXT, HOST_TEXT, STRAYED_TEXT, fault_text, misfit_text};
-use gsl_base::{Bytes, Code, Fault, Input, Place, Refusal, Sources, Stage, Text, Words};
-use gsl_cmd::{MAX_SOURCE_BYTES, MAX_SOURCES, linked, listing};
-use gsl_host::{Host, HostRefusal, ReadRefusal, Stream};
-use gsl_meaning::fits;
-use gsl_perform_run::{Performed, perform};
-use gsl_tree::Program;
+use crate::texts::{GOING_TEXT, STRAYED_TEXT, USAGE_TEXT};
+use gsl_base::{Stage, Text, Words};
+use gsl_cmd::{HOST_TEXT, MAX_SOURCES, say, show_text};
+use gsl_host::Host;
+use gsl_manifest::one_reading;
+use gsl_plan::MAX_FILES;
 use std::alloc::Global;
 
-/// Prints a text on standard error. The status is the one given, or 4 where memory was wanting.
-fn say<H: Host>(alloc: Global, text: &[u8], status: u8, host: &mut H) -> u8 {
-    match host.print(alloc, Stream::Err, text) {
-        Ok(()) | Err(HostRefusal::Failed) => status,
-        Err(HostRefusal::Memory) => 4,
-    }
-}
-
-/// Reports why a run stopped, and gives the status. A fault is of one of these source files.
-fn report<H: Host>(alloc: Global, files: &[Text], stop: Stop, host: &mut H) -> u8 {
-    let status = stop.status();
+/// Reports why a run stopped, and gives the status.
+fn report<H: Host>(alloc: Global, stop: Stop, host: &mut H) -> u8
+    ensures reported { Reported stop (H.faults host.old) (H.faults host.new) (H.printed host.old Stream.Err) (H.printed host.new Stream.Err) result }
+    ensures out { H.printed host.new Stream.Out ≡ H.printed host.old Stream.Out }
+    ensures files { H.files host.new ≡ H.files host.old }
+    ensures faults { NeverFall (H.faults host.old) (H.faults host.new) }
+{
     match stop {
-        Stop::Memory => status,
-        Stop::Host => say(alloc, HOST_TEXT, status, host),
-        Stop::Going => say(alloc, GOING_TEXT, status, host),
-        Stop::Strayed => say(alloc, STRAYED_TEXT, status, host),
-        Stop::Input(text) => say(alloc, text.as_slice(), status, host),
-        Stop::Fault(fault) => match fault_text(alloc, files, &fault) {
-            Ok(text) => say(alloc, text.as_slice(), status, host),
-            Err(_) => 4,
-        },
-    }
-}
-
-/// Reads the source file of this number.
-fn read_source<H: Host>(
-    alloc: Global,
-    unit: u32,
-    file: &Text,
-    host: &mut H,
-) -> Result<Bytes, Stop> {
-    match host.read_file(alloc, file, MAX_SOURCE_BYTES) {
-        Ok(bytes) => Ok(bytes),
-        Err(ReadRefusal::TooLong) => Err(Stop::Fault(Fault {
-            place: Place { unit, line: 1 },
-            code: Code::E0900,
-        })),
-        Err(ReadRefusal::Failed) => Err(Stop::Host),
-        Err(ReadRefusal::Memory) => Err(Stop::Memory),
-    }
-}
-
-/// Reads source files in their order.
-fn read_sources<H: Host>(alloc: Global, files: &[Text], host: &mut H) -> Result<Sources, Stop>
-    requires { length files.now ≤ MAX_SOURCES }
-    ensures { IfOk result (λ sources. length sources ≡ length files.now) }
-{
-    let mut sources = Sources::new(alloc);
-    for k in 0..files.len() {
-        let source = read_source(alloc, k as u32, &files[k], host)?;
-        sources.push(source)?;
-    }
-    Ok(sources)
-}
-
-/// The program that sources make.
-fn program(alloc: Global, stage: Stage, sources: &Sources) -> Result<Program, Stop>
-    requires { length sources.now ≤ MAX_SOURCES }
-    ensures { IfOk result IsProgram }
-{
-    match linked(alloc, stage, sources.as_slice()) {
-        Ok(program) => Ok(program),
-        Err(Refusal::Source(fault)) => Err(Stop::Fault(fault)),
-        Err(Refusal::Memory) => Err(Stop::Memory),
-    }
-}
-
-/// The listing of what a program comes to on an input.
-fn performed(alloc: Global, program: &Program, input: &Input, units: u64) -> Result<Bytes, Stop>
-    requires { IsProgram program.now }
-{
-    if let Err(refusal) = fits(program, input) {
-        return Err(Stop::Input(misfit_text(alloc, refusal)?));
-    }
-    match perform(alloc, program, input, units)? {
-        Performed::Ended(output) => Ok(listing(alloc, &output)?),
-        Performed::Strayed => Err(Stop::Strayed),
-        Performed::Going => Err(Stop::Going),
-    }
-}
-
-/// The listing of what source files come to on the input of a manifest.
-fn run_files<H: Host>(
-    alloc: Global,
-    stage: Stage,
-    inputs: &Text,
-    files: &[Text],
-    host: &mut H,
-) -> Result<Bytes, Stop>
-    requires { length files.now ≤ MAX_SOURCES }
-{
-    let sources = read_sources(alloc, files, host)?;
-    let bytes = read_inputs(alloc, inputs, host)?;
-    let program = program(alloc, stage, &sources)?;
-    let manifest = manifest(alloc, bytes.as_slice())?;
-    let (input, units) = read_named(alloc, manifest, host)?;
-    performed(alloc, &program, &input, units)
-}
-
-/// Prints a listing, and gives the status.
-fn show<H: Host>(alloc: Global, text: &[u8], host: &mut H) -> u8 {
-    match host.print(alloc, Stream::Out, text) {
-        Ok(()) => 0,
-        Err(HostRefusal::Failed) => say(alloc, HOST_TEXT, 3, host),
-        Err(HostRefusal::Memory) => 4,
+        Stop::Fault(text) => say(alloc, text.as_slice(), 1, host),
+        Stop::Going => say(alloc, GOING_TEXT, 5, host),
+        Stop::Strayed => say(alloc, STRAYED_TEXT, 6, host),
+        Stop::Input(text) => say(alloc, text.as_slice(), 7, host),
+        Stop::Host => say(alloc, HOST_TEXT, 3, host),
+        Stop::Memory => 4,
     }
 }
 
 /// The stage that a word names.
-fn stage_of(word: &str) -> Option<Stage> {
-    match word {
-        "vert" => Some(Stage::Vertex),
-        "frag" => Some(Stage::Fragment),
-        "comp" => Some(Stage::Compute),
-        _ => None,
+fn stage_of(word: &str) -> Option<Stage>
+    ensures { result ≡ stage_named word.now }
+{
+    if word == "vert" {
+        Some(Stage::Vertex)
+    } else if word == "frag" {
+        Some(Stage::Fragment)
+    } else if word == "comp" {
+        Some(Stage::Compute)
+    } else {
+        None
     }
 }
 
-/// Runs `STAGE INPUTS FILE..`, and gives the status. The first word is the program's own name.
-pub fn reference<H: Host>(alloc: Global, words: &Words, host: &mut H) -> u8 {
-    let [_, stage, inputs, files @ ..] = words.as_slice() else {
-        return say(alloc, b"usage\n", 2, host);
-    };
-    let Some(stage) = stage_of(stage.as_str()) else {
-        return say(alloc, b"usage\n", 2, host);
-    };
-    if files.is_empty() || files.len() > MAX_SOURCES {
-        return say(alloc, b"usage\n", 2, host);
+/// Whether there is one source file or more, and not too many.
+fn are_files(names: &[Text]) -> bool
+    ensures { result ≡ may_be_files names.now }
+{
+    !names.is_empty() && names.len() <= MAX_FILES
+}
+
+/// Runs source files of a stage on the input of a manifest, prints the listing or why there is none, and gives the status.
+fn run<H: Host>(alloc: Global, stage: Stage, inputs: &Text, names: &[Text], host: &mut H) -> u8
+    requires { length names.now ≤ MAX_SOURCES }
+    ensures told { (files : Files) → H.files host.old ≡ Some files → (job : Job)
+        × IsJob (record { stage = stage; inputs = inputs.now; sources = names.now }) files job
+        × Performs job files (H.files host.new) (H.faults host.old) (H.faults host.new) (H.printed host.old) (H.printed host.new) result }
+    ensures cause { result ≡ 3 → ((name : Name) × Rose (H.faults host.old) (H.faults host.new) (Target.Reading name))
+        ⊎ Rose (H.faults host.old) (H.faults host.new) (Target.Printing Stream.Out) }
+    ensures asked { result ≢ 2 }
+{
+    one_reading();
+    match run_files(alloc, stage, inputs, names, host) {
+        Ok(text) => show_text(alloc, text.as_slice(), host),
+        Err(stop) => report(alloc, stop, host),
     }
-    match run_files(alloc, stage, inputs, files, host) {
-        Ok(text) => show(alloc, text.as_slice(), host),
-        Err(stop) => report(alloc, files, stop, host),
+}
+
+/// The words ask for nothing.
+fn usage<H: Host>(alloc: Global, host: &mut H) -> u8
+    ensures said { Said (H.faults host.old) (H.faults host.new) (H.printed host.old Stream.Err) (H.printed host.new Stream.Err) usage_text 2 result }
+    ensures out { H.printed host.new Stream.Out ≡ H.printed host.old Stream.Out }
+    ensures files { H.files host.new ≡ H.files host.old }
+{
+    say(alloc, USAGE_TEXT, 2, host)
+}
+
+/// Runs the files of these names, if there are as many as there may be and the stage is one.
+fn run_for<H: Host>(alloc: Global, stage: &Text, inputs: &Text, names: &[Text], host: &mut H) -> u8
+    ensures usage { result ≡ 2 → asked_for stage.now inputs.now names.now ≡ None }
+    ensures unasked { asked_for stage.now inputs.now names.now ≡ None →
+        Said (H.faults host.old) (H.faults host.new) (H.printed host.old Stream.Err) (H.printed host.new Stream.Err) usage_text 2 result
+        × (H.files host.new ≡ H.files host.old) × (H.printed host.new Stream.Out ≡ H.printed host.old Stream.Out) }
+    ensures told { (asked : Asked) → asked_for stage.now inputs.now names.now ≡ Some asked → (files : Files) → H.files host.old ≡ Some files →
+        (job : Job) × IsJob asked files job
+        × Performs job files (H.files host.new) (H.faults host.old) (H.faults host.new) (H.printed host.old) (H.printed host.new) result }
+    ensures cause { result ≡ 3 → ((name : Name) × Rose (H.faults host.old) (H.faults host.new) (Target.Reading name))
+        ⊎ Rose (H.faults host.old) (H.faults host.new) (Target.Printing Stream.Out) }
+{
+    if !are_files(names) {
+        return usage(alloc, host);
+    }
+    match stage_of(stage.as_str()) {
+        Some(stage) => run(alloc, stage, inputs, names, host),
+        None => usage(alloc, host),
+    }
+}
+
+/// Runs what the words `STAGE INPUTS FILE..` ask for, and gives the status. The first word is the program's own name.
+pub fn reference<H: Host>(alloc: Global, words: &Words, host: &mut H) -> u8
+    // Status 2 comes exactly where the words ask for nothing, unless memory was wanting; all stays then.
+    ensures usage { result ≡ 2 → asked_of words.now ≡ None }
+    ensures unasked { asked_of words.now ≡ None →
+        Said (H.faults host.old) (H.faults host.new) (H.printed host.old Stream.Err) (H.printed host.new Stream.Err) usage_text 2 result
+        × (H.files host.new ≡ H.files host.old) × (H.printed host.new Stream.Out ≡ H.printed host.old Stream.Out) }
+
+    // The run has done its job, or as much of it as the host and the memory let it.
+    ensures told { (asked : Asked) → asked_of words.now ≡ Some asked → (files : Files) → H.files host.old ≡ Some files →
+        (job : Job) × IsJob asked files job
+        × Performs job files (H.files host.new) (H.faults host.old) (H.faults host.new) (H.printed host.old) (H.printed host.new) result }
+
+    // On every host, status 3 comes only where reading a file or printing the listing failed.
+    ensures cause { result ≡ 3 → ((name : Name) × Rose (H.faults host.old) (H.faults host.new) (Target.Reading name))
+        ⊎ Rose (H.faults host.old) (H.faults host.new) (Target.Printing Stream.Out) }
+{
+    match words.as_slice() {
+        [_, stage, inputs, names @ ..] => run_for(alloc, stage, inputs, names, host),
+        _ => usage(alloc, host),
     }
 }

@@ -4,14 +4,17 @@
 #![tactic(auto)]
 
 mod case;
+mod cases;
 mod command;
-mod inputs;
+mod laws;
+mod performing;
 mod running;
+mod sources;
 mod stop;
 mod texts;
 
+use crate::cases::run_cases;
 use crate::command::reference;
-use crate::running::run_files;
 use gsl_base::{Memory, Text, Words};
 use gsl_host::FileHost;
 use std::alloc::Global;
@@ -31,7 +34,7 @@ fn main(rt: HostRuntime) -> ExitCode {
     }
     let mut host = FileHost::new(rt, alloc);
     ExitCode::from(match words.as_slice() {
-        [_, first, names @ ..] if first.as_str() == "cases" => run_files(alloc, names, &mut host),
+        [_, first, names @ ..] if first.as_str() == "cases" => run_cases(alloc, names, &mut host),
         _ => reference(alloc, &words, &mut host),
     })
 }

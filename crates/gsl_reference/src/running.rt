@@ -1,91 +1,138 @@
-//! Running cases over hosts in memory, and printing what came.
+//! A run, from the files that are read to what is listed.
 
-use crate::case::{Case, read_cases};
-use crate::command::reference;
-use gsl_base::{Memory, Text, Words};
-use gsl_host::{Host, MemHost, Stream};
-use gsl_outline::{Done, Outline};
+ghost use Rattle.std.specs.Prelude.{◌≡◌, ◌≤◌, ◌++◌, ◌∷◌, [], List, Some, Ok, Err, length};
+ghost use Rattle.std.specs.FinMap.{get};
+ghost use Rattle.gsl_host.specs.declared.target.Stream.{Stream};
+ghost use Rattle.gsl_host.specs.declared.target.Target.{Target};
+ghost use Rattle.gsl_host.specs.Outside.{Files, Name, NeverFall, Rose};
+ghost use Rattle.gsl_tree.specs.WellTyped.{IsProgram};
+ghost use Rattle.gsl_given.specs.Given as given;
+ghost use Rattle.gsl_cmd.specs.Job.{Job};
+ghost use Rattle.gsl_cmd.specs.Verdict.{linked_of};
+ghost use Rattle.gsl_reference.specs.Asked.{Asked};
+ghost use Rattle.gsl_reference.specs.Owed as owed;
+ghost use Rattle.gsl_reference.specs.Steps.{Ends};
+
+use crate::performing::performed;
+use crate::sources::{program, sources_of};
+use crate::stop::{Stop, stopped};
+use gsl_base::{Bytes, Sources, Stage, Text};
+use gsl_cmd::MAX_SOURCES;
+use gsl_given::{MAX_MANIFEST_BYTES, manifest_of, read_input, read_manifest_file};
+use gsl_host::Host;
+use gsl_manifest::Manifest;
+use gsl_tree::Program;
 use std::alloc::Global;
 
-/// The largest file of cases.
-const MAX_BYTES: usize = 16_777_216;
-
-/// Runs the cases of files, and gives the status: 0, or 1 where a file could not be run to its end.
-pub fn run_files<H: Host>(alloc: Global, names: &[Text], host: &mut H) -> u8 {
-    let mut status = 0;
-    for name in names {
-        if run_file(alloc, name, host).is_err() {
-            status = 1;
-        }
+/// Runs source files on the input of a manifest.
+pub fn run_files<H: Host>(
+    alloc: Global,
+    stage: Stage,
+    inputs: &Text,
+    names: &[Text],
+    host: &mut H,
+) -> Result<Bytes, Stop>
+    requires { length names.now ≤ MAX_SOURCES }
+    ensures told { owed.AreRead → (files : Files) → H.files host.old ≡ Some files →
+        Ends (owed.IsJob (record { stage = stage; inputs = inputs.now; sources = names.now }) files) (H.faults host.old) (H.faults host.new) result }
+    ensures failed { result ≡ Err Stop.Host → (name : Name) × Rose (H.faults host.old) (H.faults host.new) (Target.Reading name) }
+    ensures faults { NeverFall (H.faults host.old) (H.faults host.new) }
+    ensures files { H.files host.new ≡ H.files host.old }
+    ensures streams { (stream : Stream) → H.printed host.new stream ≡ H.printed host.old stream }
+{
+    match sources_of(alloc, names, host) {
+        Ok(sources) => run_sources(alloc, stage, inputs, names, &sources, host),
+        Err(stop) => Err(stop),
     }
-    status
 }
 
-/// Runs the cases of a file, and prints what came.
-fn run_file<H: Host>(alloc: Global, name: &Text, host: &mut H) -> Result<(), Memory> {
-    let mut out = Outline::new(alloc);
-    match host.read_file(alloc, name, MAX_BYTES) {
-        Ok(bytes) => run_text(alloc, &mut out, bytes.as_slice())?,
-        Err(_) => {
-            out.put(name.as_str())?;
-            out.put(" cannot be read\n")?;
-        }
+/// Runs sources on the input of a manifest.
+fn run_sources<H: Host>(
+    alloc: Global,
+    stage: Stage,
+    inputs: &Text,
+    names: &[Text],
+    sources: &Sources,
+    host: &mut H,
+) -> Result<Bytes, Stop>
+    requires { length sources.now ≤ MAX_SOURCES }
+    ensures told { owed.AreRead → (files : Files) → H.files host.old ≡ Some files → (targets : List Target) →
+        Ends (owed.IsBehindSources (record { stage = stage; inputs = inputs.now; sources = names.now }) files sources.now targets) (H.faults host.old) (H.faults host.new) result }
+    ensures failed { result ≡ Err Stop.Host → (name : Name) × Rose (H.faults host.old) (H.faults host.new) (Target.Reading name) }
+    ensures faults { NeverFall (H.faults host.old) (H.faults host.new) }
+    ensures files { H.files host.new ≡ H.files host.old }
+    ensures streams { (stream : Stream) → H.printed host.new stream ≡ H.printed host.old stream }
+{
+    match read_manifest_file(alloc, inputs, host) {
+        Ok(bytes) => run_program(alloc, stage, names, sources, bytes.as_slice(), host),
+        Err(why) => Err(stopped(why)),
     }
-    host.print(alloc, Stream::Out, out.bytes())
-        .map_err(|_| Memory)
 }
 
-fn run_text(alloc: Global, out: &mut Outline, bytes: &[u8]) -> Done {
-    let Ok(text) = std::str::from_utf8(bytes) else {
-        return out.put("no UTF-8\n");
-    };
-    let cases = read_cases(alloc, text)?;
-    for case in &cases {
-        run_case(alloc, out, case)?;
+/// Runs the program of sources on the input of the manifest that the bytes are.
+fn run_program<H: Host>(
+    alloc: Global,
+    stage: Stage,
+    names: &[Text],
+    sources: &Sources,
+    bytes: &[u8],
+    host: &mut H,
+) -> Result<Bytes, Stop>
+    requires few { length sources.now ≤ MAX_SOURCES }
+    requires short { length bytes.now ≤ MAX_MANIFEST_BYTES }
+    ensures told { owed.AreRead → (files : Files) → H.files host.old ≡ Some files → (targets : List Target) →
+        Ends (λ job. owed.IsProgramJob files names.now bytes.now targets job (linked_of stage sources.now)) (H.faults host.old) (H.faults host.new) result }
+    ensures failed { result ≡ Err Stop.Host → (name : Name) × Rose (H.faults host.old) (H.faults host.new) (Target.Reading name) }
+    ensures faults { NeverFall (H.faults host.old) (H.faults host.new) }
+    ensures files { H.files host.new ≡ H.files host.old }
+    ensures streams { (stream : Stream) → H.printed host.new stream ≡ H.printed host.old stream }
+{
+    match program(alloc, stage, names, sources) {
+        Ok(program) => run_by(alloc, &program, bytes, host),
+        Err(stop) => Err(stop),
     }
-    Ok(())
 }
 
-/// The name of the source of this number.
-fn source_name(alloc: Global, number: usize) -> Result<Text, Memory> {
-    let name = format!(in alloc; "{number}")?;
-    Text::from_str(alloc, name.as_str())
+/// Runs a program on the input of the manifest that the bytes are.
+fn run_by<H: Host>(
+    alloc: Global,
+    program: &Program,
+    bytes: &[u8],
+    host: &mut H,
+) -> Result<Bytes, Stop>
+    requires typed { IsProgram program.now }
+    requires short { length bytes.now ≤ MAX_MANIFEST_BYTES }
+    ensures told { owed.AreRead → (files : Files) → H.files host.old ≡ Some files → (targets : List Target) →
+        Ends (λ job. owed.IsProgramJob files [] bytes.now targets job (Ok program.now)) (H.faults host.old) (H.faults host.new) result }
+    ensures failed { result ≡ Err Stop.Host → (name : Name) × Rose (H.faults host.old) (H.faults host.new) (Target.Reading name) }
+    ensures faults { NeverFall (H.faults host.old) (H.faults host.new) }
+    ensures files { H.files host.new ≡ H.files host.old }
+    ensures streams { (stream : Stream) → H.printed host.new stream ≡ H.printed host.old stream }
+{
+    match manifest_of(alloc, bytes) {
+        Ok(manifest) => run_on(alloc, program, manifest, host),
+        Err(why) => Err(stopped(why)),
+    }
 }
 
-/// Runs a case over a host that has its files, and prints its title, the status if it is not 0, and what was printed.
-fn run_case(alloc: Global, out: &mut Outline, case: &Case) -> Done {
-    out.put("case ")?;
-    out.put(case.title.as_str())?;
-    out.end_line()?;
-    let mut host = MemHost::new(alloc, &[])?;
-    let words = lay_out(alloc, case, &mut host)?;
-    let status = reference(alloc, &words, &mut host);
-    if status != 0 {
-        out.put("status ")?;
-        out.number(u64::from(status))?;
-        out.end_line()?;
+/// Runs a program on the input of a manifest.
+fn run_on<H: Host>(
+    alloc: Global,
+    program: &Program,
+    manifest: Manifest,
+    host: &mut H,
+) -> Result<Bytes, Stop>
+    requires { IsProgram program.now }
+    ensures told { owed.AreRead → (files : Files) → H.files host.old ≡ Some files → (targets : List Target) →
+        Ends (λ job. job ≡ owed.run_by files targets program.now (Ok manifest)) (H.faults host.old) (H.faults host.new) result }
+    ensures failed { result ≡ Err Stop.Host → (name : Name) × Rose (H.faults host.old) (H.faults host.new) (Target.Reading name) }
+    ensures faults { NeverFall (H.faults host.old) (H.faults host.new) }
+    ensures files { H.files host.new ≡ H.files host.old }
+    ensures streams { (stream : Stream) → H.printed host.new stream ≡ H.printed host.old stream }
+{
+    let units = manifest.steps;
+    match read_input(alloc, manifest, host) {
+        Ok(input) => performed(alloc, program, &input, units),
+        Err(why) => Err(stopped(why)),
     }
-    out.put_bytes(host.out())?;
-    out.put_bytes(host.err())
-}
-
-/// Puts the files of a case on the host, and gives the words of its command line.
-fn lay_out(alloc: Global, case: &Case, host: &mut MemHost) -> Result<Words, Memory> {
-    let mut words = Words::new(alloc);
-    words.push(Text::from_str(alloc, "reference")?)?;
-    words.push(Text::from_str(alloc, case.stage.as_str())?)?;
-    words.push(Text::from_str(alloc, "inputs")?)?;
-    host.put_file(
-        &Text::from_str(alloc, "inputs")?,
-        case.manifest.as_str().as_bytes(),
-    )?;
-    for (name, bytes) in &case.files {
-        host.put_file(&Text::from_str(alloc, name.as_str())?, bytes.as_slice())?;
-    }
-    for k in 0..case.sources.len() {
-        let name = source_name(alloc, k)?;
-        host.put_file(&name, case.sources[k].as_str().as_bytes())?;
-        words.push(name)?;
-    }
-    Ok(words)
 }

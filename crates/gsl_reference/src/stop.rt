@@ -1,44 +1,34 @@
 //! Why a run may stop short.
 
-use gsl_base::{Bytes, Fault, Memory};
+ghost use Rattle.std.specs.Prelude.{◌≡◌};
+ghost use Rattle.gsl_reference.specs.Steps.{stopped as stopped_by};
+
+use gsl_base::Bytes;
+use gsl_given::Stop as Ungiven;
 
 /// Why nothing is listed.
 #[derive(Debug, Drop)]
 pub enum Stop {
-    /// The sources have this first fault.
-    Fault(Fault),
-    /// A call of the host failed.
-    Host,
-    Memory,
+    /// The sources have a first fault, and this line tells it.
+    Fault(Bytes),
     /// The units were used up.
     Going,
     /// An index was out of bounds.
     Strayed,
-    /// The manifest or the input is refused, and this line says why.
+    /// The manifest, a file that it names, or the input is refused, and this line says why.
     Input(Bytes),
+    /// A call of the host failed.
+    Host,
+    Memory,
 }
 
-impl From<Memory> for Stop {
-    ghost use Rattle.std.specs.Prelude.{◌≡◌};
-    ghost use Rattle.gsl_reference.specs.declared.stop.Stop.TheVariants.{Memory as WantOfMemory};
-
-    ghost from_gives = { λ _ stop. stop ≡ WantOfMemory };
-
-    fn from(_error: Memory) -> Stop {
-        Stop::Memory
-    }
-}
-
-impl Stop {
-    /// The status with which the program ends.
-    pub fn status(&self) -> u8 {
-        match self {
-            Stop::Fault(_) => 1,
-            Stop::Host => 3,
-            Stop::Memory => 4,
-            Stop::Going => 5,
-            Stop::Strayed => 6,
-            Stop::Input(_) => 7,
-        }
+/// Why there is no input.
+pub fn stopped(why: Ungiven) -> Stop
+    ensures { result ≡ stopped_by why }
+{
+    match why {
+        Ungiven::Refused(text) => Stop::Input(text),
+        Ungiven::Host => Stop::Host,
+        Ungiven::Memory => Stop::Memory,
     }
 }

@@ -96,6 +96,10 @@ pub told_at : (structs : List StructType) (table : List Shape) (ty : Ty) (v : Va
 told_at structs table ty v is = ap (λ (f : Value → Value). f v) (told_shaped structs table ty is)
 
 -- the same, step by step as the code goes
+pub shape_made : (structs shown : List StructType) (table rows : List Shape) (ty : Ty) (s : Shape) → structs ≡ shown → table ≡ table_from shaping [] structs → rows ≡ table
+    → s ≡ over shaping (known rows) ty → s ≡ meaning shaping shown ty
+shape_made structs shown table rows ty s view is lent made = made ∙ ap (λ l. over shaping (known l) ty) (lent ∙ is) ∙ ap (λ l. meaning shaping l ty) view
+
 pub zero_made : (structs shown : List StructType) (table rows : List Shape) (ty : Ty) (s : Shape) (v : Value) → structs ≡ shown → table ≡ table_from shaping [] structs → rows ≡ table
     → s ≡ over shaping (known rows) ty → v ≡ zero_of s → v ≡ zero_value shown ty
 zero_made structs shown table rows ty s v view is lent made found =

@@ -1,5 +1,5 @@
 ghost use Rattle.std.specs.Prelude.{◌≡◌, ◌++◌, ◌∷◌, [], ℕ, List as Plain, IfOk, map, get_or};
-ghost use Rattle.gsl_types.specs.Structs.{members_over, over, struct_over, table_from};
+ghost use Rattle.gsl_types.specs.Structs.{meaning, members_over, over, struct_over, table_from};
 ghost use Rattle.gsl_shapes.specs.Shaping as spec;
 ghost use Rattle.gsl_meaning.specs.Accesses.{told as told_of};
 ghost use Rattle.gsl_tree.specs.Values.{zero_value};
@@ -146,6 +146,14 @@ impl<'a> Shapes<'a> {
     {
         let table = table_of(alloc, structs.as_slice())?;
         Ok(Shapes { structs, table })
+    }
+
+    /// The shape of a type.
+    pub fn shape(&self, alloc: Global, ty: &Ty) -> Result<Shape, Memory>
+        ensures { IfOk result (λ s. s ≡ meaning spec.shaping self.now ty.now) }
+    {
+        let shape = shape_over(alloc, self.table.as_slice(), ty)?;
+        Ok(shape)
     }
 
     /// The value of a type whose leaves are all zero.

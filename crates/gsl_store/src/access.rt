@@ -1,6 +1,6 @@
 //! Variables and their parts, as expressions name them.
 
-ghost use Rattle.std.specs.Prelude.{◌≡◌, ◌∷◌, [], IfOk, take, None};
+ghost use Rattle.std.specs.Prelude.{◌≡◌, ◌∷◌, [], IfOk, take, None, slice_index};
 ghost use Rattle.gsl_store.specs.Roots.{root_of};
 ghost use Rattle.gsl_values.specs.Vectors.{components as picked};
 ghost use Rattle.gsl_meaning.specs.Accesses as spec;
@@ -36,22 +36,19 @@ impl Model for Access {
     ghost view = { λ a. record { root = root_of a.root; path = a.path; picked = a.picked } };
 }
 
-/// The position of the part at an index: of a swizzle that of the component there.
-fn part_number(picked: &Option<Words>, index: u32) -> u32
-    ensures { result ≡ spec.part_number picked.now index }
-{
-    match picked {
-        None => index,
-        Some(positions) => word_at(positions, index),
-    }
-}
-
 /// The positions that a swizzle picks.
 fn positions_of(alloc: Global, lanes: &Lanes) -> Result<Words, Memory>
     ensures { IfOk result (λ l. l ≡ picked lanes.now) }
 {
     let positions = &lanes.words[..(lanes.count as usize).min(4)];
     List::from_slice(alloc, positions)
+}
+
+/// The position that an index picks, of those that a swizzle picks.
+fn component_at(alloc: Global, positions: &Words, index: u32) -> Result<Words, Memory>
+    ensures { IfOk result (λ l. l ≡ slice_index positions.now index ∷ []) }
+{
+    List::from_slice(alloc, &[word_at(positions, index)])
 }
 
 /// The positions that a swizzle picks, of those that are picked already.
@@ -102,7 +99,7 @@ impl Access {
     }
 
     /// The part at an index.
-    pub fn index_of(self, index: u32) -> Result<Access, Memory>
+    pub fn index_of(self, alloc: Global, index: u32) -> Result<Access, Memory>
         ensures { IfOk result (λ a. a ≡ spec.index_of self index) }
     {
         let Access {
@@ -110,12 +107,21 @@ impl Access {
             mut path,
             picked,
         } = self;
-        path.push(part_number(&picked, index))?;
-        Ok(Access {
-            root,
-            path,
-            picked: None,
-        })
+        match picked {
+            None => {
+                path.push(index)?;
+                Ok(Access {
+                    root,
+                    path,
+                    picked: None,
+                })
+            }
+            Some(positions) => Ok(Access {
+                root,
+                path,
+                picked: Some(component_at(alloc, &positions, index)?),
+            }),
+        }
     }
 
     /// What a swizzle picks.

@@ -1,5 +1,5 @@
 -- What comes, step by step.
-use Rattle.std.proofs.Common.{◌≡◌, ℕ, ◌⊎◌, inl, inr, Bool, true, false, List, [], ◌∷◌, Option, Some, None, Result, Ok, Err, nat_lt, if◌then◌else◌, refl, sym, ap, ◌∙◌, subst, append-nil}
+use Rattle.std.proofs.Common.{◌≡◌, ℕ, ◌⊎◌, inl, inr, Bool, true, false, List, [], ◌∷◌, Option, Some, None, is_some, Result, Ok, Err, nat_lt, if◌then◌else◌, refl, sym, ap, ◌∙◌, subst, append-nil}
 use Rattle.std.specs.Option.{option_map}
 use Rattle.gsl_base.specs.Checked.{Checked, ◌>>=◌}
 use Rattle.gsl_base.specs.declared.fault.Fault.{Fault}
@@ -9,7 +9,7 @@ use Rattle.gsl_base.specs.declared.fault.Refusal.TheVariants as refusal
 use Rattle.gsl_base.specs.declared.token.Token.{Token}
 use Rattle.gsl_macros.specs.Expanding.{Trace, ended, faulted, give}
 use Rattle.gsl_macros.specs.declared.stream.Hid.{Hid}
-use Rattle.gsl_nesting.specs.Passing.{Passed, passed}
+use Rattle.gsl_nesting.specs.Passing.{Passed, passed, passed_on}
 use Rattle.gsl_pp.specs.Feeding.{Tells, Faults}
 use Rattle.gsl_pp.specs.Unit.{live_of, live_tokens, live_trace}
 use Rattle.gsl_syntax.specs.Nesting.{Counters, weight, begins_list, before_label, goes_on, counted, deep_from}
@@ -139,6 +139,48 @@ none_held place p nesting now held after fault later n same h a = (
   ap (λ x. (given_of nesting place (waits x fault later)).tokens) h ∙ ap (λ x. (given_of x place (waits None fault later)).tokens) n ∙ none_seen p place fault later,
   ap (λ x. given_of x place (waits after fault later)) same ∙ ap (λ x. given_of nesting place (waits x fault later)) (a ∙ sym h),
 )
+
+-- ---- by whether a token nested too deeply before, and whether the next one does
+
+none_of : (x : Option Passed) → false ≡ is_some x → x ≡ None
+none_of None e = refl
+none_of (Some p) e = absurd cc
+
+pub depth_within : (nesting : Option Passed) (place : Place) → true ≡ is_some nesting → None ≡ depth_fault nesting place
+depth_within None place e = absurd cc
+depth_within (Some p) place e = refl
+
+pub depth_beyond : (nesting : Option Passed) (place : Place) → false ≡ is_some nesting → Some (too_deep_at place) ≡ depth_fault nesting place
+depth_beyond None place e = refl
+depth_beyond (Some p) place e = absurd cc
+
+pub none_beyond : (place : Place) (nesting : Option Passed) (c : Coming) → false ≡ is_some nesting
+    → ((given_of nesting place c).tokens ≡ []) × (given_of nesting place c ≡ given_of nesting place c) × (nesting ≡ None)
+none_beyond place nesting c e = let none = none_of nesting e in let n = none_deep place nesting nesting c none none in (n.0, n.1, none)
+
+pub none_within : (place : Place) (nesting : Option Passed) (held after : Option Token) (fault : Option Fault) (later : Coming) → true ≡ is_some nesting → held ≡ None → after ≡ None
+    → ((given_of nesting place (waits held fault later)).tokens ≡ []) × (given_of nesting place (waits after fault later) ≡ given_of nesting place (waits held fault later))
+none_within place None held after fault later e h a = absurd cc
+none_within place (Some p) held after fault later e h a = none_held place p (Some p) (Some p) held after fault later refl refl h a
+
+module _ (t : Token) (place : Place) (holds : Option Token) (fault after : Option Fault) (held : Option Token) (later more : Coming) (h : holds ≡ Some t) (e : waits held after more ≡ unless fault later)
+    (on : Bool) (g : on ≡ goes_on_with held) where
+  passes : (p : Passed) (was now : Option Passed) → was ≡ Some p → now ≡ passed_on was on t.kind → passed p (goes_on_with held) t.kind ≡ now
+  passes p was now w n = ap (λ b. passed p b t.kind) (sym g) ∙ sym (ap (λ x. passed_on x on t.kind) w) ∙ sym n
+
+  pub passed_given : (at : Place) (nesting was now : Option Passed) → true ≡ is_some nesting → was ≡ nesting → now ≡ passed_on was on t.kind → true ≡ is_some now
+      → given_of nesting place (waits holds fault later) ≡ first_comes t (given_of now at (waits held after more))
+  passed_given at None was now s w n d = absurd cc
+  passed_given at (Some p) was None s w n d = absurd cc
+  passed_given at (Some p) was (Some q) s w n d = next_given p t place (Some p) holds fault after held later more refl h e q at (passes p was (Some q) w n)
+
+  pub passed_deep : (nesting was now : Option Passed) → true ≡ is_some nesting → was ≡ nesting → now ≡ passed_on was on t.kind → false ≡ is_some now
+      → ((given_of nesting place (waits holds fault later)).tokens ≡ []) × (given_of now t.place (waits held after more) ≡ given_of nesting place (waits holds fault later)) × (now ≡ None)
+  passed_deep None was now s w n d = absurd cc
+  passed_deep (Some p) was now s w n d =
+      let none = none_of now d in
+      let r = next_deep p t place (Some p) holds fault after held later more refl h e now none (passes p was now w n ∙ none) in
+      (r.0, r.1, none)
 
 -- ---- all of it
 

@@ -8,7 +8,7 @@ ghost use Rattle.gsl_supply.specs.Supplying as spec;
 
 use crate::source::Source;
 use gsl_base::{Code, Fault, Memory, Place, Refusal, Token};
-use gsl_nesting::{Nesting, is_continuation};
+use gsl_nesting::{Depth, is_continuation};
 use gsl_pp::Feed;
 use std::alloc::Global;
 
@@ -21,7 +21,7 @@ pub struct Supply<'a> {
     /// The fault of the feed, once it was met.
     fault: Option<Fault>,
     /// Behind the tokens that were given, unless the next one nests too deeply.
-    nesting: Option<Nesting>,
+    nesting: Depth,
     /// Where the one stands that does.
     place: Place,
     /// How many tokens were given.
@@ -57,7 +57,7 @@ impl<'a> Supply<'a> {
             },
             held: None,
             fault: None,
-            nesting: Some(Nesting::new(alloc)),
+            nesting: Depth::new(alloc),
             place: Place { unit: 0, line: 0 },
             count: 0,
         };
@@ -86,25 +86,20 @@ impl<'a> Supply<'a> {
     pub fn next(&mut self) -> Result<Option<Token>, Memory>
         ensures { spec.Given result self.old self.new }
     {
-        let Some(nesting) = self.nesting.take() else {
+        if !self.nesting.is_within() {
             return Ok(None);
-        };
+        }
         let Some(token) = self.held.take() else {
-            self.nesting = Some(nesting);
             return Ok(None);
         };
         self.refill()?;
-        match nesting.passed(&token.kind, goes_on(&self.held))? {
-            Some(nesting) => {
-                self.nesting = Some(nesting);
-                self.count = one_more(self.count)?;
-                Ok(Some(token))
-            }
-            None => {
-                self.place = token.place;
-                Ok(None)
-            }
+        self.nesting.pass(&token.kind, goes_on(&self.held))?;
+        if !self.nesting.is_within() {
+            self.place = token.place;
+            return Ok(None);
         }
+        self.count = one_more(self.count)?;
+        Ok(Some(token))
     }
 
     /// The fault that goes before any of the grammar's, if there is one. All of the tokens are drawn for it.
@@ -133,16 +128,17 @@ impl<'a> Supply<'a> {
     }
 }
 
-fn depth_fault(nesting: &Option<Nesting>, place: Place) -> Option<Fault>
+#[tactic(auto, using(crate::proofs::Supplied::depth_within, crate::proofs::Supplied::depth_beyond))]
+fn depth_fault(nesting: &Depth, place: Place) -> Option<Fault>
     ensures { result ≡ spec.depth_fault nesting.now place }
 {
-    match nesting {
-        None => Some(Fault {
-            place,
-            code: Code::E0902,
-        }),
-        Some(_) => None,
+    if nesting.is_within() {
+        return None;
     }
+    Some(Fault {
+        place,
+        code: Code::E0902,
+    })
 }
 
 /// Whether the statement goes on with this token, where there is one.

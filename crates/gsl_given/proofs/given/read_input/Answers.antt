@@ -1,8 +1,9 @@
 use Rattle.std.proofs.Common.{[], Err, Ok, ap, inl, inr, ◌∙◌}
 use Rattle.std.proofs.lemmas.Result.{err_from_is_err_and}
-use Rattle.gsl_given.specs.Given.{Got, and_then, buffers_found, push_found, with_files}
+use Rattle.gsl_given.specs.Given.{Got, and_then, buffers_found, push_found, push_names, with_files}
 use Rattle.gsl_given.proofs.Found.{stops_both, goes_on}
 use Rattle.gsl_given.proofs.Lines.{from_none, later_rise, lines_named, same_failure}
+use Rattle.gsl_given.proofs.Reached.{behind_lines, lines_read, push_read}
 use Rattle.gsl_given.proofs.given.read_input.Goals as goal
 
 pub returns-in_err-given-clause-told : goal.returns-in_err-given-clause-told
@@ -37,5 +38,22 @@ returns-in_err-push-clause-failed g c = λ e.
     let rose = c.in_err-push.ensures.failed (same_failure c.in_err-push.field-0.0 (rw (p.1, p.2) at e)) in (
       rose.0,
       inr rose.1,
+      later_rise (g.H.Host.faults c.args.host.now) (g.H.Host.faults c.read_buffers.new.host) (g.H.Host.faults c.read_push.new.host) rose.0 c.in_ok-given.ensures.faults rose.2,
+    )
+
+pub returns-in_err-given-clause-reached : goal.returns-in_err-given-clause-reached
+returns-in_err-given-clause-reached g c = λ files told e.
+    let p = err_from_is_err_and c.from_residual.result c.from_residual.ensures.1 in
+    let rose = c.in_err-given.ensures.reached files told (same_failure c.in_err-given.field-0.0 (rw (p.1, p.2) at e)) in
+    (rose.0, lines_read files c.args.manifest.buffers c.as_slice.result.now (push_names c.args.manifest.push) rose.0 c.as_slice.ensures rose.1, rose.2)
+
+pub returns-in_err-push-clause-reached : goal.returns-in_err-push-clause-reached
+returns-in_err-push-clause-reached g c = λ files told e.
+    let p = err_from_is_err_and c.from_residual-in_err-push.result c.from_residual-in_err-push.ensures.1 in
+    let rose = c.in_err-push.ensures.failed (same_failure c.in_err-push.field-0.0 (rw (p.1, p.2) at e)) in (
+      rose.0,
+      behind_lines files [] c.args.manifest.buffers c.in_ok-given.given (push_names c.args.manifest.push) rose.0
+          (from_none files c.new.result c.args.manifest.buffers c.as_slice.result.now (Ok c.in_ok-given.given) c.new.ensures c.as_slice.ensures (c.in_ok-given.ensures.told files told))
+          (push_read files c.args.manifest.push rose.0 rose.1),
       later_rise (g.H.Host.faults c.args.host.now) (g.H.Host.faults c.read_buffers.new.host) (g.H.Host.faults c.read_push.new.host) rose.0 c.in_ok-given.ensures.faults rose.2,
     )

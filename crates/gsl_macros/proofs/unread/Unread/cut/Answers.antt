@@ -1,4 +1,4 @@
-use Rattle.std.proofs.Common.{length, reverse, ap, sym, ◌∙◌}
+use Rattle.std.proofs.Common.{length, reverse, ap, ◌∙◌}
 use Rattle.gsl_macros.proofs.Reversed.{last_ones, first_ones}
 use Rattle.gsl_macros.proofs.unread.Unread.cut.Goals as goal
 

@@ -1,4 +1,4 @@
-use Rattle.std.proofs.Common.{ap, sym, length, reverse, ◌∙◌}
+use Rattle.std.proofs.Common.{ap, length, reverse, ◌∙◌}
 use Rattle.gsl_macros.proofs.Reversed.{first_ones}
 use Rattle.gsl_macros.proofs.unread.Unread.skip.Goals as goal
 

@@ -1,4 +1,4 @@
-use Rattle.std.proofs.Common.{refl, sym, ap, map, ◌∷◌, [], if◌then◌else◌, ◌∙◌}
+use Rattle.std.proofs.Common.{refl, sym, ◌∙◌}
 use Rattle.std.proofs.lemmas.Result.{err_from_is_err_and}
 use Rattle.gsl_pp.proofs.Fed.{turn_line, turn_fault, turn_text}
 use Rattle.gsl_pp.proofs.feed.Feed.turn.Goals as goal

@@ -1,0 +1,5 @@
+pub mod Verdicts
+pub mod Keeping
+pub mod Unique
+pub mod Readings
+pub mod Runs

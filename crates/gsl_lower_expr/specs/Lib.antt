@@ -1,0 +1,4 @@
+pub mod Parts
+pub mod Lowering
+pub mod Coming
+pub mod Rows

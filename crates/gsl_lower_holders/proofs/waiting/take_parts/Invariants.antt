@@ -1,0 +1,7 @@
+use Rattle.std.proofs.Common.{◌≡◌, drop}
+use Rattle.gsl_lower_holders.specs.Flow.{each, flow_of, with_front}
+use Rattle.gsl_lower_holders.specs.Waiting as spec
+use Rattle.gsl_lower_holders.proofs.waiting.take_parts.Given as goal
+
+abbrev pub invariant-loop-k : goal.invariant-loop-k
+invariant-loop-k l = with_front l.all (each spec.take_part (drop l.k l.parts) (flow_of l.b l.p)) ≡ each spec.take_part l.parts (flow_of l.initial.b l.p)

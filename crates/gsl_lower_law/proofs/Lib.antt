@@ -1,0 +1,12 @@
+pub mod Adding
+pub mod Joining
+pub mod Giving
+pub mod Plain
+pub mod Typed
+pub mod Unaries
+pub mod Components
+pub mod Gathers
+pub mod Fixed
+pub mod Constants
+pub mod Picking
+pub mod Replacing

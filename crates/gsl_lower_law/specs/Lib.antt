@@ -1,0 +1,4 @@
+pub mod Stretches
+pub mod Values
+pub mod Computing
+pub mod Operands

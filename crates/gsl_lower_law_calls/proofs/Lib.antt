@@ -1,0 +1,5 @@
+pub mod Calls
+pub mod Facts
+pub mod Extended
+pub mod Arguments
+pub mod Called

@@ -1,0 +1,4 @@
+pub mod Reached
+pub mod Reading
+pub mod Writing
+pub mod Pointed

@@ -1,0 +1,5 @@
+pub mod Keeping
+pub mod Runs
+pub mod Done
+pub mod Readings
+pub mod Unique

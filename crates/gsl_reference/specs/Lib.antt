@@ -1,0 +1,4 @@
+pub mod Texts
+pub mod Asked
+pub mod Owed
+pub mod Steps

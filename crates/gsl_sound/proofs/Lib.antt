@@ -1,0 +1,9 @@
+pub mod Moving
+pub mod Entering
+pub mod Ready
+pub mod Valued
+pub mod Memories
+pub mod Leaving
+pub mod Steps
+pub mod Started
+pub mod Never

@@ -1,0 +1,15 @@
+#!/usr/bin/env bash
+# Runs the compute shaders of the cases of `gsl_reference` through glslang and Mesa's software Vulkan driver, where they are installed, and compares the
+# words of their buffers with those of the cases.
+set -eu
+top=$(cd "$(dirname "$0")/.." && pwd)
+driver=$(ls /usr/share/vulkan/icd.d/lvp_icd*.json 2>/dev/null | head -1)
+if ! command -v glslangValidator >/dev/null || [ -z "$driver" ] || [ ! -e /usr/include/vulkan/vulkan.h ]; then
+  echo "Debian's glslang-tools, mesa-vulkan-drivers and libvulkan-dev are not all installed: nothing was compared"
+  exit 0
+fi
+made=$(mktemp -d)
+trap 'rm -rf "$made"' EXIT
+cc -O1 -Wall -o "$made/host" "$top/tests/vulkan_host.c" -lvulkan
+reference="$top/crates/gsl_reference"
+VK_ICD_FILENAMES=$driver VK_DRIVER_FILES=$driver python3 "$top/tests/driver.py" "$reference/data/reference.cases" "$reference/stdout" "$made/host"
