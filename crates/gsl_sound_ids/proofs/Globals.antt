@@ -91,7 +91,7 @@ unpointed ids number (v ∷ vs) id none =
     ∙ elim (cases_Bool (id == v.id)) [ inl same ↦ absurd (none v (inl refl) (sym (eqb-true id v.id same))) | inr differ ↦ cond-false _ _ _ differ ]
 
 module _ (m : Module) where
-  unblocked : (ids : Ids) (vs : List Variable) (id : ℕ) → ((v : Variable) → Among v vs → v.id ≡ id → ⊥) → point_blocks m ids vs id ≡ ids id
+  pub unblocked : (ids : Ids) (vs : List Variable) (id : ℕ) → ((v : Variable) → Among v vs → v.id ≡ id → ⊥) → point_blocks m ids vs id ≡ ids id
   unblocked ids [] id none = refl
   unblocked ids (v ∷ vs) id none =
       unblocked (give ids v.id (Points (InBlock v.id 0 (pointee m v.type)))) vs id (λ w among same. none w (inr among) same)
@@ -155,26 +155,26 @@ block_is_outer class is = elim (cases_Bool (class == storage_class.FUNCTION)) [
 ]
 
 module _ (m : Module) (kept : Kept m) where
-  among_all : (v : Variable) → Among v (all_variables m) → variable_is (defined_as m v.id) ≡ Some v
+  pub among_all : (v : Variable) → Among v (all_variables m) → variable_is (defined_as m v.id) ≡ Some v
   among_all v among =
       gathered (λ i. variable_is (read i)) v (outside_of m) (variable_is (defined_as m v.id) ≡ Some v) (λ i code. Has code i) (λ i code. inl refl) (λ i j code later. inr later) among
       (λ i has is. ap variable_is (outer_own m kept i v has is) ∙ is)
 
-  value_held : (w v : Variable) → holds_value w ≡ Some v → (w ≡ v) × (is_block_class v.class ≡ false)
+  pub value_held : (w v : Variable) → holds_value w ≡ Some v → (w ≡ v) × (is_block_class v.class ≡ false)
   value_held w v is = by_class (is_block_class w.class) refl is
     where
       by_class : (b : Bool) → is_block_class w.class ≡ b → (if b then None else Some w) ≡ Some v → (w ≡ v) × (is_block_class v.class ≡ false)
       by_class true class is = absurd (cc)
       by_class false class is = let same : w ≡ v = cc in (same, ap (λ x. is_block_class x.class) (sym same) ∙ class)
 
-  block_held : (w v : Variable) → holds_block w ≡ Some v → (w ≡ v) × (is_block_class v.class ≡ true)
+  pub block_held : (w v : Variable) → holds_block w ≡ Some v → (w ≡ v) × (is_block_class v.class ≡ true)
   block_held w v is = by_class (is_block_class w.class) refl is
     where
       by_class : (b : Bool) → is_block_class w.class ≡ b → (if b then Some w else None) ≡ Some v → (w ≡ v) × (is_block_class v.class ≡ true)
       by_class true class is = let same : w ≡ v = cc in (same, ap (λ x. is_block_class x.class) (sym same) ∙ class)
       by_class false class is = absurd (cc)
 
-  among_values : (v : Variable) → Among v (value_variables m) → (variable_is (defined_as m v.id) ≡ Some v) × (is_block_class v.class ≡ false)
+  pub among_values : (v : Variable) → Among v (value_variables m) → (variable_is (defined_as m v.id) ≡ Some v) × (is_block_class v.class ≡ false)
   among_values v among =
       gathered holds_value v (all_variables m) ((variable_is (defined_as m v.id) ≡ Some v) × (is_block_class v.class ≡ false)) Among (λ w vs. inl refl) (λ w x vs later. inr later) among
       (λ w all is. let h = value_held w v is in (among_all v (subst (λ x. Among x (all_variables m)) h.0 all), h.1))
@@ -215,11 +215,11 @@ module _ (m : Module) (kept : Kept m) where
           let stands = pointer_needs (defined f.before) (read f.instr) t.0 (ap target_of (f.reads ∙ sym is) ∙ t.1) (and_parts (list_all (defined f.before) (needs (read f.instr))) _ f.keeps.uses).0 in
           ap (λ x. defined (whole m) (pointee_of x)) t.1 ∙ kept_behind m (f.instr ∷ f.before) f.code t.0.pointee f.later (or_right (defines f.instr t.0.pointee) _ stands)
 
-  same_variable : (id : ℕ) (v w : Variable) → variable_is (defined_as m id) ≡ Some v → variable_is (defined_as m w.id) ≡ Some w → w.id ≡ id → w ≡ v
+  pub same_variable : (id : ℕ) (v w : Variable) → variable_is (defined_as m id) ≡ Some v → variable_is (defined_as m w.id) ≡ Some w → w.id ≡ id → w ≡ v
   same_variable id v w here there same = let both : Some w ≡ Some v = sym there ∙ ap (λ n. variable_is (defined_as m n)) same ∙ here in cc
 
   -- an id that is no variable's
-  constant_passes : (id : ℕ) → variable_is (defined_as m id) ≡ None → globals m id ≡ constant_held m id
+  pub constant_passes : (id : ℕ) → variable_is (defined_as m id) ≡ None → globals m id ≡ constant_held m id
   constant_passes id none =
       unblocked m (point_each (constant_held m) 0 (value_variables m)) (block_variables m) id (λ v among same. let over : None ≡ Some v = sym none ∙ ap (λ n. variable_is (defined_as m n)) (sym same) ∙ (among_blocks v among).0 in absurd (cc))
       ∙ unpointed (constant_held m) 0 (value_variables m) id (λ v among same. let over : None ≡ Some v = sym none ∙ ap (λ n. variable_is (defined_as m n)) (sym same) ∙ (among_values v among).0 in absurd (cc))

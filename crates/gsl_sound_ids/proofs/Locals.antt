@@ -142,8 +142,7 @@ more_variables m count more (Some t) (Whole v) room of = absurd of
 more_variables m count more (Some t) (Points (InBlock variable offset pointee)) room of = of
 more_variables m count more (Some t) (Points (InVariable number path)) room of = omega (arith, of, room)
 
-module _ (m : Module) (kept : Kept m) (returned : ℕ) (body : List Placed) (start : Code) (spot : Spot m body returned start body) (types : List ℕ) (taken : AreTaken m types (machine.parameters_of body)) (held : List Held) (count : ℕ) (are : AreHeld m count types held)
-    (room : length (value_variables m) ≤ count) where
+module _ (m : Module) (kept : Kept m) (returned : ℕ) (body : List Placed) (start : Code) (spot : Spot m body returned start body) (types : List ℕ) (taken : AreTaken m types (machine.parameters_of body)) (held : List Held) (count : ℕ) where
   locals : AllByRecursion (IsLocal m) body
   locals = walk m kept body returned (IsLocal m) (is_local_one m) start body spot
 
@@ -156,64 +155,65 @@ module _ (m : Module) (kept : Kept m) (returned : ℕ) (body : List Placed) (sta
       let l = local_is m v body locals among in
       absurd (true≢false (sym l.1 ∙ outside v (ap (λ n. variable_is (defined_as m n)) (sym same) ∙ l.0))))
 
-  lasts : (id : ℕ) → ((v : Variable) → variable_is (defined_as m id) ≡ Some v → (v.class == storage_class.FUNCTION) ≡ false) → takes (kind (defined_as m id)) ≡ false → Own id ≡ globals m id
+  pub lasts : (id : ℕ) → ((v : Variable) → variable_is (defined_as m id) ≡ Some v → (v.class == storage_class.FUNCTION) ≡ false) → takes (kind (defined_as m id)) ≡ false → Own id ≡ globals m id
   lasts id outside none = no_variable id outside ∙ untaken m count id (globals m) types (machine.parameters_of body) held taken none
 
-  given_before : (id type : ℕ) → type_of (defined_as m id) ≡ Some type → is_void m type ≡ false → usable_as [] [] id (defined_as m id) ≡ true → ((v : Variable) → variable_is (defined_as m id) ≡ Some v → (v.class == storage_class.FUNCTION) ≡ false) → takes (kind (defined_as m id)) ≡ false
-      → IsGiven m (count + length (variables_of body)) type (Own id)
-  given_before id type typed full usable outside none =
-      let g = (globals_agree m kept (count + length (variables_of body)) (omega (arith, room))).given id type typed full usable in
-      record { it = g.it; is = lasts id outside none ∙ g.is; of = g.of }
+  module _ (are : AreHeld m count types held) (room : length (value_variables m) ≤ count) where
+    given_before : (id type : ℕ) → type_of (defined_as m id) ≡ Some type → is_void m type ≡ false → usable_as [] [] id (defined_as m id) ≡ true → ((v : Variable) → variable_is (defined_as m id) ≡ Some v → (v.class == storage_class.FUNCTION) ≡ false) → takes (kind (defined_as m id)) ≡ false
+        → IsGiven m (count + length (variables_of body)) type (Own id)
+    given_before id type typed full usable outside none =
+        let g = (globals_agree m kept (count + length (variables_of body)) (omega (arith, room))).given id type typed full usable in
+        record { it = g.it; is = lasts id outside none ∙ g.is; of = g.of }
 
-  local_given : (id type : ℕ) (v : Variable) → kind (defined_as m id) ≡ Holds v → v.type ≡ type → defined (bare body) id ≡ true → IsGiven m (count + length (variables_of body)) type (Own id)
-  local_given id type v is same here =
-      let e = ap variable_in is in
-      let among = among_local m id v body locals here e in
-      let p = pointed (give_each (globals m) (machine.parameters_of body) held) count (variables_of body) (count + length (variables_of body)) id v (omega arith) among (own_id m kept id v e) in
-      let t = (local_is m v body locals among).2 in
-      let low = p.below in
-      record {
-        it = Points (InVariable p.number []);
-        is = p.is;
-        of = subst (λ x. IsOf m (count + length (variables_of body)) x (Points (InVariable p.number []))) (sym (ap (λ n. target_of (defined_as m n)) (sym same) ∙ t.1)) low;
-      }
+    local_given : (id type : ℕ) (v : Variable) → kind (defined_as m id) ≡ Holds v → v.type ≡ type → defined (bare body) id ≡ true → IsGiven m (count + length (variables_of body)) type (Own id)
+    local_given id type v is same here =
+        let e = ap variable_in is in
+        let among = among_local m id v body locals here e in
+        let p = pointed (give_each (globals m) (machine.parameters_of body) held) count (variables_of body) (count + length (variables_of body)) id v (omega arith) among (own_id m kept id v e) in
+        let t = (local_is m v body locals among).2 in
+        let low = p.below in
+        record {
+          it = Points (InVariable p.number []);
+          is = p.is;
+          of = subst (λ x. IsOf m (count + length (variables_of body)) x (Points (InVariable p.number []))) (sym (ap (λ n. target_of (defined_as m n)) (sym same) ∙ t.1)) low;
+        }
 
-  parameter_given : (id type : ℕ) → kind (defined_as m id) ≡ Takes type → defined (bare body) id ≡ true → IsGiven m (count + length (variables_of body)) type (Own id)
-  parameter_given id type is here =
-      let t = taken_as m count id (globals m) types (machine.parameters_of body) held taken are (listed m id type body locals here is) in
-      record {
-        it = t.it;
-        is = no_variable id (λ v variable. let over : None ≡ Some v = sym (ap variable_in is) ∙ variable in absurd (cc)) ∙ t.is;
-        of = more_variables m count (count + length (variables_of body)) (target_of (defined_as m type)) t.it (omega arith) (t.of type is);
-      }
+    parameter_given : (id type : ℕ) → kind (defined_as m id) ≡ Takes type → defined (bare body) id ≡ true → IsGiven m (count + length (variables_of body)) type (Own id)
+    parameter_given id type is here =
+        let t = taken_as m count id (globals m) types (machine.parameters_of body) held taken are (listed m id type body locals here is) in
+        record {
+          it = t.it;
+          is = no_variable id (λ v variable. let over : None ≡ Some v = sym (ap variable_in is) ∙ variable in absurd (cc)) ∙ t.is;
+          of = more_variables m count (count + length (variables_of body)) (target_of (defined_as m type)) t.it (omega arith) (t.of type is);
+        }
 
-  -- what lasts for the function
-  pub own_agree : Agrees m (count + length (variables_of body)) (bare body) [] Own
-  own_agree = record {
-    given = λ id type typed full usable. by_sort id type typed full usable (sorted (kind (defined_as m id)) type typed);
-    blocks = λ id v is class. lasts id (λ w other. let same : Some w ≡ Some v = sym other ∙ is in let e : w ≡ v = cc in ap (λ x. x.class == storage_class.FUNCTION) e ∙ block_is_outer v.class class) (by_variable (kind (defined_as m id)) v is)
-        ∙ (globals_agree m kept count room).blocks id v is class;
-  }
-    where
-      by_variable : (k : Kind) (v : Variable) → variable_in k ≡ Some v → takes k ≡ false
-      by_variable (Takes type) v is = absurd (cc)
-      by_variable _ v is = refl
+    -- what lasts for the function
+    pub own_agree : Agrees m (count + length (variables_of body)) (bare body) [] Own
+    own_agree = record {
+      given = λ id type typed full usable. by_sort id type typed full usable (sorted (kind (defined_as m id)) type typed);
+      blocks = λ id v is class. lasts id (λ w other. let same : Some w ≡ Some v = sym other ∙ is in let e : w ≡ v = cc in ap (λ x. x.class == storage_class.FUNCTION) e ∙ block_is_outer v.class class) (by_variable (kind (defined_as m id)) v is)
+          ∙ (globals_agree m kept count room).blocks id v is class;
+    }
+      where
+        by_variable : (k : Kind) (v : Variable) → variable_in k ≡ Some v → takes k ≡ false
+        by_variable (Takes type) v is = absurd (cc)
+        by_variable _ v is = refl
 
-      by_class : (id type : ℕ) (v : Variable) → type_of (defined_as m id) ≡ Some type → is_void m type ≡ false → kind (defined_as m id) ≡ Holds v → v.type ≡ type → (b : Bool) → (v.class == storage_class.FUNCTION) ≡ b
-          → usable_as (bare body) [] id (defined_as m id) ≡ true → IsGiven m (count + length (variables_of body)) type (Own id)
-      by_class id type v typed full is same true class usable =
-          local_given id type v is same (ap (λ b. not b || defined (bare body) id) (sym class) ∙ ap (λ k. if gives_value k then false else (not (is_local k) || defined (bare body) id)) (sym is) ∙ usable)
-      by_class id type v typed full is same false class usable =
-          given_before id type typed full (ap (λ k. if gives_value k then false else (not (is_local k) || false)) is ∙ ap (λ b. not b || false) class)
-          (λ w other. let both : Some w ≡ Some v = sym other ∙ ap variable_in is in let e : w ≡ v = cc in ap (λ x. x.class == storage_class.FUNCTION) e ∙ class) (ap takes is)
+        by_class : (id type : ℕ) (v : Variable) → type_of (defined_as m id) ≡ Some type → is_void m type ≡ false → kind (defined_as m id) ≡ Holds v → v.type ≡ type → (b : Bool) → (v.class == storage_class.FUNCTION) ≡ b
+            → usable_as (bare body) [] id (defined_as m id) ≡ true → IsGiven m (count + length (variables_of body)) type (Own id)
+        by_class id type v typed full is same true class usable =
+            local_given id type v is same (ap (λ b. not b || defined (bare body) id) (sym class) ∙ ap (λ k. if gives_value k then false else (not (is_local k) || defined (bare body) id)) (sym is) ∙ usable)
+        by_class id type v typed full is same false class usable =
+            given_before id type typed full (ap (λ k. if gives_value k then false else (not (is_local k) || false)) is ∙ ap (λ b. not b || false) class)
+            (λ w other. let both : Some w ≡ Some v = sym other ∙ ap variable_in is in let e : w ≡ v = cc in ap (λ x. x.class == storage_class.FUNCTION) e ∙ class) (ap takes is)
 
-      by_sort : (id type : ℕ) → type_of (defined_as m id) ≡ Some type → is_void m type ≡ false → usable_as (bare body) [] id (defined_as m id) ≡ true
-          → ((value : Fixed) × (kind (defined_as m id) ≡ Fixes type value)) ⊎ (((v : Variable) × (kind (defined_as m id) ≡ Holds v) × (v.type ≡ type)) ⊎ ((kind (defined_as m id) ≡ Takes type) ⊎ (gives_value (kind (defined_as m id)) ≡ true)))
-          → IsGiven m (count + length (variables_of body)) type (Own id)
-      by_sort id type typed full usable (inl fixed) =
-          given_before id type typed full (ap (λ k. if gives_value k then false else (not (is_local k) || false)) fixed.1)
-          (λ w other. let over : None ≡ Some w = sym (ap variable_in fixed.1) ∙ other in absurd (cc)) (ap takes fixed.1)
-      by_sort id type typed full usable (inr (inl has)) = by_class id type has.0 typed full has.1 has.2 (has.0.class == storage_class.FUNCTION) refl usable
-      by_sort id type typed full usable (inr (inr (inl is))) =
-          parameter_given id type is (ap (λ k. if gives_value k then false else (not (is_local k) || defined (bare body) id)) (sym is) ∙ usable)
-      by_sort id type typed full usable (inr (inr (inr given))) = absurd (false≢true (ap (λ b. if b then false else (not (of_function (defined_as m id)) || defined (bare body) id)) (sym given) ∙ usable))
+        by_sort : (id type : ℕ) → type_of (defined_as m id) ≡ Some type → is_void m type ≡ false → usable_as (bare body) [] id (defined_as m id) ≡ true
+            → ((value : Fixed) × (kind (defined_as m id) ≡ Fixes type value)) ⊎ (((v : Variable) × (kind (defined_as m id) ≡ Holds v) × (v.type ≡ type)) ⊎ ((kind (defined_as m id) ≡ Takes type) ⊎ (gives_value (kind (defined_as m id)) ≡ true)))
+            → IsGiven m (count + length (variables_of body)) type (Own id)
+        by_sort id type typed full usable (inl fixed) =
+            given_before id type typed full (ap (λ k. if gives_value k then false else (not (is_local k) || false)) fixed.1)
+            (λ w other. let over : None ≡ Some w = sym (ap variable_in fixed.1) ∙ other in absurd (cc)) (ap takes fixed.1)
+        by_sort id type typed full usable (inr (inl has)) = by_class id type has.0 typed full has.1 has.2 (has.0.class == storage_class.FUNCTION) refl usable
+        by_sort id type typed full usable (inr (inr (inl is))) =
+            parameter_given id type is (ap (λ k. if gives_value k then false else (not (is_local k) || defined (bare body) id)) (sym is) ∙ usable)
+        by_sort id type typed full usable (inr (inr (inr given))) = absurd (false≢true (ap (λ b. if b then false else (not (of_function (defined_as m id)) || defined (bare body) id)) (sym given) ∙ usable))

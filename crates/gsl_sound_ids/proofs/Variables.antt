@@ -102,7 +102,7 @@ no_function : (v : Variable) (k : Kind) → variable_in k ≡ Some v → begins 
 no_function v (Begins type id function_type) is = absurd (cc)
 no_function v _ is = refl
 
-stays_out : (k : Kind) → begins k ≡ false → inside_after false k ≡ false
+pub stays_out : (k : Kind) → begins k ≡ false → inside_after false k ≡ false
 stays_out (Begins type id function_type) is = absurd (true≢false is)
 stays_out _ is = refl
 
@@ -139,7 +139,7 @@ variable_result (Some (instruction.Variable type r class initialiser)) v is =
     let e : record { type = type; id = r; class = class; initialiser = initialiser } ≡ v = cc in ap (λ w. Some w.id) e
 variable_result (Some d) v is = absurd (cc)
 
-has_front : (code : Code) (i : Instr) → Has (before_functions code) i → Has code i
+pub has_front : (code : Code) (i : Instr) → Has (before_functions code) i → Has code i
 has_front [] i has = has
 has_front (j ∷ code) i has = by_test (function_begins (read j)) (has_front code i) has
   where
