@@ -1,0 +1,4 @@
+pub mod Constants
+pub mod Texts
+pub mod Finishes
+pub mod Lasting
