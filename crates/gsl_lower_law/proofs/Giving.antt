@@ -13,7 +13,7 @@ use Rattle.gsl_valid.specs.Instruction.{read}
 use Rattle.gsl_valid.specs.Kinds.{Gives, kind}
 use Rattle.gsl_valid.specs.Placed.{Placed}
 use Rattle.gsl_machine.specs.Machine.{behind as going_on, run}
-use Rattle.gsl_machine.specs.State.{Held, Whole, Ids, State, give, giving_value, on}
+use Rattle.gsl_machine.specs.State.{Held, Whole, Ids, State, give, giving as yielding, on}
 use Rattle.gsl_machine.specs.Steps.{act}
 use Rattle.gsl_spv.specs.Calls as call
 use Rattle.gsl_spv.specs.Declarations.{instr}
@@ -31,11 +31,15 @@ use Rattle.gsl_lower_law.proofs.Joining.{keeps_then}
 abbrev pub with_id : ℕ → List ℕ → ℕ → ℕ → Instr
 with_id op operands type id = instr op (type ∷ id ∷ operands)
 
--- It gives this value, and leaves these choices.
-pub record Performs (m : Module) (input : Input) (op : ℕ) (operands : List ℕ) (type : ℕ) (state : State) (v : Value) (choices : List ℕ) : Type 0 where
+-- Its id stands for this then, and it leaves these choices.
+pub record Yields (m : Module) (input : Input) (op : ℕ) (operands : List ℕ) (type : ℕ) (state : State) (held : Held) (choices : List ℕ) : Type 0 where
   pub gives : (id : ℕ) → kind (read (with_id op operands type id)) ≡ Gives type
   pub named : (id : ℕ) → result (read (with_id op operands type id)) ≡ Some id
-  pub done : (id at : ℕ) (rest : List Placed) → on (read (with_id op operands type id)) (act m input at (record state { rest = rest })) ≡ giving_value (record state { rest = rest; choices = choices }) id v
+  pub done : (id at : ℕ) (rest : List Placed) → on (read (with_id op operands type id)) (act m input at (record state { rest = rest })) ≡ yielding (record state { rest = rest; choices = choices }) id held
+
+-- It gives this value.
+abbrev pub Performs : Module → Input → ℕ → List ℕ → ℕ → State → Value → List ℕ → Type 0
+Performs m input op operands type state v choices = Yields m input op operands type state (Whole v) choices
 
 -- ---- ids
 
@@ -72,21 +76,21 @@ give_ready ids own last held none r =
 -- ---- the step
 
 module _ (m : Module) (input : Input) (whole : Sections) where
-  put_does : (op : ℕ) (operands : List ℕ) (type : ℕ) (state : State) (v : Value) (choices : List ℕ) (before : Sections) → Performs m input op operands type state v choices
-      → Text m whole state.own → Ready before.last state.own state.ids → Comes m input whole (λ id ids. Stands ids id v) choices state before (behind (Made (before.last + 1) (call.take before).sections) (put_giving op type operands))
-  put_does op operands type state v choices before p text ready inside =
+  put_does : (op : ℕ) (operands : List ℕ) (type : ℕ) (state : State) (held : Held) (choices : List ℕ) (before : Sections) → Yields m input op operands type state held choices
+      → Text m whole state.own → Ready before.last state.own state.ids → Comes m input whole (λ id ids. ids id ≡ Some held) choices state before (behind (Made (before.last + 1) (call.take before).sections) (put_giving op type operands))
+  put_does op operands type state held choices before p text ready inside =
       let id = before.last + 1 in
       let i = with_id op operands type id in
       let none : state.own id ≡ None = text.apart i type id
       (subst (λ l. Contains l i) (sym inside.functions.is) (Contains-append_left (before.functions ++ i ∷ []) inside.functions.more i (Contains-append_right before.functions (i ∷ []) i (first_in i []))))
       (p.gives id) (p.named id) in
-      let both = give_ready state.ids state.own before.last (Whole v) none ready in
+      let both = give_ready state.ids state.own before.last held none ready in
       record {
         code = i ∷ [];
         puts = refl;
-        ids = give state.ids id (Whole v);
+        ids = give state.ids id held;
         leads = λ at rest. ap (λ o. going_on o (run m input 0)) (p.done id at rest);
-        is = give_same state.ids id (Whole v);
+        is = give_same state.ids id held;
         keeps = both.0;
         ready = both.1;
       }
@@ -99,15 +103,19 @@ module _ (m : Module) (input : Input) (whole : Sections) where
       by true = extends_then (extends_take before) (extends_put op (type ∷ (before.last + 1) ∷ operands) (call.take before).sections)
       by false = tt
 
-  pub giving_does : (op : ℕ) (operands : List ℕ) (type : ℕ) (state : State) (v : Value) (choices : List ℕ) (before : Sections) → (Text m whole state.own → Performs m input op operands type state v choices)
-      → Does m input whole (λ id ids. Stands ids id v) choices state before (giving op operands type)
+  pub yielding_does : (op : ℕ) (operands : List ℕ) (type : ℕ) (state : State) (held : Held) (choices : List ℕ) (before : Sections) → (Text m whole state.own → Yields m input op operands type state held choices)
+      → Does m input whole (λ id ids. ids id ≡ Some held) choices state before (giving op operands type)
   unfolding giving
-  giving_does op operands type state v choices before p = record {
+  yielding_does op operands type state held choices before p = record {
     grows = giving_grows op operands type before;
     comes = λ text ready. by text ready (nat_le (before.last + 1) MOST_IDS);
   }
     where
       by : Text m whole state.own → Ready before.last state.own state.ids → (b : Bool)
-          → Comes m input whole (λ id ids. Stands ids id v) choices state before (behind (if b then Made (before.last + 1) (call.take before).sections else Full) (put_giving op type operands))
-      by text ready true = put_does op operands type state v choices before (p text) text ready
+          → Comes m input whole (λ id ids. ids id ≡ Some held) choices state before (behind (if b then Made (before.last + 1) (call.take before).sections else Full) (put_giving op type operands))
+      by text ready true = put_does op operands type state held choices before (p text) text ready
       by text ready false = tt
+
+  pub giving_does : (op : ℕ) (operands : List ℕ) (type : ℕ) (state : State) (v : Value) (choices : List ℕ) (before : Sections) → (Text m whole state.own → Performs m input op operands type state v choices)
+      → Does m input whole (λ id ids. Stands ids id v) choices state before (giving op operands type)
+  giving_does op operands type state v choices before p = yielding_does op operands type state (Whole v) choices before p
