@@ -1,0 +1,4 @@
+pub mod Chains
+pub mod Loads
+pub mod Picked
+pub mod Reading
