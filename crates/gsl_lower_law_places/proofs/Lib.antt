@@ -2,3 +2,4 @@ pub mod Chains
 pub mod Loads
 pub mod Picked
 pub mod Reading
+pub mod Stored

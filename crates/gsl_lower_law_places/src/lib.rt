@@ -1,8 +1,9 @@
-//! Do the instructions that read what an expression leads to give what is there?
+//! Do the instructions that read and store where an expression leads do so?
 #![tactic(auto)]
 
 mod laws;
 
 pub use laws::{
-    extracts_compute, loads_compute, pointers_lead, values_are_read, variables_are_read,
+    extracts_compute, loads_compute, pointers_lead, stores_leave, values_are_read,
+    variables_are_read,
 };
