@@ -29,7 +29,7 @@ use Rattle.gsl_spv.proofs.Extending.{extends_then}
 use Rattle.gsl_lower_values.specs.Building.{Built, Made, Full, Step, given, id_by, ◌>>=◌}
 use Rattle.gsl_lower_values.specs.Types.{composed, filled_constant, scalar_constant, scalar_type, type_of, word_of_type}
 use Rattle.gsl_lower_law.specs.Values.{Keeps, Stands, StandEach, Text}
-use Rattle.gsl_lower_law.specs.Computing.{Comes, Does, Grows}
+use Rattle.gsl_lower_law.specs.Computing.{Comes, Does, Grows, drawing}
 use Rattle.gsl_lower_law.proofs.Adding.{extends_intern, intern_functions}
 use Rattle.gsl_lower_law.proofs.Joining.{does_then, given_does, grows_then}
 use Rattle.gsl_lower_law.proofs.Plain.{Any, IsType, asking_does, intern_does, scalar_type_does, type_does}
@@ -40,7 +40,7 @@ Lasts state v id ids = Stands state.own id v
 
 module _ (m : Module) (input : Input) (whole : Sections) where
   comes_so : {A : Type 0} (Is Then : A → Ids → Type 0) (choices : List ℕ) (state : State) (before : Sections) (built : Built A) → ((a : A) (ids : Ids) → Keeps state.own ids → Is a ids → Then a ids)
-      → Comes m input whole Is choices state before built → Comes m input whole Then choices state before built
+      → Comes m input whole Is (drawing state choices) state before built → Comes m input whole Then (drawing state choices) state before built
   comes_so Is Then choices state before Full so p = tt
   comes_so Is Then choices state before (Made a after) so p = λ inside.
       let r = p inside in record { code = r.code; puts = r.puts; ids = r.ids; leads = r.leads; is = so a r.ids r.ready.lasting r.is; keeps = r.keeps; ready = r.ready }

@@ -23,7 +23,7 @@ use Rattle.gsl_spv.proofs.Extending.{extends_then, extends_take}
 use Rattle.gsl_spv.proofs.Contained.{first_in}
 use Rattle.gsl_lower_values.specs.Building.{Made, Full, behind, giving, put_giving}
 use Rattle.gsl_lower_law.specs.Values.{Keeps, Ready, Stands, Text}
-use Rattle.gsl_lower_law.specs.Computing.{Grows, Comes, Does}
+use Rattle.gsl_lower_law.specs.Computing.{Grows, Comes, Does, drawing}
 use Rattle.gsl_lower_law.proofs.Adding.{extends_put}
 use Rattle.gsl_lower_law.proofs.Joining.{keeps_then}
 
@@ -77,7 +77,7 @@ give_ready ids own last held none r =
 
 module _ (m : Module) (input : Input) (whole : Sections) where
   put_does : (op : ℕ) (operands : List ℕ) (type : ℕ) (state : State) (held : Held) (choices : List ℕ) (before : Sections) → Yields m input op operands type state held choices
-      → Text m whole state.own → Ready before.last state.own state.ids → Comes m input whole (λ id ids. ids id ≡ Some held) choices state before (behind (Made (before.last + 1) (call.take before).sections) (put_giving op type operands))
+      → Text m whole state.own → Ready before.last state.own state.ids → Comes m input whole (λ id ids. ids id ≡ Some held) (drawing state choices) state before (behind (Made (before.last + 1) (call.take before).sections) (put_giving op type operands))
   put_does op operands type state held choices before p text ready inside =
       let id = before.last + 1 in
       let i = with_id op operands type id in
@@ -112,7 +112,7 @@ module _ (m : Module) (input : Input) (whole : Sections) where
   }
     where
       by : Text m whole state.own → Ready before.last state.own state.ids → (b : Bool)
-          → Comes m input whole (λ id ids. ids id ≡ Some held) choices state before (behind (if b then Made (before.last + 1) (call.take before).sections else Full) (put_giving op type operands))
+          → Comes m input whole (λ id ids. ids id ≡ Some held) (drawing state choices) state before (behind (if b then Made (before.last + 1) (call.take before).sections else Full) (put_giving op type operands))
       by text ready true = put_does op operands type state held choices before (p text) text ready
       by text ready false = tt
 

@@ -14,7 +14,7 @@ use Rattle.gsl_spv.proofs.Extending.{extends_then, extends_same}
 use Rattle.gsl_lower_values.specs.Building.{Built, Made, Full, Step, behind, given, ◌>>=◌}
 use Rattle.gsl_lower_law.specs.Stretches.{Leads}
 use Rattle.gsl_lower_law.specs.Values.{Keeps}
-use Rattle.gsl_lower_law.specs.Computing.{Reaches, Grows, Comes, Does}
+use Rattle.gsl_lower_law.specs.Computing.{Acts, Comes, Does, Grows, Left, Reaches, drawing, leaving}
 
 -- ---- stretches
 
@@ -69,36 +69,37 @@ module _ (m : Module) (input : Input) (whole : Sections) where
       by Full g = tt
       by (Made b after) g = extends_then p g
 
-  module _ {A B : Type 0} (Is : A → Ids → Type 0) (Then : B → Ids → Type 0) (choices left : List ℕ) (state : State) (before : Sections) where
-    reaches_then : (a : A) (between : Sections) (b : B) (after : Sections) (r : Reaches m input Is choices state before a between)
-        → Reaches m input Then left (record state { ids = r.ids; choices = choices }) between b after → Reaches m input Then left state before b after
+  module _ {A B : Type 0} (Is : A → Ids → Type 0) (Then : B → Ids → Type 0) (left last : Left) (state : State) (before : Sections) where
+    reaches_then : (a : A) (between : Sections) (b : B) (after : Sections) (r : Reaches m input Is left state before a between) → Reaches m input Then last (leaving state left r.ids) between b after → Reaches m input Then last state before b after
     reaches_then a between b after r s = record {
       code = r.code ++ s.code;
       puts = s.puts ∙ ap (λ l. l ++ s.code) r.puts ∙ append_assoc before.functions r.code s.code;
       ids = s.ids;
-      leads = leads_then m input r.code s.code state (record state { ids = r.ids; choices = choices }) (record state { ids = s.ids; choices = left }) r.leads s.leads;
+      leads = leads_then m input r.code s.code state (leaving state left r.ids) (leaving state last s.ids) r.leads s.leads;
       is = s.is;
       keeps = keeps_then r.keeps s.keeps;
       ready = s.ready;
     }
 
-    comes_behind : (a : A) (between : Sections) (second : Built B) → (Extends between whole → Reaches m input Is choices state before a between) → Grows between second
-        → ((r : Reaches m input Is choices state before a between) → Comes m input whole Then left (record state { ids = r.ids; choices = choices }) between second)
-        → Comes m input whole Then left state before second
+    comes_behind : (a : A) (between : Sections) (second : Built B) → (Extends between whole → Reaches m input Is left state before a between) → Grows between second
+        → ((r : Reaches m input Is left state before a between) → Comes m input whole Then last (leaving state left r.ids) between second) → Comes m input whole Then last state before second
     comes_behind a between Full first grows more = tt
     comes_behind a between (Made b after) first grows more = λ inside. let r = first (extends_then grows inside) in reaches_then a between b after r (more r inside)
 
-    comes_then : (first : Built A) (next : A → Step B) → ((a : A) (between : Sections) → Grows between (next a between)) → Comes m input whole Is choices state before first
-        → ((a : A) (between : Sections) (r : Reaches m input Is choices state before a between) → Comes m input whole Then left (record state { ids = r.ids; choices = choices }) between (next a between))
-        → Comes m input whole Then left state before (behind first next)
+    comes_then : (first : Built A) (next : A → Step B) → ((a : A) (between : Sections) → Grows between (next a between)) → Comes m input whole Is left state before first
+        → ((a : A) (between : Sections) (r : Reaches m input Is left state before a between) → Comes m input whole Then last (leaving state left r.ids) between (next a between)) → Comes m input whole Then last state before (behind first next)
     comes_then Full next grows p q = tt
     comes_then (Made a between) next grows p q = comes_behind a between (next a between) p (grows a between) (q a between)
 
-    -- one step behind another
-    pub does_then : (first : Step A) (next : A → Step B) → Does m input whole Is choices state before first → ((a : A) (between : Sections) → Grows between (next a between))
-        → ((a : A) (between : Sections) (ids : Ids) → Is a ids → Keeps state.ids ids → Does m input whole Then left (record state { ids = ids; choices = choices }) between (next a))
-        → Does m input whole Then left state before (first >>= next)
-    does_then first next p grows q = record {
+    -- one step behind another, each with what it leaves
+    pub acts_then : (first : Step A) (next : A → Step B) → Acts m input whole Is left state before first → ((a : A) (between : Sections) → Grows between (next a between))
+        → ((a : A) (between : Sections) (ids : Ids) → Is a ids → Keeps state.ids ids → Acts m input whole Then last (leaving state left ids) between (next a)) → Acts m input whole Then last state before (first >>= next)
+    acts_then first next p grows q = record {
       grows = grows_then before (first before) next p.grows grows;
       comes = λ text ready. comes_then (first before) next grows (p.comes text ready) (λ a between r. (q a between r.ids r.is r.keeps).comes text r.ready);
     }
+
+  -- the same of steps that store nothing
+  pub does_then : {A B : Type 0} (Is : A → Ids → Type 0) (Then : B → Ids → Type 0) (choices left : List ℕ) (state : State) (before : Sections) (first : Step A) (next : A → Step B) → Does m input whole Is choices state before first → ((a : A) (between : Sections) → Grows between (next a between))
+      → ((a : A) (between : Sections) (ids : Ids) → Is a ids → Keeps state.ids ids → Does m input whole Then left (record state { ids = ids; choices = choices }) between (next a)) → Does m input whole Then left state before (first >>= next)
+  does_then Is Then choices left state before first next p grows q = acts_then Is Then (drawing state choices) (drawing state left) state before first next p grows q

@@ -10,3 +10,4 @@ pub mod Fixed
 pub mod Constants
 pub mod Picking
 pub mod Replacing
+pub mod Putting

@@ -21,7 +21,7 @@ use Rattle.gsl_spv.proofs.Answering.{plain_once}
 use Rattle.gsl_lower_values.specs.Building.{Made, Full, given, id_by}
 use Rattle.gsl_lower_values.specs.Types.{plain_scalar, scalar_type, type_of, vector_type}
 use Rattle.gsl_lower_law.specs.Values.{Keeps, Ready, Text}
-use Rattle.gsl_lower_law.specs.Computing.{Grows, Comes, Does}
+use Rattle.gsl_lower_law.specs.Computing.{Grows, Comes, Does, drawing}
 use Rattle.gsl_lower_law.proofs.Adding.{extends_intern, intern_functions}
 use Rattle.gsl_lower_law.proofs.Joining.{does_then, given_does, keeps_same, leads_same}
 
@@ -35,7 +35,7 @@ module _ (m : Module) (input : Input) (whole : Sections) where
       grows_by true = grows
       grows_by false = tt
 
-      by : Text m whole state.own → Ready before.last state.own state.ids → (b : Bool) → Comes m input whole Is state.choices state before (if b then Made (ask before).id (ask before).sections else Full)
+      by : Text m whole state.own → Ready before.last state.own state.ids → (b : Bool) → Comes m input whole Is (drawing state state.choices) state before (if b then Made (ask before).id (ask before).sections else Full)
       by text ready true = λ inside. record {
         code = [];
         puts = same ∙ sym (append-nil before.functions);

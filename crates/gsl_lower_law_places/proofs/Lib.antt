@@ -1,0 +1,5 @@
+pub mod Chains
+pub mod Loads
+pub mod Picked
+pub mod Reading
+pub mod Stored

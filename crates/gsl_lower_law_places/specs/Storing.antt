@@ -1,0 +1,14 @@
+-- What a store leaves where a pointer leads (SPIR-V 1.0, 3.32.8).
+use Rattle.std.specs.Prelude.{◌≡◌, ℕ, List}
+use Rattle.gsl_base.specs.declared.input.Buffer.{Buffer}
+use Rattle.gsl_base.specs.declared.input.Input.{Input}
+use Rattle.gsl_words.specs.declared.module.Module.{Module}
+use Rattle.gsl_values.specs.declared.value.Value.{Value}
+use Rattle.gsl_valid.specs.Placed.{Placed}
+use Rattle.gsl_machine.specs.Memory.{storing}
+use Rattle.gsl_machine.specs.State.{Ids, Outcome, Pointer, State}
+
+-- A value that is stored where a pointer leads leaves these variables and buffers, whatever ids stand for and is still to come.
+abbrev pub Stores : Module → Input → State → Pointer → Value → List Value → List Buffer → Type 0
+Stores m input state to v variables buffers = (ids : Ids) (choices : List ℕ) (rest : List Placed) (go : State → Outcome)
+    → storing m input (record state { ids = ids; choices = choices; rest = rest }) to v go ≡ go (record state { ids = ids; choices = choices; rest = rest; variables = variables; buffers = buffers })

@@ -1,0 +1,53 @@
+//! Laws of the definitions: calls that do nothing, whose contracts are the laws.
+
+ghost use Rattle.std.specs.Prelude.{◌≡◌, ℕ, Option, Some, map, List};
+ghost use Rattle.gsl_base.specs.declared.input.Buffer.{Buffer};
+ghost use Rattle.gsl_base.specs.declared.input.Input.{Input};
+ghost use Rattle.gsl_words.specs.declared.module.Module.{Module};
+ghost use Rattle.gsl_values.specs.declared.value.Value.{Value};
+ghost use Rattle.gsl_tree.specs.Operations.{value_at};
+ghost use Rattle.gsl_tree.specs.Shapes.{Shape};
+ghost use Rattle.gsl_machine.specs.State.{Pointer, Points, State};
+ghost use Rattle.gsl_spv.specs.Sections.{Sections};
+ghost use Rattle.gsl_lower_places.specs.Reached.{stored_shape};
+ghost use Rattle.gsl_lower_places.specs.Reading.{extracted_shape, loaded, number_in, pointer, read};
+ghost use Rattle.gsl_lower_places.specs.Writing.{put_at};
+ghost use Rattle.gsl_lower_places.specs.declared.reached.Base.TheVariants as base;
+ghost use Rattle.gsl_lower_places.specs.declared.reached.Part.{Part};
+ghost use Rattle.gsl_lower_places.specs.declared.reached.Picked.{Picked};
+ghost use Rattle.gsl_lower_law.specs.Computing.{Acts, Computes, Does};
+ghost use Rattle.gsl_lower_law.specs.Operands.{converted_value};
+ghost use Rattle.gsl_lower_law.specs.Values.{IsOf, Stands};
+ghost use Rattle.gsl_lower_law_places.specs.Components.{HoldsComponents, Picks, picks_of};
+ghost use Rattle.gsl_lower_law_places.specs.Leading.{HoldsValue, LeadsTo, NumberEach};
+ghost use Rattle.gsl_lower_law_places.specs.Storing.{Stores};
+
+/// Where the parts of a variable are in bounds, the id that is given stands for a pointer to where they lead.
+pub fn pointers_lead()
+    ensures { (m : Module) (input : Input) (whole : Sections) (id class pointee : ℕ) (parts : List Part) (words : List ℕ) (from to : Pointer) (state : State) (before : Sections) → state.ids id ≡ Some (Points from) → NumberEach state.ids parts words → LeadsTo m input state from words to → Does m input whole (λ given ids. ids given ≡ Some (Points to)) state.choices state before (pointer id class pointee parts) }
+{}
+
+/// A scalar or vector is loaded from where the parts of a variable lead; a truth value of a block is a number there, and anything but zero is true.
+pub fn loads_compute()
+    ensures { (m : Module) (input : Input) (whole : Sections) (id class : ℕ) (shape : Shape) (parts : List Part) (words : List ℕ) (from to : Pointer) (v : Value) (state : State) (before : Sections) → state.ids id ≡ Some (Points from) → NumberEach state.ids parts words → LeadsTo m input state from words to → HoldsValue m input state to v → IsOf (stored_shape class shape) v → Computes m input whole (converted_value shape.0 v, state.choices) state before (loaded id class shape parts) }
+{}
+
+/// The part of a value to which known numbers lead.
+pub fn extracts_compute()
+    ensures { (m : Module) (input : Input) (whole : Sections) (id : ℕ) (shape : Shape) (parts : List Part) (v : Value) (state : State) (before : Sections) → Stands state.ids id v → Computes m input whole (value_at v (map number_in parts), state.choices) state before (extracted_shape id shape parts) }
+{}
+
+/// What is picked of a scalar or vector in a variable, by positions or by a word that is in bounds.
+pub fn variables_are_read()
+    ensures { (m : Module) (input : Input) (whole : Sections) (id class : ℕ) (shape : Shape) (parts : List Part) (p : Picked) (by : Option ℕ) (words : List ℕ) (from to : Pointer) (v : Value) (state : State) (before : Sections) → state.ids id ≡ Some (Points from) → NumberEach state.ids parts words → LeadsTo m input state from words to → HoldsComponents m input state to v → IsOf (stored_shape class p.shape) v → Picks state.ids p by → Computes m input whole (picks_of (converted_value p.shape.0 v) by p.positions, state.choices) state before (read shape (record { base = base.Variable id class; path = parts; picked = Some p })) }
+{}
+
+/// What is picked of a scalar or vector in a value that is in no variable, by positions or by a word that is in bounds.
+pub fn values_are_read()
+    ensures { (m : Module) (input : Input) (whole : Sections) (id type : ℕ) (shape : Shape) (parts : List Part) (p : Picked) (by : Option ℕ) (v : Value) (state : State) (before : Sections) → Stands state.ids id v → IsOf p.shape (value_at v (map number_in parts)) → Picks state.ids p by → Computes m input whole (picks_of (value_at v (map number_in parts)) by p.positions, state.choices) state before (read shape (record { base = base.Value id type; path = parts; picked = Some p })) }
+{}
+
+/// A scalar or vector is stored where the parts of a variable lead; a truth value of a block is a number there.
+pub fn stores_leave()
+    ensures { (m : Module) (input : Input) (whole : Sections) (id class : ℕ) (shape : Shape) (parts : List Part) (value : ℕ) (words : List ℕ) (from to : Pointer) (v : Value) (variables : List Value) (buffers : List Buffer) (state : State) (before : Sections) → state.ids id ≡ Some (Points from) → NumberEach state.ids parts words → LeadsTo m input state from words to → IsOf shape v → Stands state.ids value v → Stores m input state to (converted_value (stored_shape class shape).0 v) variables buffers → Acts m input whole (λ given ids. Unit {0}) (record { choices = state.choices; variables = variables; buffers = buffers }) state before (put_at id class shape parts value) }
+{}

@@ -1,0 +1,9 @@
+//! Do the instructions that read and store where an expression leads do so?
+#![tactic(auto)]
+
+mod laws;
+
+pub use laws::{
+    extracts_compute, loads_compute, pointers_lead, stores_leave, values_are_read,
+    variables_are_read,
+};
