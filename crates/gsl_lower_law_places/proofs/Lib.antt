@@ -3,3 +3,4 @@ pub mod Loads
 pub mod Picked
 pub mod Reading
 pub mod Stored
+pub mod Variables

@@ -1,13 +1,13 @@
 //! Laws of the definitions: calls that do nothing, whose contracts are the laws.
 
-ghost use Rattle.std.specs.Prelude.{◌≡◌, ℕ, Option, Some, map, List};
+ghost use Rattle.std.specs.Prelude.{◌≡◌, ℕ, Option, Some, map, List, slice_get};
 ghost use Rattle.gsl_base.specs.declared.input.Buffer.{Buffer};
 ghost use Rattle.gsl_base.specs.declared.input.Input.{Input};
 ghost use Rattle.gsl_words.specs.declared.module.Module.{Module};
 ghost use Rattle.gsl_values.specs.declared.value.Value.{Value};
 ghost use Rattle.gsl_tree.specs.Operations.{value_at};
 ghost use Rattle.gsl_tree.specs.Shapes.{Shape};
-ghost use Rattle.gsl_machine.specs.State.{Pointer, Points, State};
+ghost use Rattle.gsl_machine.specs.State.{InVariable, Pointer, Points, State};
 ghost use Rattle.gsl_spv.specs.Sections.{Sections};
 ghost use Rattle.gsl_lower_places.specs.Reached.{stored_shape};
 ghost use Rattle.gsl_lower_places.specs.Reading.{extracted_shape, loaded, number_in, pointer, read};
@@ -50,4 +50,9 @@ pub fn values_are_read()
 /// A scalar or vector is stored where the parts of a variable lead; a truth value of a block is a number there.
 pub fn stores_leave()
     ensures { (m : Module) (input : Input) (whole : Sections) (id class : ℕ) (shape : Shape) (parts : List Part) (value : ℕ) (words : List ℕ) (from to : Pointer) (v : Value) (variables : List Value) (buffers : List Buffer) (state : State) (before : Sections) → state.ids id ≡ Some (Points from) → NumberEach state.ids parts words → LeadsTo m input state from words to → IsOf shape v → Stands state.ids value v → Stores m input state to (converted_value (stored_shape class shape).0 v) variables buffers → Acts m input whole (λ given ids. Unit {0}) (record { choices = state.choices; variables = variables; buffers = buffers }) state before (put_at id class shape parts value) }
+{}
+
+/// A pointer into a variable that holds a value leads to what is there, and to each component of a vector.
+pub fn variables_hold_components()
+    ensures { (m : Module) (input : Input) (state : State) (number : ℕ) (path : List ℕ) (old v : Value) (shape : Shape) → slice_get state.variables number ≡ Some old → value_at old path ≡ v → IsOf shape v → HoldsComponents m input state (InVariable number path) v }
 {}
