@@ -4,3 +4,5 @@ pub mod Picked
 pub mod Reading
 pub mod Stored
 pub mod Variables
+pub mod Merged
+pub mod Kept

@@ -30,7 +30,7 @@ use Rattle.gsl_lower_law_places.specs.Leading.{HoldsValue, LeadsTo, NumberEach}
 use Rattle.gsl_lower_law_places.proofs.Chains.{pointer_does, pointer_grows, still_number}
 
 module _ (m : Module) (input : Input) where
-  loads : (type from_id : ℕ) (to : Pointer) (v : Value) (state : State) → state.ids from_id ≡ Some (Points to) → HoldsValue m input state to v → Performs m input op.LOAD (from_id ∷ []) type state v state.choices
+  pub loads : (type from_id : ℕ) (to : Pointer) (v : Value) (state : State) → state.ids from_id ≡ Some (Points to) → HoldsValue m input state to v → Performs m input op.LOAD (from_id ∷ []) type state v state.choices
   unfolding form_of
   loads type from_id to v state stands holds = record {
     gives = λ id. refl;

@@ -45,7 +45,7 @@ use Rattle.gsl_lower_law_places.proofs.Picked.{converted_words, one_picked, pick
 
 -- ---- one index more
 
-numbers_on : (ids : Ids) (parts more : List Part) (words ws : List ℕ) → NumberEach ids parts words → NumberEach ids more ws → NumberEach ids (parts ++ more) (words ++ ws)
+pub numbers_on : (ids : Ids) (parts more : List Part) (words ws : List ℕ) → NumberEach ids parts words → NumberEach ids more ws → NumberEach ids (parts ++ more) (words ++ ws)
 numbers_on ids [] more [] ws first second = second
 numbers_on ids [] more (word ∷ words) ws first second = absurd first
 numbers_on ids (part ∷ parts) more [] ws first second = absurd first
@@ -56,7 +56,7 @@ module _ (m : Module) (input : Input) (state : State) where
   through_on place from [] ws go = refl
   through_on place from (word ∷ words) ws go = ap (into m input place state from word) (λ i to. through_on place to words ws go i)
 
-  leads_on : (from to one : Pointer) (words ws : List ℕ) → LeadsTo m input state from words to → LeadsTo m input state to ws one → LeadsTo m input state from (words ++ ws) one
+  pub leads_on : (from to one : Pointer) (words ws : List ℕ) → LeadsTo m input state from words to → LeadsTo m input state to ws one → LeadsTo m input state from (words ++ ws) one
   leads_on from to one words ws first second place go = through_on place from words ws go ∙ first place (λ to. through m input place state to ws go) ∙ second place go
 
 -- ---- shapes
@@ -89,11 +89,11 @@ word_stays Int Uint w fits = fits
 word_stays Uint Int w fits = fits
 word_stays Uint Uint w fits = fits
 
-words_stay : (from to : Scalar) (ws : List ℕ) → AreWords from ws → AreWords to (map (converted_word to) ws)
+pub words_stay : (from to : Scalar) (ws : List ℕ) → AreWords from ws → AreWords to (map (converted_word to) ws)
 words_stay from to [] fits = tt
 words_stay from to (w ∷ ws) fits = (word_stays from to w fits.0, words_stay from to ws fits.1)
 
-mapped_length : (f : ℕ → ℕ) (ws : List ℕ) → length (map f ws) ≡ length ws
+pub mapped_length : (f : ℕ → ℕ) (ws : List ℕ) → length (map f ws) ≡ length ws
 mapped_length f [] = refl
 mapped_length f (w ∷ ws) = ap suc (mapped_length f ws)
 
@@ -153,12 +153,12 @@ within_one (Some word) positions within = within.1
 by_one : (v : Value) (k : ℕ) (positions : List ℕ) → AreBelow 1 positions → picked_value (Word (slice_index (components_in v) k)) positions ≡ picks_of v (Some k) positions
 by_one v k positions below = ap (λ ws. of_components (map (slice_index ws) positions)) (components_of (slice_index (components_in v) k ∷ [])) ∙ ap of_components (one_picked (slice_index (components_in v) k) positions below)
 
-several : (n : ℕ) → (n == 1) ≡ false → 1 ≤ n → 2 ≤ n
+pub several : (n : ℕ) → (n == 1) ≡ false → 1 ≤ n → 2 ≤ n
 several zero e some = absurd (let z : 1 ≤ 0 = some in omega (arith, z))
 several (suc zero) e some = absurd (true≢false e)
 several (suc (suc n)) e some = omega arith
 
-some_components : (count : ℕ) (by : Option ℕ) (positions : List ℕ) → 1 ≤ length positions → AreWithin count by positions → 1 ≤ count
+pub some_components : (count : ℕ) (by : Option ℕ) (positions : List ℕ) → 1 ≤ length positions → AreWithin count by positions → 1 ≤ count
 some_components count None [] some within = absurd (let z : 1 ≤ 0 = some in omega (arith, z))
 some_components count None (position ∷ positions) some within = let less : position < count = within.0 in omega (arith, less)
 some_components count (Some k) positions some within = let less : k < count = within.0 in omega (arith, less)

@@ -30,7 +30,7 @@ use Rattle.gsl_lower_law_places.specs.Storing.{Stores}
 use Rattle.gsl_lower_law_places.proofs.Chains.{pointer_does, pointer_grows, still_number}
 
 -- nothing is said of what is given
-abbrev Nothing : Unit {0} → Ids → Type 0
+abbrev pub Nothing : Unit {0} → Ids → Type 0
 Nothing given ids = Unit {0}
 
 module _ (m : Module) (input : Input) (whole : Sections) where
@@ -38,7 +38,7 @@ module _ (m : Module) (input : Input) (whole : Sections) where
   abbrev pub stored_left : State → List Value → List Buffer → Left
   stored_left state variables buffers = record { choices = state.choices; variables = variables; buffers = buffers }
 
-  store_acts : (to_id word : ℕ) (to : Pointer) (v : Value) (variables : List Value) (buffers : List Buffer) (state : State) (before : Sections) → state.ids to_id ≡ Some (Points to) → Stands state.ids word v → Stores m input state to v variables buffers
+  pub store_acts : (to_id word : ℕ) (to : Pointer) (v : Value) (variables : List Value) (buffers : List Buffer) (state : State) (before : Sections) → state.ids to_id ≡ Some (Points to) → Stands state.ids word v → Stores m input state to v variables buffers
       → Acts m input whole (λ given ids. Unit {0}) (stored_left state variables buffers) state before (putting op.STORE (to_id ∷ word ∷ []))
   unfolding form_of
   store_acts to_id word to v variables buffers state before points stands stores =
@@ -48,7 +48,7 @@ module _ (m : Module) (input : Input) (whole : Sections) where
       ∙ ap (λ o. on_whole o (λ v. storing m input (record state { rest = rest }) to v Going)) stands
       ∙ stores state.ids state.choices rest Going)
 
-  in_class_computes : (class : ℕ) (shape : Shape) (id : ℕ) (v : Value) (state : State) (before : Sections) → IsOf shape v → Stands state.ids id v → Computes m input whole (converted_value (stored_shape class shape).0 v, state.choices) state before (in_class class shape id)
+  pub in_class_computes : (class : ℕ) (shape : Shape) (id : ℕ) (v : Value) (state : State) (before : Sections) → IsOf shape v → Stands state.ids id v → Computes m input whole (converted_value (stored_shape class shape).0 v, state.choices) state before (in_class class shape id)
   unfolding in_class
   in_class_computes class shape id v state before is stands = converted_computes m input whole (operand shape id) v is (stored_shape class shape).0 state before stands
 

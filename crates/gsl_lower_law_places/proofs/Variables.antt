@@ -22,7 +22,7 @@ value_on v [] more = refl
 value_on v (number ∷ path) more = value_on (member_value v number) path more
 
 -- the parts of a vector are its words
-parts_are : (ws : List ℕ) → 2 ≤ length ws → parts_in (of_components ws) ≡ map Word ws
+pub parts_are : (ws : List ℕ) → 2 ≤ length ws → parts_in (of_components ws) ≡ map Word ws
 parts_are [] many = absurd (let z : 2 ≤ 0 = many in omega (arith, z))
 parts_are (w ∷ []) many = absurd (let z : 2 ≤ 1 = many in omega (arith, z))
 parts_are (w ∷ next ∷ ws) many = ap parts_layer (outs-Many (map Word (w ∷ next ∷ ws)))
@@ -46,7 +46,7 @@ module _ (m : Module) (input : Input) (state : State) (number : ℕ) (path : Lis
   below_parts : (k : ℕ) → 2 ≤ length (components_in v) → k < length (components_in v) → nat_lt k (length (parts_in (value_at old path))) ≡ true
   below_parts k many less = lt-ltb k (length (parts_in (value_at old path))) (omega (arith, less, ap length (words_in v is), words_long is.words, ap length (vector_parts many), ap (λ w. length (parts_in w)) at))
 
-  component_led : (k : ℕ) → 2 ≤ length (components_in v) → k < length (components_in v) → LeadsTo m input state (InVariable number path) (k ∷ []) (InVariable number (path ++ k ∷ []))
+  pub component_led : (k : ℕ) → 2 ≤ length (components_in v) → k < length (components_in v) → LeadsTo m input state (InVariable number path) (k ∷ []) (InVariable number (path ++ k ∷ []))
   component_led k many less place go =
       ap (λ o. on o (into_variable m input place number path k go)) there
       ∙ cond-true (nat_lt k (length (parts_in (value_at old path)))) (go (InVariable number (path ++ k ∷ []))) (Strayed place) (below_parts k many less)

@@ -1,5 +1,5 @@
 -- What a store leaves where a pointer leads (SPIR-V 1.0, 3.32.8).
-use Rattle.std.specs.Prelude.{◌≡◌, ℕ, List}
+use Rattle.std.specs.Prelude.{◌≡◌, ℕ, List, [], ◌∷◌, length, Option, Some, None}
 use Rattle.gsl_base.specs.declared.input.Buffer.{Buffer}
 use Rattle.gsl_base.specs.declared.input.Input.{Input}
 use Rattle.gsl_words.specs.declared.module.Module.{Module}
@@ -12,3 +12,13 @@ use Rattle.gsl_machine.specs.State.{Ids, Outcome, Pointer, State}
 abbrev pub Stores : Module → Input → State → Pointer → Value → List Value → List Buffer → Type 0
 Stores m input state to v variables buffers = (ids : Ids) (choices : List ℕ) (rest : List Placed) (go : State → Outcome)
     → storing m input (record state { ids = ids; choices = choices; rest = rest }) to v go ≡ go (record state { ids = ids; choices = choices; rest = rest; variables = variables; buffers = buffers })
+
+-- the positions to which the components of a new value go: that of a word, where there is one
+abbrev pub goes_to : Option ℕ → List ℕ → List ℕ
+goes_to None positions = positions
+goes_to (Some number) positions = number ∷ []
+
+-- As many components are stored as there are positions; by a word it is one.
+abbrev pub AreStored : Option ℕ → List ℕ → Type 0
+AreStored None positions = Unit {0}
+AreStored (Some number) positions = length positions ≡ 1

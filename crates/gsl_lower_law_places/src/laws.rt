@@ -1,26 +1,26 @@
 //! Laws of the definitions: calls that do nothing, whose contracts are the laws.
 
-ghost use Rattle.std.specs.Prelude.{◌≡◌, ℕ, Option, Some, map, List, slice_get};
+ghost use Rattle.std.specs.Prelude.{◌≡◌, ◌≤◌, ℕ, Option, Some, false, map, length, set, List, slice_get};
 ghost use Rattle.gsl_base.specs.declared.input.Buffer.{Buffer};
 ghost use Rattle.gsl_base.specs.declared.input.Input.{Input};
 ghost use Rattle.gsl_words.specs.declared.module.Module.{Module};
 ghost use Rattle.gsl_values.specs.declared.value.Value.{Value};
-ghost use Rattle.gsl_tree.specs.Operations.{value_at};
+ghost use Rattle.gsl_tree.specs.Operations.{value_at, with_value_at};
 ghost use Rattle.gsl_tree.specs.Shapes.{Shape};
 ghost use Rattle.gsl_machine.specs.State.{InVariable, Pointer, Points, State};
 ghost use Rattle.gsl_spv.specs.Sections.{Sections};
-ghost use Rattle.gsl_lower_places.specs.Reached.{stored_shape};
+ghost use Rattle.gsl_lower_places.specs.Reached.{is_block_class, stored_shape};
 ghost use Rattle.gsl_lower_places.specs.Reading.{extracted_shape, loaded, number_in, pointer, read};
-ghost use Rattle.gsl_lower_places.specs.Writing.{put_at};
+ghost use Rattle.gsl_lower_places.specs.Writing.{put_at, stored};
 ghost use Rattle.gsl_lower_places.specs.declared.reached.Base.TheVariants as base;
 ghost use Rattle.gsl_lower_places.specs.declared.reached.Part.{Part};
 ghost use Rattle.gsl_lower_places.specs.declared.reached.Picked.{Picked};
 ghost use Rattle.gsl_lower_law.specs.Computing.{Acts, Computes, Does};
-ghost use Rattle.gsl_lower_law.specs.Operands.{converted_value};
+ghost use Rattle.gsl_lower_law.specs.Operands.{converted_value, replaced_value};
 ghost use Rattle.gsl_lower_law.specs.Values.{IsOf, Stands};
 ghost use Rattle.gsl_lower_law_places.specs.Components.{HoldsComponents, Picks, picks_of};
 ghost use Rattle.gsl_lower_law_places.specs.Leading.{HoldsValue, LeadsTo, NumberEach};
-ghost use Rattle.gsl_lower_law_places.specs.Storing.{Stores};
+ghost use Rattle.gsl_lower_law_places.specs.Storing.{AreStored, Stores, goes_to};
 
 /// Where the parts of a variable are in bounds, the id that is given stands for a pointer to where they lead.
 pub fn pointers_lead()
@@ -55,4 +55,9 @@ pub fn stores_leave()
 /// A pointer into a variable that holds a value leads to what is there, and to each component of a vector.
 pub fn variables_hold_components()
     ensures { (m : Module) (input : Input) (state : State) (number : ℕ) (path : List ℕ) (old v : Value) (shape : Shape) → slice_get state.variables number ≡ Some old → value_at old path ≡ v → IsOf shape v → HoldsComponents m input state (InVariable number path) v }
+{}
+
+/// In a variable that holds a value the components that are picked are stored, by positions or by a word that is in bounds, and the others stay.
+pub fn variables_are_stored()
+    ensures { (m : Module) (input : Input) (whole : Sections) (id class : ℕ) (shape : Shape) (parts : List Part) (p : Picked) (by : Option ℕ) (words : List ℕ) (from : Pointer) (number : ℕ) (path : List ℕ) (old v w : Value) (value : ℕ) (state : State) (before : Sections) → is_block_class class ≡ false → state.ids id ≡ Some (Points from) → NumberEach state.ids parts words → LeadsTo m input state from words (InVariable number path) → slice_get state.variables number ≡ Some old → value_at old path ≡ v → IsOf p.shape v → IsOf (p.shape.0, length p.positions) w → Stands state.ids value w → Picks state.ids p by → AreStored by p.positions → length p.positions ≤ p.shape.1 → Acts m input whole (λ given ids. Unit {0}) (record { choices = state.choices; variables = set state.variables number (with_value_at old path (replaced_value v (goes_to by p.positions) w)); buffers = state.buffers }) state before (stored shape (record { base = base.Variable id class; path = parts; picked = Some p }) value) }
 {}

@@ -5,5 +5,5 @@ mod laws;
 
 pub use laws::{
     extracts_compute, loads_compute, pointers_lead, stores_leave, values_are_read,
-    variables_are_read, variables_hold_components,
+    variables_are_read, variables_are_stored, variables_hold_components,
 };
