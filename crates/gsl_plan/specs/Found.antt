@@ -24,7 +24,7 @@ abbrev pub writing : App
 writing = with_subcommand (with_subcommand (with_subcommand program (operated (codes "compile")).top) (operated (codes "dis")).top) (operated (codes "asm")).top
 
 abbrev pub grammar : App
-grammar = with_subcommand writing (operated (codes "check")).top
+grammar = with_subcommand (with_subcommand writing (operated (codes "check")).top) (operated (codes "exec")).top
 
 abbrev pub operands_in : List Row → List Name
 operands_in rows = unwrap_or (all_of (codes "operands") rows) []
@@ -35,7 +35,7 @@ found_in m = option_map (λ p. (p.0, operands_in p.1)) (subcommand_rows_of m)
 
 abbrev pub is_command : Name → Bool
 is_command word =
-    bytes_eq (codes "compile") word || (bytes_eq (codes "dis") word || (bytes_eq (codes "asm") word || bytes_eq (codes "check") word))
+    bytes_eq (codes "compile") word || (bytes_eq (codes "dis") word || (bytes_eq (codes "asm") word || (bytes_eq (codes "check") word || bytes_eq (codes "exec") word)))
 
 -- a command with its operands, where the words have one and no option stands before the first `--`
 abbrev pub taken : List Name → Option (Name × List Name)

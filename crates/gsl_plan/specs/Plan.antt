@@ -21,6 +21,8 @@ pub data Plan : Type 0 where
   Assemble : (file out : Name) → Plan
   -- `check`: a module is judged
   Check : (file : Name) → Plan
+  -- `exec`: a module is run on the input of a manifest
+  Exec : (file inputs : Name) → Plan
 
 -- whether a word begins with `-` and is not `-` alone
 abbrev pub is_option : Name → Bool
@@ -70,16 +72,21 @@ abbrev pub check_of : List Name → Option Plan
 check_of (file ∷ []) = Some (Check file)
 check_of _ = None
 
+abbrev pub exec_of : List Name → Option Plan
+exec_of (file ∷ inputs ∷ []) = Some (Exec file inputs)
+exec_of _ = None
+
 -- goes on with the operands, if there are some
 abbrev pub given : Option (List Name) → (List Name → Option Plan) → Option Plan
 given None f = None
 given (Some words) f = f words
 
--- `compile STAGE OUT FILE..`, `dis MODULE OUT`, `asm TEXT OUT`, `check MODULE`
+-- `compile STAGE OUT FILE..`, `dis MODULE OUT`, `asm TEXT OUT`, `check MODULE`, `exec MODULE INPUTS`
 abbrev pub named : Name → List Name → Option Plan
 named command words =
     if bytes_eq command (codes "compile") then compile_of words else if bytes_eq command (codes "dis") then disassemble_of words
-    else if bytes_eq command (codes "asm") then assemble_of words else if bytes_eq command (codes "check") then check_of words else None
+    else if bytes_eq command (codes "asm") then assemble_of words else if bytes_eq command (codes "check") then check_of words
+    else if bytes_eq command (codes "exec") then exec_of words else None
 
 abbrev pub command_of : Name → List Name → Option Plan
 command_of command words = given (operands words) (named command)
@@ -96,3 +103,4 @@ plan_in (command.Compile stage out files) = Some (Compile stage out files)
 plan_in (command.Disassemble file out) = Some (Disassemble file out)
 plan_in (command.Assemble file out) = Some (Assemble file out)
 plan_in (command.Check file) = Some (Check file)
+plan_in (command.Exec file inputs) = Some (Exec file inputs)

@@ -27,4 +27,9 @@ pub enum Command {
     Check {
         file: Text,
     },
+    /// Runs a module on the input of a manifest.
+    Exec {
+        file: Text,
+        inputs: Text,
+    },
 }

@@ -32,7 +32,13 @@ fn grammar<'a>(alloc: Global) -> Result<Command<'a>, AllocError>
         "Tells whether a module is valid",
         "gsl check MODULE",
     )?;
-    writing(alloc)?.subcommand(check)
+    let exec = operated(
+        alloc,
+        "exec",
+        "Runs a module on the input of a manifest",
+        "gsl exec MODULE INPUTS",
+    )?;
+    writing(alloc)?.subcommand(check)?.subcommand(exec)
 }
 
 /// The program with the commands that write a file.

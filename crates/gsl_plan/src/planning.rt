@@ -79,6 +79,9 @@ fn named(alloc: Global, name: &str, operands: &[&str]) -> Result<Command, Memory
     if name == "check" {
         return check_of(alloc, operands);
     }
+    if name == "exec" {
+        return exec_of(alloc, operands);
+    }
     usage(alloc)
 }
 
@@ -170,6 +173,18 @@ fn check_of(alloc: Global, operands: &[&str]) -> Result<Command, Memory>
     match operands {
         [file] => Ok(Command::Check {
             file: Text::from_str(alloc, file)?,
+        }),
+        _ => usage(alloc),
+    }
+}
+
+fn exec_of(alloc: Global, operands: &[&str]) -> Result<Command, Memory>
+    ensures { IfOk result (λ found. plan_in found ≡ spec.exec_of (texts operands.now)) }
+{
+    match operands {
+        [file, inputs] => Ok(Command::Exec {
+            file: Text::from_str(alloc, file)?,
+            inputs: Text::from_str(alloc, inputs)?,
         }),
         _ => usage(alloc),
     }
