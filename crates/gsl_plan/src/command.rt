@@ -32,4 +32,10 @@ pub enum Command {
         file: Text,
         inputs: Text,
     },
+    /// Compiles one source file or more, of which there are at most 64, and runs their module on the input of a manifest.
+    Run {
+        stage: Stage,
+        inputs: Text,
+        files: Words,
+    },
 }

@@ -26,19 +26,32 @@ pub(crate) fn matches_of<'a>(alloc: Global, words: &'a [&'a str]) -> Result<ArgM
 fn grammar<'a>(alloc: Global) -> Result<Command<'a>, AllocError>
     ensures { IfOk result (λ c. app_of c ≡ spec.grammar) }
 {
-    let check = operated(
-        alloc,
-        "check",
-        "Tells whether a module is valid",
-        "gsl check MODULE",
-    )?;
     let exec = operated(
         alloc,
         "exec",
         "Runs a module on the input of a manifest",
         "gsl exec MODULE INPUTS",
     )?;
-    writing(alloc)?.subcommand(check)?.subcommand(exec)
+    let run = operated(
+        alloc,
+        "run",
+        "Compiles a shader and runs its module on the input of a manifest",
+        "gsl run STAGE INPUTS FILE..",
+    )?;
+    judging(alloc)?.subcommand(exec)?.subcommand(run)
+}
+
+/// The program with the commands that run no module.
+fn judging<'a>(alloc: Global) -> Result<Command<'a>, AllocError>
+    ensures { IfOk result (λ c. app_of c ≡ spec.judging) }
+{
+    let check = operated(
+        alloc,
+        "check",
+        "Tells whether a module is valid",
+        "gsl check MODULE",
+    )?;
+    writing(alloc)?.subcommand(check)
 }
 
 /// The program with the commands that write a file.

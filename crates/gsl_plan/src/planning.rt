@@ -82,6 +82,9 @@ fn named(alloc: Global, name: &str, operands: &[&str]) -> Result<Command, Memory
     if name == "exec" {
         return exec_of(alloc, operands);
     }
+    if name == "run" {
+        return run_of(alloc, operands);
+    }
     usage(alloc)
 }
 
@@ -95,18 +98,48 @@ fn compile_of(alloc: Global, operands: &[&str]) -> Result<Command, Memory>
 }
 
 fn compile_for(alloc: Global, stage: &str, out: &str, files: &[&str]) -> Result<Command, Memory>
-    ensures { IfOk result (λ found. plan_in found ≡ spec.compile_for stage.now out.now (texts files.now)) }
+    ensures { IfOk result (λ found. plan_in found ≡ spec.compile_in (spec.staged stage.now (texts files.now)) out.now (texts files.now)) }
 {
-    if !are_files(files) {
-        return usage(alloc);
-    }
-    match stage_of(stage) {
+    match staged(stage, files) {
         Some(stage) => Ok(Command::Compile {
             stage,
             out: Text::from_str(alloc, out)?,
             files: names_of(alloc, files)?,
         }),
         None => usage(alloc),
+    }
+}
+
+fn run_of(alloc: Global, operands: &[&str]) -> Result<Command, Memory>
+    ensures { IfOk result (λ found. plan_in found ≡ spec.run_of (texts operands.now)) }
+{
+    match operands {
+        [stage, inputs, files @ ..] => run_for(alloc, stage, inputs, files),
+        _ => usage(alloc),
+    }
+}
+
+fn run_for(alloc: Global, stage: &str, inputs: &str, files: &[&str]) -> Result<Command, Memory>
+    ensures { IfOk result (λ found. plan_in found ≡ spec.run_in (spec.staged stage.now (texts files.now)) inputs.now (texts files.now)) }
+{
+    match staged(stage, files) {
+        Some(stage) => Ok(Command::Run {
+            stage,
+            inputs: Text::from_str(alloc, inputs)?,
+            files: names_of(alloc, files)?,
+        }),
+        None => usage(alloc),
+    }
+}
+
+/// The stage of a word, if there are as many files as there may be.
+fn staged(stage: &str, files: &[&str]) -> Option<Stage>
+    ensures { result ≡ spec.staged stage.now (texts files.now) }
+{
+    if are_files(files) {
+        stage_of(stage)
+    } else {
+        None
     }
 }
 
