@@ -1,7 +1,6 @@
 -- The job of `check`: that there is one, what its steps have done of it, and what status 0 says.
-use Rattle.std.proofs.Common.{◌≡◌, ℕ, ◌<◌, ◌≤◌, List, [], ◌∷◌, length, Option, Some, None, Result, Ok, Err, refl, ap, sym, subst, ◌∙◌, arith, inl, inr}
-use Rattle.std.proofs.lemmas.Bool.{lt-ltb, le-ltb, cond-true, cond-false}
-use Rattle.std.specs.Prelude.{IsSomeAnd, Contains, MatchResult}
+use Rattle.std.proofs.Common.{◌≡◌, ℕ, ◌≤◌, List, [], ◌∷◌, length, Option, Some, None, Result, Ok, Err, refl, ap, sym, subst, ◌∙◌, arith, inl, inr}
+use Rattle.std.specs.Prelude.{Contains, MatchResult}
 use Rattle.std.specs.FinMap.{get}
 use Rattle.gsl_host.specs.declared.target.Stream.TheVariants as stream
 use Rattle.gsl_host.specs.declared.target.Target.{Target}
@@ -17,6 +16,7 @@ use Rattle.gsl_exec.specs.Owed.{Read, Missing, Longer, Whole}
 use Rattle.gsl_exec.specs.Steps.{JudgesBytes, ReadsModuleTold}
 use Rattle.gsl_exec.specs.Texts.{module_long_text}
 use Rattle.gsl_exec.proofs.Done.{whole_is}
+use Rattle.gsl_exec.proofs.Runs.{is_longer, is_whole}
 use Rattle.gsl_exec.proofs.Verdicts.{is_valid, judged_file, of_file, one_file}
 use Rattle.gsl_cmd.specs.Checking.{Checks}
 use Rattle.gsl_cmd.specs.Command.{ChecksBytes, Ends, Finished, HasOwn, IsOwn, Says}
@@ -74,12 +74,8 @@ module _ (file : Name) (files : Files) (faults faults' : Target → ℕ) where
   abbrev Came : Result (List ℕ) Stop → Type 0
   Came end = Ends IsIts faults faults' end
 
-  long_in : (read : Option (List ℕ)) → IsSomeAnd read (λ bytes. MAX_MODULE_BYTES < length bytes) → found_in read ≡ Longer
-  long_in None some = absurd some
-  long_in (Some bytes) long = cond-true _ _ _ (lt-ltb _ _ long)
-
   whole : (bytes : List ℕ) → get files file ≡ Some bytes → length bytes ≤ MAX_MODULE_BYTES → found_in (get files file) ≡ Whole bytes
-  whole bytes read short = ap found_in read ∙ cond-false _ _ _ (le-ltb _ _ short)
+  whole = is_whole MAX_MODULE_BYTES (get files file)
 
   says : (text line : List ℕ) (status : ℕ) → status ≡ 8 → line ≡ text → Says (rejected text file) status line
   says text line status eight is = record { ends = sym eight; quiet = refl; says = sym is; keeps = refl; own = eight_own status eight }
@@ -106,7 +102,7 @@ module _ (file : Name) (files : Files) (faults faults' : Target → ℕ) where
   checks_read stop.Host told rose =
       let j = check_job file (found_in (get files file)) in (j.0, j.1, (keeps_in j.0 _ j.1, (Reading file, reads_in j.0 _ j.1, rose refl)))
   checks_read (stop.Told status text) (some, eight, is) rose =
-      (rejected module_long_text file, subst (IsCheckJob file (rejected module_long_text file)) (sym (long_in (get files file) some)) refl, says module_long_text text status eight is)
+      (rejected module_long_text file, subst (IsCheckJob file (rejected module_long_text file)) (sym (is_longer MAX_MODULE_BYTES (get files file) some)) refl, says module_long_text text status eight is)
 
   in_whole : (bytes : List ℕ) (refusal : Option (List ℕ)) → found_in (get files file) ≡ Whole bytes → Checks bytes refusal → IsIts (checked_of file refusal)
   in_whole bytes refusal found is = subst (IsCheckJob file (checked_of file refusal)) (sym found) (refusal, is, refl)

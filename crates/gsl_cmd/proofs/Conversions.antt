@@ -1,8 +1,7 @@
 -- How far the steps of `dis` and of `asm` have come with their job.
-use Rattle.std.proofs.Common.{◌≡◌, ℕ, ◌<◌, ◌≤◌, List, [], length, Option, Some, None, Result, Ok, Err, refl, ap, sym, subst, ◌∙◌, arith}
-use Rattle.std.specs.Prelude.{IsSomeAnd, OnOk, IfOk, MatchResult, Contains}
+use Rattle.std.proofs.Common.{◌≡◌, ℕ, ◌≤◌, List, [], length, Option, Some, Result, Ok, Err, refl, ap, sym, subst, arith}
+use Rattle.std.specs.Prelude.{OnOk, IfOk, MatchResult, Contains}
 use Rattle.std.specs.FinMap.{get}
-use Rattle.std.proofs.lemmas.Bool.{lt-ltb, le-ltb, cond-true, cond-false}
 use Rattle.gsl_base.specs.declared.fault.Fault.{Fault}
 use Rattle.gsl_base.specs.Ranges.{AreBytes}
 use Rattle.gsl_words.specs.declared.fault.WordFault.{WordFault}
@@ -16,6 +15,7 @@ use Rattle.gsl_cmd.specs.declared.stop.Stop.TheVariants as stop
 use Rattle.gsl_cmd.specs.declared.converting.Conversion.{Conversion}
 use Rattle.gsl_cmd.specs.declared.converting.Conversion.TheVariants.{Disassemble, Assemble}
 use Rattle.gsl_exec.specs.declared.reading.TheConstants.{MAX_MODULE_BYTES}
+use Rattle.gsl_exec.proofs.Runs.{is_longer, is_whole}
 use Rattle.gsl_exec.specs.declared.stop.Stop.{Stop as Unlisted}
 use Rattle.gsl_exec.specs.declared.stop.Stop.TheVariants as unlisted
 use Rattle.gsl_exec.specs.Owed.{Read, Missing, Longer, Whole}
@@ -60,15 +60,8 @@ module _ (conversion : Conversion) (file out : Name) (files : Files) (after : Op
   ended_reject : (text : List ℕ) (found : Read) → found_in (get files file) ≡ found → IsIts (rejected text file) found → after ≡ Some files → Came (Err (stop.Rejected text))
   ended_reject text found e is same = record { job = rejected text file; is_job = its (rejected text file) found e is; out = λ told. refl; did = (refl, refl, refl, same); kept = same }
 
-  long : (bytes : List ℕ) → get files file ≡ Some bytes → MAX_MODULE_BYTES < length bytes → found_in (get files file) ≡ Longer
-  long bytes read more = ap found_in read ∙ cond-true _ _ _ (lt-ltb _ _ more)
-
-  pub whole : (bytes : List ℕ) → get files file ≡ Some bytes → length bytes ≤ MAX_MODULE_BYTES → found_in (get files file) ≡ Whole bytes
-  whole bytes read short = ap found_in read ∙ cond-false _ _ _ (le-ltb _ _ short)
-
-  long_in : (read : Option (List ℕ)) → get files file ≡ read → IsSomeAnd read (λ bytes. MAX_MODULE_BYTES < length bytes) → found_in (get files file) ≡ Longer
-  long_in None e some = absurd some
-  long_in (Some bytes) e some = long bytes e some
+  whole : (bytes : List ℕ) → get files file ≡ Some bytes → length bytes ≤ MAX_MODULE_BYTES → found_in (get files file) ≡ Whole bytes
+  whole = is_whole MAX_MODULE_BYTES (get files file)
 
   pub ended_read : (why : Stop) → ReadsFileTold conversion files file (Err why) → after ≡ Some files → (why ≡ stop.Host → Rose faults faults' (Reading file)) → Came (Err why)
   ended_read stop.Memory told same rose = ended_memory same
@@ -83,7 +76,7 @@ module _ (conversion : Conversion) (file out : Name) (files : Files) (after : Op
       }
   ended_read (stop.Fault fault) told same rose = absurd told
   ended_read (stop.Rejected text) (some, is) same rose =
-      ended_reject text Longer (long_in (get files file) refl some) (ap (λ t. rejected t file) is) same
+      ended_reject text Longer (is_longer MAX_MODULE_BYTES (get files file) some) (ap (λ t. rejected t file) is) same
 
   pub ended_made : (bytes : List ℕ) (why : Stop) → get files file ≡ Some bytes → length bytes ≤ MAX_MODULE_BYTES → Gives (Makes conversion file bytes) (Err why) → after ≡ Some files → Came (Err why)
   ended_made bytes stop.Memory read short answer same = ended_memory same

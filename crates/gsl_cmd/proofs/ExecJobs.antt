@@ -30,7 +30,7 @@ one_exec file inputs files one j k (a, is, js) (b, also, ks) = js ∙ ap job_of 
 
 -- ---- how far the steps have come
 
-own_status : (status : ℕ) → 5 ≤ status → IsOwn status
+pub own_status : (status : ℕ) → 5 ≤ status → IsOwn status
 own_status status least = (λ is. omega (arith, least, is), λ is. omega (arith, least, is), λ is. omega (arith, least, is))
 
 pub has_own : (end : Result (List ℕ) Stop) → run.HasStatus end → HasOwn end

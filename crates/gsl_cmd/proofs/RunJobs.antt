@@ -1,7 +1,6 @@
 -- The job of `run`: that there is one, what its steps have done of it, what it may reach for, and what status 0 says.
-use Rattle.std.proofs.Common.{◌≡◌, ℕ, zero, suc, ◌<◌, ◌≤◌, Bool, cond, true, false, List, [], ◌∷◌, ◌++◌, length, Option, Some, None, Result, Ok, Err, refl, ap, sym, subst, ◌∙◌, arith, inl, inr}
-use Rattle.std.proofs.lemmas.Bool.{lt-ltb, le-ltb, cond-true, cond-false}
-use Rattle.std.specs.Prelude.{IsSomeAnd, IfOk, MatchResult, Contains, map}
+use Rattle.std.proofs.Common.{◌≡◌, ℕ, zero, suc, ◌≤◌, List, [], ◌∷◌, ◌++◌, length, Option, Some, None, Result, Ok, Err, refl, ap, sym, subst, ◌∙◌, arith, inl, inr}
+use Rattle.std.specs.Prelude.{IfOk, MatchResult, Contains, map}
 use Rattle.std.specs.FinMap.{get}
 use Rattle.gsl_base.specs.declared.stage.Stage.{Stage}
 use Rattle.gsl_base.specs.declared.fault.Code.TheVariants.{E0900}
@@ -25,7 +24,9 @@ use Rattle.gsl_exec.specs.declared.stop.Stop.TheVariants as stop
 use Rattle.gsl_exec.specs.Owed.{IsTaken, Read, Missing, Longer, Whole, read_of, told}
 use Rattle.gsl_exec.specs.Steps as run
 use Rattle.gsl_exec.proofs.Done as done
+use Rattle.gsl_exec.proofs.Keeping.{contains_behind}
 use Rattle.gsl_exec.proofs.Reached as reached
+use Rattle.gsl_exec.proofs.Runs.{is_longer, is_whole}
 use Rattle.gsl_cmd.specs.declared.stop.Stop.{Stop as Unread}
 use Rattle.gsl_cmd.specs.declared.stop.Stop.TheVariants as unread
 use Rattle.gsl_cmd.specs.Command.{Comes, Ends, Finished, HasOwn, IsOwn, MakesModule, OneTaken, Reaches, ReadsGathered, SomeTaken, Unreads, behind_sources}
@@ -37,7 +38,7 @@ use Rattle.gsl_cmd.specs.Texts.{told_fault}
 use Rattle.gsl_cmd.specs.Verdict.{FirstFault, Judges, fault_in}
 use Rattle.gsl_cmd.specs.Written.{Written}
 use Rattle.gsl_cmd.proofs.Carried.{program_carries}
-use Rattle.gsl_cmd.proofs.ExecJobs.{job_comes}
+use Rattle.gsl_cmd.proofs.ExecJobs.{job_comes, own_status}
 use Rattle.gsl_cmd.proofs.Finished.{host_failed}
 use Rattle.gsl_cmd.proofs.Jobs.{behind_no_sources, contains_front, some_verdict}
 use Rattle.gsl_cmd.proofs.Sizes.{module_small}
@@ -100,14 +101,11 @@ module _ (one : OneTaken) (files : Files) (stage : Stage) (names : List Name) (j
 own_one : (status : ℕ) → status ≡ 1 → IsOwn status
 own_one status is = (λ e. absurd (let no : 1 ≡ 2 = sym is ∙ e in cc), λ e. absurd (let no : 1 ≡ 3 = sym is ∙ e in cc), λ e. absurd (let no : 1 ≡ 4 = sym is ∙ e in cc))
 
-own_late : (status : ℕ) → 5 ≤ status → IsOwn status
-own_late status least = (λ is. omega (arith, least, is), λ is. omega (arith, least, is), λ is. omega (arith, least, is))
-
 pub stopped_own : (why : Ungiven) (end : Stop) → end ≡ run.stopped why → HasOwn (Err end)
 stopped_own why end is = subst (λ (s : Stop). HasOwn (Err s)) (sym is) (own why)
   where
     own : (why : Ungiven) → HasOwn (Err (run.stopped why))
-    own (ungiven.Refused text) = own_late 7 (omega arith)
+    own (ungiven.Refused text) = own_status 7 (omega arith)
     own ungiven.Host = tt
     own ungiven.Memory = tt
 
@@ -115,7 +113,7 @@ pub unread_own : (names : List Name) (why : Unread) (end : Stop) → Unreads nam
 unread_own names (unread.Fault fault) (stop.Told status text) is = own_one status is.0
 unread_own names (unread.Fault fault) stop.Host is = tt
 unread_own names (unread.Fault fault) stop.Memory is = tt
-unread_own names (unread.Rejected text) end is = subst (λ (s : Stop). HasOwn (Err s)) (sym is) (own_late 8 (omega arith))
+unread_own names (unread.Rejected text) end is = subst (λ (s : Stop). HasOwn (Err s)) (sym is) (own_status 8 (omega arith))
 unread_own names unread.Host end is = subst (λ (s : Stop). HasOwn (Err s)) (sym is) tt
 unread_own names unread.Memory end is = subst (λ (s : Stop). HasOwn (Err s)) (sym is) tt
 
@@ -144,22 +142,8 @@ unread_host names (unread.Rejected text) end is host = absurd (let no : stop.Hos
 unread_host names unread.Host end is host = refl
 unread_host names unread.Memory end is host = absurd (let no : stop.Host ≡ stop.Memory = sym host ∙ is in cc)
 
-pub stopped_host : (why : Ungiven) → run.stopped why ≡ stop.Host → why ≡ ungiven.Host
-stopped_host (ungiven.Refused text) e = absurd (cc)
-stopped_host ungiven.Host e = refl
-stopped_host ungiven.Memory e = absurd (cc)
-
 pub made_no_host : (stage : Stage) (sources : List (List ℕ)) (names : List Name) (why : Stop) → MakesModule stage sources names (Err why) → why ≡ stop.Host → ⊥
 made_no_host stage sources names why made is = subst (λ (s : Stop). MakesModule stage sources names (Err s)) is made
-
-pub same_stop : (why : Stop) → ◌≡◌ {A = Result (List ℕ) Stop} (Err why) (Err stop.Host) → why ≡ stop.Host
-same_stop why e = cc
-
--- a source that failed
-pub source_name : (names : List Name) (target : Target) (faults faults' : Target → ℕ) → Contains (map Reading names) target → Rose faults faults' target → (name : Name) × Rose faults faults' (Reading name)
-source_name [] target faults faults' (k, within, here) rose = absurd (omega (arith, within))
-source_name (name ∷ names) target faults faults' (zero, within, here) rose = (name, subst (Rose faults faults') (sym here) rose)
-source_name (name ∷ names) target faults faults' (suc k, within, here) rose = source_name names target faults faults' (k, omega (arith, within), here) rose
 
 -- ---- how far the steps have come
 
@@ -172,13 +156,6 @@ comes_later first then last job (Err stop.Memory) up comes = comes
 
 ends_later : (IsIts : Job → Type 0) (first then last : Target → ℕ) (end : Result (List ℕ) Stop) → NeverFall first then → Ends IsIts then last end → Ends IsIts first last end
 ends_later IsIts first then last end up (job, is, comes) = (job, is, comes_later first then last job end up comes)
-
-is_longer : (file : Option (List ℕ)) → IsSomeAnd file (λ bytes. MAX_MANIFEST_BYTES < length bytes) → read_of MAX_MANIFEST_BYTES file ≡ Longer
-is_longer None longer = absurd longer
-is_longer (Some bytes) longer = cond-true _ _ _ (lt-ltb _ _ longer)
-
-is_whole : (file : Option (List ℕ)) (bytes : List ℕ) → file ≡ Some bytes → length bytes ≤ MAX_MANIFEST_BYTES → read_of MAX_MANIFEST_BYTES file ≡ Whole bytes
-is_whole file bytes is short = ap (read_of MAX_MANIFEST_BYTES) is ∙ cond-false _ _ _ (le-ltb _ _ short)
 
 module _ (some : SomeTaken) (files : Files) (stage : Stage) (names : List Name) where
   -- the module of the program was run
@@ -209,13 +186,13 @@ module _ (some : SomeTaken) (files : Files) (stage : Stage) (names : List Name) 
         → Ends (IsTextJob files stage names sources text targets) then last end → Ends IsNext first last end
     text_read text first then last end found short up ends =
         ends_later IsNext first then last end up
-        (subst (λ (r : Read). Ends (λ job. IsInputsJob files stage names sources targets job r) then last end) (sym (is_whole (get files inputs) text found short)) ends)
+        (subst (λ (r : Read). Ends (λ job. IsInputsJob files stage names sources targets job r) then last end) (sym (is_whole MAX_MANIFEST_BYTES (get files inputs) text found short)) ends)
 
     text_unread : (why : Ungiven) (faults faults' : Target → ℕ) → ReadsManifestTold files inputs (Err why) → (why ≡ ungiven.Host → Rose faults faults' (Reading inputs))
         → Contains targets (Reading inputs) → Ends IsNext faults faults' (Err (run.stopped why))
     text_unread (ungiven.Refused text) faults faults' (longer, is) rose at =
-        subst (λ (r : Read). Ends (λ job. IsInputsJob files stage names sources targets job r) faults faults' (Err (stop.Told 7 text))) (sym (is_longer (get files inputs) longer))
-        (job_of (told 7 long_text targets), refl, record { ends = refl; quiet = refl; says = sym is; keeps = refl; own = own_late 7 (omega arith) })
+        subst (λ (r : Read). Ends (λ job. IsInputsJob files stage names sources targets job r) faults faults' (Err (stop.Told 7 text))) (sym (is_longer MAX_MANIFEST_BYTES (get files inputs) longer))
+        (job_of (told 7 long_text targets), refl, record { ends = refl; quiet = refl; says = sym is; keeps = refl; own = own_status 7 (omega arith) })
     text_unread ungiven.Host faults faults' so rose at =
         let its = some_inputs some files stage names sources targets (read_of MAX_MANIFEST_BYTES (get files inputs)) in
         (its.0, its.1, (its.2, (Reading inputs, its.3 (Reading inputs) at, rose refl)))
@@ -260,30 +237,22 @@ module _ (some : SomeTaken) (files : Files) (stage : Stage) (names : List Name) 
 
 -- ---- what it may reach for
 
-kept : (goes : Bool) (xs : List Target) (target : Target) → Contains (cond goes xs []) target → Contains xs target
-kept true xs target at = at
-kept false xs target (k, within, here) = absurd (omega (arith, within))
-
 reads_named : (files : Files) (names : List Name) (target : Target) → Contains (reads files names) target → Contains (map Reading names) target
 reads_named files [] target at = at
 reads_named files (name ∷ names) target (zero, within, here) = (zero, omega arith, here)
 reads_named files (name ∷ names) target (suc k, within, here) =
-    let later = reads_named files names target (kept (is_source (get files name)) (reads files names) target (k, omega (arith, within), here)) in
+    let later = reads_named files names target (reached.kept (is_source (get files name)) (reads files names) target (k, omega (arith, within), here)) in
     (suc later.0, omega (arith, later.1), later.2)
-
-contains_back : (target : Target) (xs ys : List Target) → Contains ys target → Contains (xs ++ ys) target
-contains_back target [] ys at = at
-contains_back target (x ∷ xs) ys at = let later = contains_back target xs ys at in (suc later.0, omega (arith, later.1), later.2)
 
 module _ (stage : Stage) (inputs : Name) (names : List Name) where
   abbrev plan : Plan
   plan = Plan.Run stage inputs names
 
   second : Contains (targets_of plan) (Reading inputs)
-  second = contains_back (Reading inputs) (map Reading names) (Reading inputs ∷ Printing stream.Out ∷ []) (0, omega arith, refl)
+  second = contains_behind (map Reading names) (Reading inputs ∷ Printing stream.Out ∷ []) (Reading inputs) (0, omega arith, refl)
 
   out : Contains (targets_of plan) (Printing stream.Out)
-  out = contains_back (Printing stream.Out) (map Reading names) (Reading inputs ∷ Printing stream.Out ∷ []) (1, omega arith, refl)
+  out = contains_behind (map Reading names) (Reading inputs ∷ Printing stream.Out ∷ []) (Printing stream.Out) (1, omega arith, refl)
 
   module _ (files : Files) (job : Job) where
     abbrev May : Target → Type 0

@@ -25,7 +25,7 @@ use Rattle.gsl_exec.proofs.Done.{whole_is}
 
 -- ---- what is read of a manifest is named by it
 
-kept : (goes : Bool) (xs : List Target) (target : Target) → Contains (if goes then xs else []) target → Contains xs target
+pub kept : (goes : Bool) (xs : List Target) (target : Target) → Contains (if goes then xs else []) target → Contains xs target
 kept true xs target at = at
 kept false xs target (k, within, here) = absurd (omega (arith, within))
 

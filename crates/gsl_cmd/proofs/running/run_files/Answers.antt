@@ -1,7 +1,8 @@
 use Rattle.std.proofs.Common.{ℕ, List, ◌∙◌, Ok, Err, ap, subst}
 use Rattle.gsl_cmd.specs.Command.{ReadsGathered, behind_sources}
 use Rattle.gsl_cmd.specs.Job.{gather, reads}
-use Rattle.gsl_cmd.proofs.RunJobs.{same_stop, source_name, sources_read, sources_stopped, unread_host, unread_own}
+use Rattle.gsl_exec.proofs.Runs.{read_name, same_stop}
+use Rattle.gsl_cmd.proofs.RunJobs.{sources_read, sources_stopped, unread_host, unread_own}
 use Rattle.gsl_cmd.proofs.running.run_files.Goals as goal
 
 pub returns-in-Ok-clause-told : goal.returns-in-Ok-clause-told
@@ -23,4 +24,4 @@ returns-in-Err-clause-own g c = unread_own c.args.names.now c.in-Err.why c.unrea
 pub returns-in-Err-clause-failed : goal.returns-in-Err-clause-failed
 returns-in-Err-clause-failed g c = λ e.
     let rose = c.in-Err.ensures.failed (ap Err (unread_host c.args.names.now c.in-Err.why c.unread.result c.unread.ensures (same_stop c.unread.result e))) in
-    source_name c.args.names.now rose.0 (g.H.Host.faults c.args.host.now) (g.H.Host.faults c.read_sources.new.host) rose.1 rose.2
+    read_name c.args.names.now rose.0 (g.H.Host.faults c.args.host.now) (g.H.Host.faults c.read_sources.new.host) rose.1 rose.2

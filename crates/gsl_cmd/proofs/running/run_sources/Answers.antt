@@ -3,7 +3,8 @@ use Rattle.gsl_host.specs.declared.target.Target.TheVariants.{Reading}
 use Rattle.gsl_cmd.specs.Command.{Ends}
 use Rattle.gsl_cmd.specs.Job.{IsTextJob}
 use Rattle.gsl_cmd.proofs.Jobs.{contains_last}
-use Rattle.gsl_cmd.proofs.RunJobs.{same_stop, stopped_host, stopped_own, text_read, text_stopped}
+use Rattle.gsl_exec.proofs.Runs.{stopped_host}
+use Rattle.gsl_cmd.proofs.RunJobs.{stopped_own, text_read, text_stopped}
 use Rattle.gsl_cmd.proofs.running.run_sources.Goals as goal
 
 pub returns-in-Ok-clause-told : goal.returns-in-Ok-clause-told
@@ -26,4 +27,4 @@ returns-in-Err-clause-own g c = stopped_own c.in-Err.why c.stopped.result c.stop
 
 pub returns-in-Err-clause-failed : goal.returns-in-Err-clause-failed
 returns-in-Err-clause-failed g c = λ e.
-    (c.args.inputs.now, c.in-Err.ensures.failed (ap Err (stopped_host c.in-Err.why (sym c.stopped.ensures ∙ same_stop c.stopped.result e))))
+    (c.args.inputs.now, c.in-Err.ensures.failed (ap Err (stopped_host c.in-Err.why (ap Err (sym c.stopped.ensures) ∙ e))))
