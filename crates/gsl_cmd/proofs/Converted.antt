@@ -1,58 +1,27 @@
 -- The job of `dis` and of `asm`: what is made of a file, and that there is one.
-use Rattle.std.proofs.Common.{◌≡◌, ℕ, ◌^◌, ◌*◌, ◌<◌, ◌≤◌, List, [], ◌∷◌, length, Option, Some, None, Result, Ok, Err, refl, ap, sym, ◌∙◌, arith, inl, inr, ◌⊎◌, length-append}
-use Rattle.std.proofs.lemmas.Bool.{cases_lt, lt-ltb, le-ltb, cond-true, cond-false}
+use Rattle.std.proofs.Common.{◌≡◌, ℕ, List, [], ◌∷◌, Option, Some, Result, Ok, Err, refl, ap, sym, ◌∙◌}
 use Rattle.std.specs.FinMap.{get, insert}
-use Rattle.std.specs.List.{flat_map}
-use Rattle.std.specs.Int.{w32, to_le_bytes}
-use Rattle.gsl_base.specs.Ranges.{AreBytes}
 use Rattle.gsl_host.specs.Outside.{Files}
 use Rattle.gsl_text.specs.Lines.{lines_of}
-use Rattle.gsl_words.specs.declared.fault.WordFault.{WordFault}
-use Rattle.gsl_words.specs.declared.fault.WordFault.TheVariants.{NotWhole}
-use Rattle.gsl_words.specs.declared.module.Instr.{Instr}
 use Rattle.gsl_words.specs.declared.module.Module.{Module}
-use Rattle.gsl_words.specs.Bytes.{bytes_of, instr_words, module_words}
-use Rattle.gsl_words.specs.Faults.{Judges}
-use Rattle.gsl_words.proofs.Judgements as bytes
+use Rattle.gsl_words.specs.Bytes.{bytes_of}
 use Rattle.gsl_asm.specs.Shown.{shown}
 use Rattle.gsl_asm.specs.Reading.{module_from}
 use Rattle.gsl_asm.proofs.Lined.{module_is, wrong, one_module, one_place}
 use Rattle.gsl_plan.specs.Plan.{Plan, Name}
 use Rattle.gsl_cmd.specs.declared.converting.Conversion.{Conversion}
 use Rattle.gsl_cmd.specs.declared.converting.Conversion.TheVariants.{Disassemble, Assemble}
-use Rattle.gsl_cmd.specs.declared.converting.TheConstants.{MAX_MODULE_BYTES}
-use Rattle.gsl_cmd.specs.Converting.{Made, JudgesFile, JudgesText, Makes, shown_of, assembled_of, too_long}
-use Rattle.gsl_cmd.specs.Job.{Job, Found, Missing, Longer, Whole, IsJob, IsConversionJob, failed, rejected, made_of, found_in}
+use Rattle.gsl_exec.specs.declared.reading.TheConstants.{MAX_MODULE_BYTES}
+use Rattle.gsl_exec.specs.Owed.{Read, Missing, Longer, Whole}
+use Rattle.gsl_exec.proofs.Done.{whole_is}
+use Rattle.gsl_exec.proofs.Verdicts.{judged_file, of_file, one_file}
+use Rattle.gsl_cmd.specs.Converting.{Made, JudgesText, Makes, shown_of, assembled_of, too_long}
+use Rattle.gsl_cmd.specs.Job.{Job, IsJob, IsConversionJob, failed, rejected, made_of, found_in}
 use Rattle.gsl_cmd.specs.Performs.{effect_on}
 use Rattle.gsl_cmd.specs.Written.{Written}
 use Rattle.gsl_host.specs.declared.target.Target.TheVariants.{Reading}
 
 -- ---- there is a verdict, and one
-
-pub bytes_or : (l : List ℕ) → AreBytes l ⊎ (AreBytes l → ⊥)
-bytes_or [] = inl tt
-bytes_or (b ∷ l) =
-    elim (cases_lt b 256) [
-      | inr large ↦ inr (λ fit. omega (arith, fit.0, large))
-      | inl small ↦ elim (bytes_or l) [
-        | inl rest ↦ inl (small, rest)
-        | inr never ↦ inr (λ fit. never fit.1)
-      ]
-    ]
-
-pub judged_file : (l : List ℕ) → (verdict : Result Module WordFault) × JudgesFile l verdict
-judged_file l =
-    elim (bytes_or l) [
-      | inl fit ↦ let v = bytes.some l fit in (v.0, ((λ again. v.1), (λ never. absurd (never fit))))
-      | inr never ↦ (Err NotWhole, ((λ fit. absurd (never fit)), (λ again. refl)))
-    ]
-
-pub one_file : (l : List ℕ) (v w : Result Module WordFault) → JudgesFile l v → JudgesFile l w → v ≡ w
-one_file l v w jv jw =
-    elim (bytes_or l) [
-      | inl fit ↦ bytes.one l v w (jv.0 fit) (jw.0 fit)
-      | inr never ↦ jv.1 never ∙ sym (jw.1 never)
-    ]
 
 judged_text_as : (l : List ℕ) (found : Result Module ℕ) → module_from 1 (lines_of l) ≡ found → (verdict : Result Module ℕ) × JudgesText l verdict
 judged_text_as l (Ok m) e = (Ok m, module_is 1 (lines_of l) m e)
@@ -75,25 +44,17 @@ one_made : (conversion : Conversion) (name : Name) (l : List ℕ) (a b : Made) �
 one_made Disassemble name l a b (v, jv, av) (w, jw, bw) = av ∙ ap shown_of (one_file l v w jv jw) ∙ sym bw
 one_made Assemble name l a b (v, jv, av) (w, jw, bw) = av ∙ ap (assembled_of name) (one_text l v w jv jw) ∙ sym bw
 
-pub conversion_job : (conversion : Conversion) (file out : Name) (found : Found) → (job : Job) × IsConversionJob conversion file out job found
+pub conversion_job : (conversion : Conversion) (file out : Name) (found : Read) → (job : Job) × IsConversionJob conversion file out job found
 conversion_job conversion file out Missing = (failed (Reading file ∷ []), refl)
 conversion_job conversion file out Longer = (rejected (too_long conversion file) file, refl)
 conversion_job conversion file out (Whole l) = let m = some_made conversion file l in (made_of file out m.0, (m.0, m.1, refl))
 
-pub one_conversion : (conversion : Conversion) (file out : Name) (found : Found) (j k : Job) → IsConversionJob conversion file out j found → IsConversionJob conversion file out k found → j ≡ k
+pub one_conversion : (conversion : Conversion) (file out : Name) (found : Read) (j k : Job) → IsConversionJob conversion file out j found → IsConversionJob conversion file out k found → j ≡ k
 one_conversion conversion file out Missing j k js ks = js ∙ sym ks
 one_conversion conversion file out Longer j k js ks = js ∙ sym ks
 one_conversion conversion file out (Whole l) j k (a, ma, js) (b, mb, ks) = js ∙ ap (made_of file out) (one_made conversion file l a b ma mb) ∙ sym ks
 
 -- ---- what is written where the status is 0
-
-pub found_whole : (read : Option (List ℕ)) (l : List ℕ) → found_in read ≡ Whole l → read ≡ Some l
-found_whole None l e = absurd (cc)
-found_whole (Some bytes) l e =
-    elim (cases_lt MAX_MODULE_BYTES (length bytes)) [
-      | inl long ↦ absurd (let no : Longer ≡ Whole l = sym (cond-true _ _ _ (lt-ltb _ _ long)) ∙ e in cc)
-      | inr short ↦ let same : Whole bytes ≡ Whole l = sym (cond-false _ _ _ (le-ltb _ _ short)) ∙ e in cc
-    ]
 
 module _ (file out : Name) (before : Files) (after : Option Files) (job : Job) (zero : job.status ≡ 0) (files : after ≡ Some (effect_on job.effect before)) where
   status : {k : ℕ} (j : Job) → job ≡ j → j.status ≡ k → k ≡ 0
@@ -102,43 +63,27 @@ module _ (file out : Name) (before : Files) (after : Option Files) (job : Job) (
   effect : (j : Job) → job ≡ j → after ≡ Some (effect_on j.effect before)
   effect j is = files ∙ ap (λ (x : Job). Some (effect_on x.effect before)) is
 
-  shown_in : (found : Found) → found_in (get before file) ≡ found → IsConversionJob Disassemble file out job found → Written (Plan.Disassemble file out) before after
+  shown_in : (found : Read) → found_in (get before file) ≡ found → IsConversionJob Disassemble file out job found → Written (Plan.Disassemble file out) before after
   shown_in Missing e is = absurd (let no : 3 ≡ 0 = status _ is refl in cc)
   shown_in Longer e is = absurd (let no : 8 ≡ 0 = status _ is refl in cc)
   shown_in (Whole l) e (Err text, made, is) = absurd (let no : 8 ≡ 0 = status _ is refl in cc)
   shown_in (Whole l) e (Ok text, (Err fault, judged, made), is) = absurd (cc)
   shown_in (Whole l) e (Ok text, (Ok m, judged, made), is) =
-      let j = elim (bytes_or l) as (λ _. Judges l (Ok m)) [
-        | inl fit ↦ judged.0 fit
-        | inr never ↦ absurd (let no : Ok m ≡ Err NotWhole = judged.1 never in cc)
-      ] in
+      let j = of_file l m judged in
       let same : text ≡ shown m = cc in
-      (l, m, found_whole (get before file) l e, j.0, j.2, effect _ is ∙ ap (λ t. Some (insert before out t)) same)
+      (l, m, whole_is MAX_MODULE_BYTES (get before file) l e, j.0, j.2, effect _ is ∙ ap (λ t. Some (insert before out t)) same)
 
   pub shown_written : IsJob (Plan.Disassemble file out) before job → Written (Plan.Disassemble file out) before after
   shown_written is = shown_in (found_in (get before file)) refl is
 
-  assembled_in : (found : Found) → found_in (get before file) ≡ found → IsConversionJob Assemble file out job found → Written (Plan.Assemble file out) before after
+  assembled_in : (found : Read) → found_in (get before file) ≡ found → IsConversionJob Assemble file out job found → Written (Plan.Assemble file out) before after
   assembled_in Missing e is = absurd (let no : 3 ≡ 0 = status _ is refl in cc)
   assembled_in Longer e is = absurd (let no : 8 ≡ 0 = status _ is refl in cc)
   assembled_in (Whole l) e (Err text, made, is) = absurd (let no : 8 ≡ 0 = status _ is refl in cc)
   assembled_in (Whole l) e (Ok file_bytes, (Err line, judged, made), is) = absurd (cc)
   assembled_in (Whole l) e (Ok file_bytes, (Ok m, judged, made), is) =
       let same : file_bytes ≡ bytes_of m = cc in
-      (l, m, found_whole (get before file) l e, judged, effect _ is ∙ ap (λ t. Some (insert before out t)) same)
+      (l, m, whole_is MAX_MODULE_BYTES (get before file) l e, judged, effect _ is ∙ ap (λ t. Some (insert before out t)) same)
 
   pub assembled_written : IsJob (Plan.Assemble file out) before job → Written (Plan.Assemble file out) before after
   assembled_written is = assembled_in (found_in (get before file)) refl is
-
--- ---- a module has fewer instructions than its file has bytes
-
-pub four_each : (words : List ℕ) → length (flat_map (to_le_bytes w32) words) ≡ 4 * length words
-four_each [] = refl
-four_each (w ∷ words) = omega (arith, four_each words)
-
-one_each : (code : List Instr) → length code ≤ length (flat_map instr_words code)
-one_each [] = omega arith
-one_each (i ∷ code) = omega (arith, one_each code, length-append (instr_words i) (flat_map instr_words code))
-
-pub few_instrs : (m : Module) (l : List ℕ) → l ≡ bytes_of m → length l ≤ 402653184 → length m.instrs < 2 ^ 32
-few_instrs m l is short = omega (arith, ap length is, four_each (module_words m), one_each m.instrs)

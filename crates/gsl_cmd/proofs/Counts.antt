@@ -48,7 +48,7 @@ bound_few p =
     let few : length (constants_of p) ≤ 0 + length (values_used p) = fold_few [] (values_used p) in
     omega (arith, statements_few (constants_of p) p.statements)
 
-statements_light : (members : ℕ) (statements : List Statement) → AllByRecursion (IsStatement members) statements → statements_weight statements ≤ 130 * length statements
+pub statements_light : (members : ℕ) (statements : List Statement) → AllByRecursion (IsStatement members) statements → statements_weight statements ≤ 130 * length statements
 statements_light members [] all = omega arith
 statements_light members (s ∷ statements) all = let most = all.0.most in omega (arith, statements_light members statements all.1)
 

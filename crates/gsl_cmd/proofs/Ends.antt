@@ -1,11 +1,11 @@
 -- A command that came to its end, and what was printed then, perform its job.
-use Rattle.std.proofs.Common.{◌≡◌, ℕ, List, [], Option, Some, Ok, Err, refl, ap, sym, subst, ◌∙◌, inl, inr, ◌⊎◌}
+use Rattle.std.proofs.Common.{◌≡◌, ℕ, List, Option, Some, Ok, Err, refl, ap, sym, subst, ◌∙◌, inl, inr, ◌⊎◌}
 use Rattle.std.specs.Prelude.{Result}
 use Rattle.gsl_base.specs.declared.fault.Fault.{Fault}
 use Rattle.gsl_host.specs.declared.target.Stream.{Stream}
 use Rattle.gsl_host.specs.declared.target.Stream.TheVariants as stream
 use Rattle.gsl_host.specs.declared.target.Target.{Target}
-use Rattle.gsl_host.specs.Outside.{Files, Appends, AppendsSome, NeverFall}
+use Rattle.gsl_host.specs.Outside.{Files, AppendsSome, NeverFall}
 use Rattle.gsl_cmd.specs.declared.stop.Stop.{Stop}
 use Rattle.gsl_cmd.specs.declared.stop.Stop.TheVariants as stop
 use Rattle.gsl_form.specs.Form.{Name}
@@ -13,14 +13,9 @@ use Rattle.gsl_cmd.specs.Job.{Job, Effect, IsJob}
 use Rattle.gsl_plan.specs.Plan.{Plan}
 use Rattle.gsl_cmd.specs.Performs.{Performs, Prints, effect_on}
 use Rattle.gsl_cmd.specs.Command.{Ended, Reported}
-use Rattle.gsl_cmd.specs.Texts.{told_fault, host_text}
-use Rattle.gsl_cmd.proofs.Streams.{appends_none, earlier_rise, prints_over}
-
-appends_no_text : (before after : Option (List ℕ)) (text : List ℕ) → text ≡ [] → after ≡ before → Appends before after text
-appends_no_text before after text none same = subst (Appends before after) (sym none) (appends_none before after same)
-
-appends_some : (before after : Option (List ℕ)) (text : List ℕ) → after ≡ before → AppendsSome before after text
-appends_some before after text same = (0, appends_none before after same)
+use Rattle.gsl_cmd.specs.Texts.{told_fault}
+use Rattle.gsl_exec.specs.Texts.{host_text}
+use Rattle.gsl_cmd.proofs.Streams.{appends_no_text, appends_some, earlier_rise, prints_over}
 
 module _ (plan : Plan) (names : List Name) (before : Files) (after : Option Files) (first then last : Target → ℕ) (printed printed' : Stream → Option (List ℕ))
     (up : NeverFall first then) (over : NeverFall then last) (quiet : printed' stream.Out ≡ printed stream.Out) where

@@ -24,13 +24,10 @@ use Rattle.gsl_form.proofs.Units.{program_is, program_gives}
 use Rattle.gsl_cmd.specs.Verdict.{IsOfForm, Accepts, FaultWhere, Judges, fault_in, linked_of}
 use Rattle.gsl_plan.specs.Plan.{Plan}
 use Rattle.gsl_cmd.specs.Texts.{told_fault}
-use Rattle.gsl_cmd.specs.Job.{Job, Effect, IsJob, IsCompileJob, Gathered, Sources, Absent, TooLong, gather, gather_one, is_source, reads, with_source, failed, refused, compiled, found_in}
+use Rattle.gsl_cmd.specs.Job.{Job, Effect, IsCompileJob, Gathered, Sources, Absent, TooLong, gather, gather_one, is_source, reads, with_source, failed, refused, compiled}
 use Rattle.gsl_cmd.specs.Performs.{KeepsAllBut}
 use Rattle.gsl_cmd.specs.Command.{Did, Ended, ReadsGathered, ReadsSourceTold, CompilesSources, behind_sources}
 use Rattle.gsl_cmd.specs.Targets.{targets_of}
-use Rattle.gsl_cmd.specs.declared.converting.Conversion.TheVariants.{Disassemble, Assemble}
-use Rattle.gsl_cmd.proofs.Converted.{conversion_job}
-use Rattle.gsl_cmd.proofs.CheckJobs.{check_job}
 
 -- The rules give some verdict.
 stage_compute : (stage : Stage) → (stage ≡ Compute) ⊎ (stage ≢ Compute)
@@ -61,19 +58,13 @@ judged stage sources (Ok linked) is =
 pub some_verdict : (stage : Stage) (sources : List (List ℕ)) → (verdict : Checked Program) × Judges stage sources verdict
 some_verdict stage sources = judged stage sources (linked_of stage sources) refl
 
--- There is a job of every command over all files.
-compile_job : (stage : Stage) (out : Name) (names : List Name) (targets : List Target) (gathered : Gathered) → (job : Job) × IsCompileJob stage out names targets job gathered
+-- There is a job of `compile` over all files.
+pub compile_job : (stage : Stage) (out : Name) (names : List Name) (targets : List Target) (gathered : Gathered) → (job : Job) × IsCompileJob stage out names targets job gathered
 compile_job stage out names targets Absent = (failed targets, refl)
 compile_job stage out names targets (TooLong unit) = (refused names targets (fault_in unit E0900), refl)
 compile_job stage out names targets (Sources sources) =
     let verdict = some_verdict stage sources in
     (compiled out names targets verdict.0, (verdict.0, verdict.1, refl))
-
-pub some_job : (plan : Plan) (files : Files) → (job : Job) × IsJob plan files job
-some_job (Plan.Compile stage out names) files = compile_job stage out names (reads files names) (gather files 0 names)
-some_job (Plan.Disassemble file out) files = conversion_job Disassemble file out (found_in (get files file))
-some_job (Plan.Assemble file out) files = conversion_job Assemble file out (found_in (get files file))
-some_job (Plan.Check file) files = check_job file (found_in (get files file))
 
 -- Files that are as before keep all but what any effect writes.
 pub keeps_same : (effect : Effect) (before : Files) (after : Option Files) → after ≡ Some before → KeepsAllBut effect before after
@@ -96,7 +87,7 @@ contains_last x (y ∷ xs) =
 
 -- ---- what reading gathers
 
-behind_no_sources : (g : Gathered) → behind_sources [] g ≡ g
+pub behind_no_sources : (g : Gathered) → behind_sources [] g ≡ g
 behind_no_sources (Sources sources) = refl
 behind_no_sources Absent = refl
 behind_no_sources (TooLong unit) = refl
@@ -197,7 +188,7 @@ module _ (stage : Stage) (out : Name) (names : List Name) (files : Files) where
     -- want of memory leaves some job
     pub ended_memory : after ≡ Some files → Came (Err stop.Memory)
     ended_memory same =
-        let job = some_job plan files in
+        let job = compile_job stage out names its_reads (gather files 0 names) in
         record { job = job.0; is_job = job.1; out = λ none. absurd none; did = tt; kept = keeps_same job.0.effect files after same }
 
     long_ended : (fault : Fault) (unit : ℕ) → gather files 0 names ≡ TooLong unit → fault ≡ fault_in unit E0900 → after ≡ Some files → Came (Err (stop.Fault fault))
@@ -216,7 +207,7 @@ module _ (stage : Stage) (out : Name) (names : List Name) (files : Files) where
     ended_read stop.Memory told same rose = ended_memory same
     ended_read (stop.Rejected text) told same rose = absurd told
     ended_read stop.Host told same rose =
-        let job = some_job plan files in
+        let job = compile_job stage out names its_reads (gather files 0 names) in
         let (target, at, rises) = rose refl in
         record {
           job = job.0;

@@ -3,11 +3,15 @@ pub mod Encodable
 pub mod Verdicts
 pub mod Converted
 pub mod Streams
+pub mod Finished
 pub mod CheckJobs
+pub mod ExecJobs
 pub mod Jobs
 pub mod Conversions
 pub mod Ends
 pub mod Unique
+pub mod RunJobs
+pub mod AllJobs
 pub mod Known
 pub mod Parts
 pub mod Walks

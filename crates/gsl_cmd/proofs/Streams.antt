@@ -1,5 +1,5 @@
 -- What streams gained, and faults that rose.
-use Rattle.std.proofs.Common.{◌≡◌, ℕ, List, [], ◌++◌, Option, Some, None, ap, sym, ◌∙◌, arith, inl, inr, append-nil, length}
+use Rattle.std.proofs.Common.{◌≡◌, ℕ, List, [], ◌++◌, Option, Some, None, ap, sym, subst, ◌∙◌, arith, inl, inr, append-nil, length}
 use Rattle.std.specs.Option.{option_map}
 use Rattle.std.proofs.Math.Seq.{take-length}
 use Rattle.gsl_host.specs.declared.target.Stream.TheVariants as stream
@@ -11,6 +11,13 @@ use Rattle.gsl_cmd.specs.Performs.{Prints}
 pub appends_none : (before after : Option (List ℕ)) → after ≡ before → Appends before after []
 appends_none None after same = same
 appends_none (Some shown) after same = same ∙ ap Some (sym (append-nil shown))
+
+-- nothing was printed
+pub appends_no_text : (before after : Option (List ℕ)) (text : List ℕ) → text ≡ [] → after ≡ before → Appends before after text
+appends_no_text before after text none same = subst (Appends before after) (sym none) (appends_none before after same)
+
+pub appends_some : (before after : Option (List ℕ)) (text : List ℕ) → after ≡ before → AppendsSome before after text
+appends_some before after text same = (0, appends_none before after same)
 
 -- what has gained all has gained some first part
 pub appends_part : (before after : Option (List ℕ)) (text : List ℕ) → Appends before after text → AppendsSome before after text

@@ -1,22 +1,16 @@
--- Sources have one verdict, and commands one job.
+-- Sources have one verdict, and `compile` one job.
 use Rattle.std.proofs.Common.{◌≡◌, ℕ, List, Ok, Err, ap, sym, subst, ◌∙◌}
-use Rattle.std.specs.FinMap.{get}
 use Rattle.gsl_base.specs.declared.stage.Stage.{Stage}
 use Rattle.gsl_base.specs.declared.fault.Fault.{Fault}
 use Rattle.gsl_base.specs.Checked.{Checked}
 use Rattle.gsl_host.specs.declared.target.Target.{Target}
-use Rattle.gsl_host.specs.Outside.{Files}
 use Rattle.gsl_form.specs.declared.program.Program.{Program}
 use Rattle.gsl_form.specs.Form.{Name}
 use Rattle.gsl_tree.specs.declared.program.Program.{Program as Linked}
 use Rattle.gsl_tree.specs.WellTyped.{program_lists}
 use Rattle.gsl_form.proofs.Units.{one_program}
-use Rattle.gsl_cmd.specs.Job.{Job, IsJob, IsCompileJob, Gathered, Sources, Absent, TooLong, gather, reads, compiled, found_in}
-use Rattle.gsl_plan.specs.Plan.{Plan}
+use Rattle.gsl_cmd.specs.Job.{Job, IsCompileJob, Gathered, Sources, Absent, TooLong, compiled}
 use Rattle.gsl_cmd.specs.Verdict.{IsOfForm, Accepts, FirstFault, FaultWhere, Judges, linked_of}
-use Rattle.gsl_cmd.specs.declared.converting.Conversion.TheVariants.{Disassemble, Assemble}
-use Rattle.gsl_cmd.proofs.Converted.{one_conversion}
-use Rattle.gsl_cmd.proofs.CheckJobs.{one_check}
 
 one_formed : (stage : Stage) (linked : Linked) (p q : Program) → IsOfForm stage linked p → IsOfForm stage linked q → p ≡ q
 one_formed stage linked p q ps qs = one_program (program_lists linked) p q ps.spelled qs.spelled
@@ -41,16 +35,9 @@ one_judged stage sources (Ok p) (Err f) ps fs = absurd (never_both stage sources
 one_judged stage sources (Err f) (Ok p) fs ps = absurd (never_both stage sources p f ps fs)
 one_judged stage sources (Err f) (Err g) fs gs = ap Err (one_where stage f g (linked_of stage sources) fs gs)
 
-one_compile_job : (stage : Stage) (out : Name) (names : List Name) (targets : List Target) (gathered : Gathered) (j k : Job) →
+pub one_compile_job : (stage : Stage) (out : Name) (names : List Name) (targets : List Target) (gathered : Gathered) (j k : Job) →
     IsCompileJob stage out names targets j gathered → IsCompileJob stage out names targets k gathered → j ≡ k
 one_compile_job stage out names targets Absent j k js ks = js ∙ sym ks
 one_compile_job stage out names targets (TooLong unit) j k js ks = js ∙ sym ks
 one_compile_job stage out names targets (Sources sources) j k (v, vs, js) (w, ws, ks) =
     js ∙ ap (compiled out names targets) (one_judged stage sources v w vs ws) ∙ sym ks
-
-pub one_job_of : (plan : Plan) (files : Files) (j k : Job) → IsJob plan files j → IsJob plan files k → j ≡ k
-one_job_of (Plan.Compile stage out names) files j k js ks =
-    one_compile_job stage out names (reads files names) (gather files 0 names) j k js ks
-one_job_of (Plan.Disassemble file out) files j k js ks = one_conversion Disassemble file out (found_in (get files file)) j k js ks
-one_job_of (Plan.Assemble file out) files j k js ks = one_conversion Assemble file out (found_in (get files file)) j k js ks
-one_job_of (Plan.Check file) files j k js ks = one_check file (found_in (get files file)) j k js ks

@@ -12,6 +12,8 @@ use Rattle.gsl_cmd.specs.Written.{Written}
 use Rattle.gsl_base.specs.declared.stage.Stage.{Stage}
 use Rattle.gsl_cmd.proofs.Converted.{shown_written, assembled_written}
 use Rattle.gsl_cmd.proofs.CheckJobs.{check_written}
+use Rattle.gsl_cmd.proofs.ExecJobs.{exec_written}
+use Rattle.gsl_cmd.proofs.RunJobs.{run_written}
 use Rattle.gsl_cmd.proofs.Carried.{program_carries}
 use Rattle.gsl_cmd.proofs.Sizes.{module_small}
 use Rattle.gsl_cmd.proofs.PortableModule.{module_portable}
@@ -41,6 +43,8 @@ job_written (Plan.Compile stage out names) before after job is zero files = by_g
 job_written (Plan.Disassemble file out) before after job is zero files = shown_written file out before after job zero files is
 job_written (Plan.Assemble file out) before after job is zero files = assembled_written file out before after job zero files is
 job_written (Plan.Check file) before after job is zero files = check_written file before after job zero files is
+job_written (Plan.Exec file inputs) before after job is zero files = exec_written file inputs before after job zero files is
+job_written (Plan.Run stage inputs names) before after job is zero files = run_written stage inputs names before after job zero files is
 
 pub performed_written : (plan : Plan) (before : Files) (after : Option Files) (faults faults' : Target → ℕ)
     (printed printed' : Stream → Option (List ℕ)) (status : ℕ) → status ≡ 0 →

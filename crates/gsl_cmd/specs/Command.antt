@@ -7,19 +7,26 @@ use Rattle.gsl_host.specs.Outside.{Files, Appends, AppendsSome, Rose}
 use Rattle.gsl_cmd.specs.declared.stop.Stop.{Stop}
 use Rattle.gsl_cmd.specs.declared.stop.Stop.TheVariants as stop
 use Rattle.gsl_form.specs.Form.{Name}
-use Rattle.gsl_cmd.specs.Checking.{Checks, refused_module}
-use Rattle.gsl_cmd.specs.Job.{Job, IsJob, Effect, Gathered, Sources, Absent, TooLong, IsCheckJob, checked_of, rejected, found_in}
+use Rattle.gsl_cmd.specs.Checking.{Checks}
+use Rattle.gsl_cmd.specs.Job.{Job, IsJob, Effect, Gathered, Sources, Absent, TooLong}
 use Rattle.gsl_cmd.specs.Performs.{effect_on, KeepsAllBut, Prints}
 use Rattle.gsl_plan.specs.Plan.{Plan}
-use Rattle.gsl_cmd.specs.Texts.{told_fault, host_text, word_text}
+use Rattle.gsl_cmd.specs.Texts.{told_fault, valid_text}
+use Rattle.gsl_exec.specs.declared.reading.TheConstants.{MAX_MODULE_BYTES}
+use Rattle.gsl_exec.specs.declared.stop.Stop.{Stop as Unlisted}
+use Rattle.gsl_exec.specs.declared.stop.Stop.TheVariants as unlisted
+use Rattle.gsl_exec.specs.Texts.{host_text}
 use Rattle.gsl_cmd.specs.declared.converting.Conversion.{Conversion}
-use Rattle.gsl_cmd.specs.declared.converting.TheConstants.{MAX_MODULE_BYTES}
 use Rattle.gsl_cmd.specs.Converting.{Made, too_long}
-use Rattle.gsl_words.specs.declared.fault.WordFault.{WordFault}
-use Rattle.gsl_words.specs.declared.module.Module.{Module}
-use Rattle.gsl_words.specs.declared.fault.WordFault.TheVariants.{Memory}
 use Rattle.gsl_cmd.specs.declared.compiling.TheConstants.{MAX_SOURCE_BYTES}
-use Rattle.gsl_cmd.specs.Verdict.{fault_in, Compiles, FirstFault}
+use Rattle.gsl_cmd.specs.Lowering.{module_of}
+use Rattle.gsl_cmd.specs.Verdict.{Accepts, Compiles, FirstFault, fault_in}
+use Rattle.gsl_form.specs.declared.program.Program.{Program}
+use Rattle.gsl_valid.specs.Valid.{Valid}
+use Rattle.gsl_words.specs.declared.module.Module.{Module}
+use Rattle.gsl_base.specs.declared.fault.Fault.{Fault}
+use Rattle.gsl_exec.specs.Owed.{IsTaken, Owed}
+use Rattle.gsl_exec.specs.Steps.{IsLine}
 use Rattle.gsl_base.specs.declared.stage.Stage.{Stage}
 use Rattle.gsl_base.specs.declared.fault.Code.TheVariants.{E0900}
 use Rattle.std.specs.FinMap.{get}
@@ -122,12 +129,11 @@ Gives IsMade (Err stop.Memory) = Unit {0}
 Gives IsMade (Err (stop.Fault fault)) = ⊥
 Gives IsMade (Err stop.Host) = ⊥
 
--- Why a fault of a module's file stops a command: it is told, unless memory was wanting.
-abbrev pub Rejects : WordFault → Stop → Type 0
-Rejects fault (stop.Rejected text) = (fault ≢ Memory) × (text ≡ word_text fault)
-Rejects fault stop.Memory = Unit {0}
-Rejects fault (stop.Fault other) = ⊥
-Rejects fault stop.Host = ⊥
+-- why a module's file is refused
+abbrev pub refused_by : Unlisted → Stop
+refused_by (unlisted.Told status text) = stop.Rejected text
+refused_by unlisted.Host = stop.Host
+refused_by unlisted.Memory = stop.Memory
 
 -- A line that is told, unless memory was wanting.
 abbrev pub Tells : List ℕ → Stop → Type 0
@@ -136,25 +142,84 @@ Tells line stop.Memory = Unit {0}
 Tells line (stop.Fault fault) = ⊥
 Tells line stop.Host = ⊥
 
--- What judging a module comes to.
-abbrev pub JudgesModule : Module → Result (Unit {0}) Stop → Type 0
-JudgesModule m (Ok done) = refused_module m ≡ None
-JudgesModule m (Err (stop.Rejected text)) = refused_module m ≡ Some text
-JudgesModule m (Err stop.Memory) = Unit {0}
-JudgesModule m (Err (stop.Fault fault)) = ⊥
-JudgesModule m (Err stop.Host) = ⊥
+-- ---- commands that print what they make, and write no file
+
+-- The status is none of those that have other causes than what is told.
+abbrev pub IsOwn : ℕ → Type 0
+IsOwn status = (status ≢ 2) × (status ≢ 3) × (status ≢ 4)
+
+abbrev pub HasOwn : Result (List ℕ) Unlisted → Type 0
+HasOwn (Ok text) = Unit {0}
+HasOwn (Err (unlisted.Told status text)) = IsOwn status
+HasOwn (Err unlisted.Host) = Unit {0}
+HasOwn (Err unlisted.Memory) = Unit {0}
+
+-- The job that tells a line with a status.
+pub record Says (job : Job) (status : ℕ) (text : List ℕ) : Type 0 where
+  pub ends : job.status ≡ status
+  pub quiet : job.out ≡ []
+  pub says : job.err ≡ text
+  pub keeps : job.effect ≡ Effect.Keeps
+  pub own : IsOwn status
+
+-- The job that prints a text.
+pub record Lists (job : Job) (text : List ℕ) : Type 0 where
+  pub status : job.status ≡ 0
+  pub out : job.out ≡ text
+  pub err : job.err ≡ []
+  pub keeps : job.effect ≡ Effect.Keeps
+  pub reached : Contains job.targets (Printing stream.Out)
+
+-- What a step that ended so has done of the job, up to what is printed. `Failing` is what is known where the host failed.
+abbrev pub Comes : Type 0 → Job → Result (List ℕ) Unlisted → Type 0
+Comes Failing job (Ok text) = Lists job text
+Comes Failing job (Err (unlisted.Told status text)) = Says job status text
+Comes Failing job (Err unlisted.Host) = (job.effect ≡ Effect.Keeps) × Failing
+Comes Failing job (Err unlisted.Memory) = job.effect ≡ Effect.Keeps
+
+-- The faults rose of something that the job reaches for.
+abbrev pub Reaches : (Target → ℕ) → (Target → ℕ) → Job → Type 0
+Reaches faults faults' job = (target : Target) × Contains job.targets target × Rose faults faults' target
+
+-- There is such a job, of which a step that ended so has done so much.
+abbrev pub Ends : (Job → Type 0) → (Target → ℕ) → (Target → ℕ) → Result (List ℕ) Unlisted → Type 0
+Ends IsIts faults faults' end = (job : Job) × IsIts job × Comes (Reaches faults faults' job) job end
+
+-- What a command came to was printed, with the status that belongs to it.
+abbrev pub Finished : Result (List ℕ) Unlisted → (Target → ℕ) → (Target → ℕ) → Option (List ℕ) → Option (List ℕ) → Option (List ℕ) → Option (List ℕ) → ℕ → Type 0
+Finished (Ok text) faults faults' out out' err err' status = Shown faults faults' out out' err err' text status
+Finished (Err (unlisted.Told told text)) faults faults' out out' err err' status = Said faults faults' err err' text told status × (out' ≡ out)
+Finished (Err unlisted.Host) faults faults' out out' err err' status = Said faults faults' err err' host_text 3 status × (out' ≡ out)
+Finished (Err unlisted.Memory) faults faults' out out' err err' status = (status ≡ 4) × (err' ≡ err) × (out' ≡ out)
 
 -- What judging the bytes of a module's file comes to.
-abbrev pub JudgesBytes : List ℕ → Result (Unit {0}) Stop → Type 0
-JudgesBytes bytes (Ok done) = Checks bytes None
-JudgesBytes bytes (Err (stop.Rejected text)) = Checks bytes (Some text)
-JudgesBytes bytes (Err stop.Memory) = Unit {0}
-JudgesBytes bytes (Err (stop.Fault fault)) = ⊥
-JudgesBytes bytes (Err stop.Host) = ⊥
+abbrev pub ChecksBytes : List ℕ → Result (List ℕ) Unlisted → Type 0
+ChecksBytes bytes (Ok text) = Checks bytes None × (text ≡ valid_text)
+ChecksBytes bytes (Err (unlisted.Told status text)) = (status ≡ 8) × Checks bytes (Some text)
+ChecksBytes bytes (Err unlisted.Memory) = Unit {0}
+ChecksBytes bytes (Err unlisted.Host) = ⊥
 
--- What `check` comes to before anything is printed, where the files are told.
-abbrev pub ChecksFile : Files → Name → Result (Unit {0}) Stop → Type 0
-ChecksFile files file (Ok done) = IsCheckJob file (checked_of file None) (found_in (get files file))
-ChecksFile files file (Err (stop.Rejected text)) = IsCheckJob file (rejected text file) (found_in (get files file))
-ChecksFile files file (Err (stop.Fault fault)) = ⊥
-ChecksFile files file (Err _) = Unit {0}
+-- ---- `run`
+
+-- Of a valid module something is owed behind the bytes of any manifest, and it reaches for all that was reached for before.
+abbrev pub SomeTaken : Type 0
+SomeTaken = (m : Module) → Valid m → (files : Files) (text : List ℕ) (targets : List Target) →
+    (owed : Owed) × IsTaken files text targets owed (Ok m) None × ((target : Target) → Contains targets target → Contains owed.targets target)
+
+-- No two things are.
+abbrev pub OneTaken : Type 0
+OneTaken = (m : Module) (files : Files) (text : List ℕ) (targets : List Target) (a b : Owed) → IsTaken files text targets a (Ok m) None → IsTaken files text targets b (Ok m) None → a ≡ b
+
+-- Why source files were not read, as a line with its status.
+abbrev pub Unreads : List Name → Stop → Unlisted → Type 0
+Unreads names (stop.Fault fault) end = IsLine 1 (told_fault names fault) end
+Unreads names (stop.Rejected text) end = end ≡ unlisted.Told 8 text
+Unreads names stop.Host end = end ≡ unlisted.Host
+Unreads names stop.Memory end = end ≡ unlisted.Memory
+
+-- What making the module of sources comes to.
+abbrev pub MakesModule : Stage → List (List ℕ) → List Name → Result Module Unlisted → Type 0
+MakesModule stage sources names (Ok m) = (p : Program) × Accepts stage sources p × (m ≡ module_of p)
+MakesModule stage sources names (Err (unlisted.Told status text)) = (fault : Fault) × FirstFault stage sources fault × (status ≡ 1) × (text ≡ told_fault names fault)
+MakesModule stage sources names (Err unlisted.Memory) = Unit {0}
+MakesModule stage sources names (Err unlisted.Host) = ⊥

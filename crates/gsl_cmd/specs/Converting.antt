@@ -1,26 +1,21 @@
 -- What `dis` and `asm` make of the bytes of a file.
 use Rattle.std.specs.Prelude.{◌≡◌, ℕ, List, Result, Ok, Err}
-use Rattle.gsl_base.specs.Ranges.{AreBytes}
 use Rattle.gsl_text.specs.Lines.{lines_of}
 use Rattle.gsl_words.specs.declared.fault.WordFault.{WordFault}
-use Rattle.gsl_words.specs.declared.fault.WordFault.TheVariants.{NotWhole}
 use Rattle.gsl_words.specs.declared.module.Module.{Module}
 use Rattle.gsl_words.specs.Bytes.{bytes_of}
-use Rattle.gsl_words.specs.Faults.{Judges}
 use Rattle.gsl_asm.specs.Shown.{shown}
 use Rattle.gsl_asm.specs.Texts.{IsTextOf, IsWrong}
 use Rattle.gsl_plan.specs.Plan.{Name, Plan}
 use Rattle.gsl_cmd.specs.declared.converting.Conversion.{Conversion}
 use Rattle.gsl_cmd.specs.declared.converting.Conversion.TheVariants.{Disassemble, Assemble}
-use Rattle.gsl_cmd.specs.Texts.{word_text, line_text, module_long_text, long_text}
+use Rattle.gsl_cmd.specs.Texts.{line_text, long_text}
+use Rattle.gsl_exec.specs.Judged.{JudgesFile}
+use Rattle.gsl_exec.specs.Texts.{word_text, module_long_text}
 
 -- The bytes that are written, or the line that says why there are none.
 abbrev pub Made : Type 0
 Made = Result (List ℕ) (List ℕ)
-
--- What is judged of the bytes of a file. A list of other numbers is no file, and is never read.
-abbrev pub JudgesFile : List ℕ → Result Module WordFault → Type 0
-JudgesFile bytes verdict = (AreBytes bytes → Judges bytes verdict) × ((AreBytes bytes → ⊥) → verdict ≡ Err NotWhole)
 
 abbrev pub shown_of : Result Module WordFault → Made
 shown_of (Ok m) = Ok (shown m)

@@ -14,15 +14,19 @@ use Rattle.gsl_words.specs.Bytes.{bytes_of}
 use Rattle.gsl_cmd.specs.declared.compiling.TheConstants.{MAX_SOURCE_BYTES}
 use Rattle.gsl_form.specs.declared.program.Program.{Program}
 use Rattle.gsl_form.specs.Form.{Name}
+use Rattle.gsl_given.specs.declared.given.TheConstants.{MAX_MANIFEST_BYTES}
+use Rattle.gsl_given.specs.Texts.{long_text}
 use Rattle.gsl_cmd.specs.Lowering.{module_of}
 use Rattle.gsl_plan.specs.Plan.{Plan}
 use Rattle.gsl_cmd.specs.declared.converting.Conversion.{Conversion}
 use Rattle.gsl_cmd.specs.declared.converting.Conversion.TheVariants.{Disassemble, Assemble}
-use Rattle.gsl_cmd.specs.declared.converting.TheConstants.{MAX_MODULE_BYTES}
 use Rattle.gsl_cmd.specs.Converting.{Made, Makes, too_long}
 use Rattle.gsl_cmd.specs.Checking.{Checks}
-use Rattle.gsl_cmd.specs.Texts.{fault_text, host_text, module_long_text, valid_text}
+use Rattle.gsl_cmd.specs.Texts.{fault_text, valid_text}
 use Rattle.gsl_cmd.specs.Verdict.{Judges, fault_in}
+use Rattle.gsl_exec.specs.declared.reading.TheConstants.{MAX_MODULE_BYTES}
+use Rattle.gsl_exec.specs.Owed.{IsOwed, IsTaken, Owed, Read, Missing, Longer, Whole, read_of, told}
+use Rattle.gsl_exec.specs.Texts.{host_text, module_long_text}
 
 -- What becomes of the files.
 pub data Effect : Type 0 where
@@ -96,17 +100,11 @@ abbrev pub made_of : Name → Name → Made → Job
 made_of file out (Ok bytes) = record { status = 0; out = []; err = []; effect = Writes out bytes; targets = Reading file ∷ Writing out ∷ [] }
 made_of file out (Err text) = rejected text file
 
--- What reading the file of a module, or of its text, gives.
-pub data Found : Type 0 where
-  Missing : Found
-  Longer : Found
-  Whole : (bytes : List ℕ) → Found
+-- what reading the file of a module, or of its text, gives
+abbrev pub found_in : Option (List ℕ) → Read
+found_in = read_of MAX_MODULE_BYTES
 
-abbrev pub found_in : Option (List ℕ) → Found
-found_in None = Missing
-found_in (Some bytes) = if nat_lt MAX_MODULE_BYTES (length bytes) then Longer else Whole bytes
-
-abbrev pub IsConversionJob : Conversion → Name → Name → Job → Found → Type 0
+abbrev pub IsConversionJob : Conversion → Name → Name → Job → Read → Type 0
 IsConversionJob conversion file out job Missing = job ≡ failed (Reading file ∷ [])
 IsConversionJob conversion file out job Longer = job ≡ rejected (too_long conversion file) file
 IsConversionJob conversion file out job (Whole bytes) = (made : Made) × Makes conversion file bytes made × (job ≡ made_of file out made)
@@ -116,10 +114,37 @@ abbrev pub checked_of : Name → Option (List ℕ) → Job
 checked_of file None = record { status = 0; out = valid_text; err = []; effect = Keeps; targets = Reading file ∷ Printing stream.Out ∷ [] }
 checked_of file (Some text) = rejected text file
 
-abbrev pub IsCheckJob : Name → Job → Found → Type 0
+abbrev pub IsCheckJob : Name → Job → Read → Type 0
 IsCheckJob file job Missing = job ≡ failed (Reading file ∷ [])
 IsCheckJob file job Longer = job ≡ rejected module_long_text file
 IsCheckJob file job (Whole bytes) = (refusal : Option (List ℕ)) × Checks bytes refusal × (job ≡ checked_of file refusal)
+
+-- the job that is owed
+abbrev pub job_of : Owed → Job
+job_of owed = record { status = owed.status; out = owed.out; err = owed.err; effect = Keeps; targets = owed.targets }
+
+abbrev pub IsExecJob : Name → Name → Files → Job → Type 0
+IsExecJob file inputs files job = (owed : Owed) × IsOwed file inputs files owed × (job ≡ job_of owed)
+
+-- the job of the module of the program that the sources make, or of their first fault, which comes before what is wrong with the manifest
+abbrev pub IsModuleJob : Files → List Name → List ℕ → List Target → Job → Checked Program → Type 0
+IsModuleJob files names text targets job (Ok p) = (owed : Owed) × IsTaken files text targets owed (Ok (module_of p)) None × (job ≡ job_of owed)
+IsModuleJob files names text targets job (Err fault) = job ≡ refused names targets fault
+
+abbrev pub IsTextJob : Files → Stage → List Name → List (List ℕ) → List ℕ → List Target → Job → Type 0
+IsTextJob files stage names sources text targets job = (verdict : Checked Program) × Judges stage sources verdict × IsModuleJob files names text targets job verdict
+
+-- the manifest's file, which is read behind the sources and before they are compiled
+abbrev pub IsInputsJob : Files → Stage → List Name → List (List ℕ) → List Target → Job → Read → Type 0
+IsInputsJob files stage names sources targets job Missing = job ≡ failed targets
+IsInputsJob files stage names sources targets job Longer = job ≡ job_of (told 7 long_text targets)
+IsInputsJob files stage names sources targets job (Whole text) = IsTextJob files stage names sources text targets job
+
+abbrev pub IsRunJob : Stage → Name → List Name → Files → List Target → Job → Gathered → Type 0
+IsRunJob stage inputs names files targets job Absent = job ≡ failed targets
+IsRunJob stage inputs names files targets job (TooLong unit) = job ≡ refused names targets (fault_in unit E0900)
+IsRunJob stage inputs names files targets job (Sources sources) =
+    IsInputsJob files stage names sources (targets ++ Reading inputs ∷ []) job (read_of MAX_MANIFEST_BYTES (get files inputs))
 
 -- The job of a command over the files that are told.
 abbrev pub IsJob : Plan → Files → Job → Type 0
@@ -127,3 +152,5 @@ IsJob (Plan.Compile stage out names) files job = IsCompileJob stage out names (r
 IsJob (Plan.Disassemble file out) files job = IsConversionJob Disassemble file out job (found_in (get files file))
 IsJob (Plan.Assemble file out) files job = IsConversionJob Assemble file out job (found_in (get files file))
 IsJob (Plan.Check file) files job = IsCheckJob file job (found_in (get files file))
+IsJob (Plan.Exec file inputs) files job = IsExecJob file inputs files job
+IsJob (Plan.Run stage inputs names) files job = IsRunJob stage inputs names files (reads files names) job (gather files 0 names)

@@ -7,7 +7,7 @@ use Rattle.gsl_host.specs.declared.target.Target.{Target}
 use Rattle.gsl_host.specs.declared.target.Target.TheVariants.{Printing}
 use Rattle.gsl_host.specs.Outside.{Files, KeepsOthers, Appends, AppendsSome, Rose}
 use Rattle.gsl_cmd.specs.Job.{Job, Effect}
-use Rattle.gsl_cmd.specs.Texts.{host_text}
+use Rattle.gsl_exec.specs.Texts.{host_text}
 
 -- the files after the effect
 abbrev pub effect_on : Effect → Files → Files

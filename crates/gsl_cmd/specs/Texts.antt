@@ -3,8 +3,6 @@ use Rattle.std.specs.Prelude.{ℕ, ◌+◌, ◌/◌, ◌%◌, List, [], ◌∷�
 use Rattle.std.specs.Fmt.{decimal}
 use Rattle.gsl_base.specs.declared.fault.Fault.{Fault}
 use Rattle.gsl_base.specs.Code.{number_of}
-use Rattle.gsl_words.specs.declared.fault.WordFault.{WordFault}
-use Rattle.gsl_words.specs.declared.fault.WordFault.TheVariants.{NotWhole, BigEndian, BadMagic, BadHeader, UnknownOpcode, BadCount, BadString, Memory}
 use Rattle.gsl_form.specs.Form.{Name}
 
 -- the last four decimal digits
@@ -20,35 +18,13 @@ fault_text file fault =
 abbrev pub told_fault : List Name → Fault → List ℕ
 told_fault names fault = fault_text (slice_index_or names fault.place.unit []) fault
 
--- what is printed where the outside failed
-abbrev pub host_text : List ℕ
-host_text = codes "ERROR: host\n"
-
--- what is printed where a module's file is too long, and where another is
-abbrev pub module_long_text : List ℕ
-module_long_text = codes "MODULE: too long\n"
-
+-- what is printed where a text is too long
 abbrev pub long_text : Name → List ℕ
 long_text file = file ++ codes ": too long\n"
-
--- the line that tells what is wrong with a module's file
-abbrev pub word_text : WordFault → List ℕ
-word_text NotWhole = codes "MODULE: NotWhole\n"
-word_text BigEndian = codes "MODULE: BigEndian\n"
-word_text BadMagic = codes "MODULE: BadMagic\n"
-word_text BadHeader = codes "MODULE: BadHeader\n"
-word_text (UnknownOpcode at) = codes "MODULE: UnknownOpcode " ++ decimal at ++ codes "\n"
-word_text (BadCount at) = codes "MODULE: BadCount " ++ decimal at ++ codes "\n"
-word_text (BadString at) = codes "MODULE: BadString " ++ decimal at ++ codes "\n"
-word_text Memory = []
 
 -- what is printed of a valid module
 abbrev pub valid_text : List ℕ
 valid_text = codes "valid\n"
-
--- the line that tells which rule a module breaks, and at which word
-abbrev pub broken_text : ℕ × ℕ → List ℕ
-broken_text (rule, at) = codes "MODULE: V" ++ decimal rule ++ codes " " ++ decimal at ++ codes "\n"
 
 -- the line that tells which line of a text is wrong
 abbrev pub line_text : Name → ℕ → List ℕ

@@ -18,6 +18,7 @@ use Rattle.gsl_tree.specs.declared.unit.TypedUnit.{TypedUnit}
 use Rattle.gsl_tree.specs.declared.program.Program.{Program as Linked}
 use Rattle.gsl_tree.specs.WellTyped.{program_lists}
 use Rattle.gsl_link.specs.Joined.{joined}
+use Rattle.gsl_words.specs.declared.module.Module.{Module}
 use Rattle.gsl_words.specs.Bytes.{bytes_of}
 use Rattle.gsl_cmd.specs.declared.compiling.TheConstants.{MAX_SOURCE_BYTES}
 use Rattle.gsl_form.specs.declared.program.Program.{Program}
@@ -102,11 +103,17 @@ abbrev pub Judges : Stage → List (List ℕ) → Checked Program → Type 0
 Judges stage sources (Ok p) = Accepts stage sources p
 Judges stage sources (Err fault) = FirstFault stage sources fault
 
--- What compiling a linked program answers: the file of the module of its program, or that it is not of the form.
-abbrev pub CompilesLinked : Stage → Linked → Result (List ℕ) Refusal → Type 0
-CompilesLinked stage linked (Ok bytes) = (p : Program) × IsOfForm stage linked p × (bytes ≡ bytes_of (module_of p))
-CompilesLinked stage linked (Err (refusal.Source fault)) = FaultWhere stage fault (Ok linked)
-CompilesLinked stage linked (Err refusal.Memory) = Unit {0}
+-- What making the module of a linked program answers: that of its program, or that it is not of the form.
+abbrev pub MakesLinked : Stage → Linked → Result Module Refusal → Type 0
+MakesLinked stage linked (Ok m) = (p : Program) × IsOfForm stage linked p × (m ≡ module_of p)
+MakesLinked stage linked (Err (refusal.Source fault)) = FaultWhere stage fault (Ok linked)
+MakesLinked stage linked (Err refusal.Memory) = Unit {0}
+
+-- What making the module of the sources answers: that of their program, or their first fault.
+abbrev pub Makes : Stage → List (List ℕ) → Result Module Refusal → Type 0
+Makes stage sources (Ok m) = (p : Program) × Accepts stage sources p × (m ≡ module_of p)
+Makes stage sources (Err (refusal.Source fault)) = FirstFault stage sources fault
+Makes stage sources (Err refusal.Memory) = Unit {0}
 
 -- What compiling the sources answers: the file of the program's module, which carries the program, is small for it and is one that other
 -- consumers take; or the sources' first fault.

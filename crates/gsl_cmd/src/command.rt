@@ -9,34 +9,24 @@ ghost use Rattle.gsl_host.specs.declared.target.Target.{Target};
 ghost use Rattle.gsl_host.specs.Outside.{Files, NeverFall, Rose, Sets, KeepsOthers};
 ghost use Rattle.gsl_cmd.specs.Job.{Job, IsJob, gather, reads};
 ghost use Rattle.gsl_plan.specs.Plan.{Plan, plan_of};
-ghost use Rattle.gsl_cmd.specs.Command.{ChecksFile, Ended, Said, Shown, Reported, ReadsGathered, ReadsSource, ReadsFile, CompilesSources, behind_sources};
+ghost use Rattle.gsl_cmd.specs.Command.{Ended, Reported, ReadsGathered, ReadsSource, ReadsFile, CompilesSources, behind_sources};
 ghost use Rattle.gsl_cmd.specs.Converting.{plan_for};
-ghost use Rattle.gsl_cmd.specs.Targets.{targets_of};
+ghost use Rattle.gsl_cmd.specs.Targets.{MayReach, targets_of};
 ghost use Rattle.gsl_cmd.specs.Performs.{Performs};
 ghost use Rattle.gsl_cmd.specs.Written.{Written};
 
-use crate::checking::{VALID_TEXT, judged};
+use crate::checking::check_command;
 use crate::compiling::{MAX_SOURCE_BYTES, MAX_SOURCES, compile, fault_in};
-use crate::converting::{Conversion, MAX_MODULE_BYTES, made, too_long};
+use crate::converting::{Conversion, made, too_long};
+use crate::printing::say;
+use crate::running::{exec_command, run_command};
 use crate::stop::Stop;
 use crate::text::{HOST_TEXT, told_fault};
 use gsl_base::{Bytes, Code, Fault, Refusal, Sources, Stage, Text, Words};
-use gsl_host::{Host, HostRefusal, ReadRefusal, Stream};
+use gsl_exec::{MAX_MODULE_BYTES, one_owed, one_owed_of_valid};
+use gsl_host::{Host, HostRefusal, ReadRefusal};
 use gsl_plan::{Command, plan};
 use std::alloc::Global;
-
-/// Prints a text on standard error. The status is the one given, or 4 where memory was wanting.
-pub fn say<H: Host>(alloc: Global, text: &[u8], status: u8, host: &mut H) -> u8
-    ensures said { Said (H.faults host.old) (H.faults host.new) (H.printed host.old Stream.Err) (H.printed host.new Stream.Err) text.now status result }
-    ensures out { H.printed host.new Stream.Out ≡ H.printed host.old Stream.Out }
-    ensures files { H.files host.new ≡ H.files host.old }
-    ensures faults { NeverFall (H.faults host.old) (H.faults host.new) }
-{
-    match host.print(alloc, Stream::Err, text) {
-        Ok(()) | Err(HostRefusal::Failed) => status,
-        Err(HostRefusal::Memory) => 4,
-    }
-}
 
 /// Prints how the program is called.
 fn usage<H: Host>(alloc: Global, text: &[u8], host: &mut H) -> u8
@@ -249,47 +239,6 @@ fn convert_command<H: Host>(
     }
 }
 
-/// Judges the module of a file.
-fn check_file<H: Host>(alloc: Global, file: &Text, host: &mut H) -> Result<(), Stop>
-    ensures told { (files : Files) → H.files host.old ≡ Some files → ChecksFile files file.now result }
-    ensures failed { result ≡ Err Stop.Host → Rose (H.faults host.old) (H.faults host.new) (Target.Reading file.now) }
-    ensures faults { NeverFall (H.faults host.old) (H.faults host.new) }
-    ensures files { H.files host.new ≡ H.files host.old }
-    ensures streams { (stream : Stream) → H.printed host.new stream ≡ H.printed host.old stream }
-{
-    let bytes = read_module(alloc, Conversion::Disassemble, file, host)?;
-    judged(alloc, bytes.as_slice())
-}
-
-/// Prints a text on standard output, and gives the status.
-pub fn show_text<H: Host>(alloc: Global, text: &[u8], host: &mut H) -> u8
-    ensures shown { Shown (H.faults host.old) (H.faults host.new) (H.printed host.old Stream.Out) (H.printed host.new Stream.Out)
-        (H.printed host.old Stream.Err) (H.printed host.new Stream.Err) text.now result }
-    ensures files { H.files host.new ≡ H.files host.old }
-    ensures faults { NeverFall (H.faults host.old) (H.faults host.new) }
-    ensures cause { result ≡ 3 → Rose (H.faults host.old) (H.faults host.new) (Target.Printing Stream.Out) }
-    ensures planned { result ≢ 2 }
-{
-    match host.print(alloc, Stream::Out, text) {
-        Ok(()) => 0,
-        Err(HostRefusal::Failed) => say(alloc, HOST_TEXT, 3, host),
-        Err(HostRefusal::Memory) => 4,
-    }
-}
-
-/// Judges a module, prints that it is valid or why it is not, and gives the status.
-fn check_command<H: Host>(alloc: Global, file: &Text, host: &mut H) -> u8
-    ensures told { (files : Files) → H.files host.old ≡ Some files → (job : Job) × IsJob (Plan.Check file.now) files job
-        × Performs job files (H.files host.new) (H.faults host.old) (H.faults host.new) (H.printed host.old) (H.printed host.new) result }
-    ensures cause { result ≡ 3 → (target : Target) × Contains (targets_of (Plan.Check file.now)) target × Rose (H.faults host.old) (H.faults host.new) target }
-    ensures planned { result ≢ 2 }
-{
-    match check_file(alloc, file, host) {
-        Ok(()) => show_text(alloc, VALID_TEXT, host),
-        Err(stop) => report(alloc, &[], stop, host),
-    }
-}
-
 /// Runs the command that the words are, and gives the program's status. The first word is the program's
 /// own name.
 pub fn glsl_main<H: Host>(alloc: Global, words: &Words, host: &mut H) -> u8
@@ -304,14 +253,16 @@ pub fn glsl_main<H: Host>(alloc: Global, words: &Words, host: &mut H) -> u8
         × Performs job files (H.files host.new) (H.faults host.old) (H.faults host.new) (H.printed host.old) (H.printed host.new) result }
 
     // Status 0 means that what the command makes has been written: of `compile` a module that carries the program of the
-    // sources and is small for it.
+    // sources and is small for it; of `exec` and `run` it means that the module has ended.
     ensures written { result ≡ 0 → (plan : Plan) → plan_of words.now ≡ Some plan → (files : Files) → H.files host.old ≡ Some files →
         Written plan files (H.files host.new) }
 
-    // On every host, status 3 comes only where something failed that the command reaches for.
-    ensures cause { result ≡ 3 → (plan : Plan) × (target : Target) × (plan_of words.now ≡ Some plan) × Contains (targets_of plan) target
+    // On every host, status 3 comes only where something failed that the command may reach for.
+    ensures cause { result ≡ 3 → (plan : Plan) × (target : Target) × (plan_of words.now ≡ Some plan) × MayReach plan (H.files host.old) target
         × Rose (H.faults host.old) (H.faults host.new) target }
 {
+    one_owed();
+    one_owed_of_valid();
     let Ok(command) = plan(alloc, words) else {
         return 4;
     };
@@ -327,5 +278,11 @@ pub fn glsl_main<H: Host>(alloc: Global, words: &Words, host: &mut H) -> u8
             convert_command(alloc, Conversion::Assemble, &file, &out, host)
         }
         Command::Check { file } => check_command(alloc, &file, host),
+        Command::Exec { file, inputs } => exec_command(alloc, &file, &inputs, host),
+        Command::Run {
+            stage,
+            inputs,
+            files,
+        } => run_command(alloc, stage, &inputs, files.as_slice(), host),
     }
 }

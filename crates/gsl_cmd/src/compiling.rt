@@ -3,13 +3,14 @@
 ghost use Rattle.std.specs.Prelude.{◌≡◌, ◌+◌, ◌<◌, ◌≤◌, ◌^◌, length, None, IfOk, IfSome, IfNone};
 ghost use Rattle.gsl_base.specs.Checked.{Gives};
 ghost use Rattle.gsl_words.specs.Bytes.{bytes_of};
+ghost use Rattle.gsl_words.specs.Instructions.{HasFile};
 ghost use Rattle.gsl_form.specs.declared.program.Program.{Program};
 ghost use Rattle.gsl_form.specs.Form.{IsProgram};
 ghost use Rattle.gsl_cmd.specs.Lowering.{module_of};
 ghost use Rattle.gsl_link.specs.Joined.{IsLinked};
 ghost use Rattle.gsl_parse.specs.Fed.{unit_fed};
 ghost use Rattle.gsl_pp.specs.Unit.{unit_of as given_out};
-ghost use Rattle.gsl_cmd.specs.Verdict.{Compiles, CompilesLinked, IsOfForm, linked_behind, linked_of, too_long_from, tree_of, typed_from, typed_of, fault_in as first_line};
+ghost use Rattle.gsl_cmd.specs.Verdict.{Compiles, IsOfForm, Makes, MakesLinked, linked_behind, linked_of, too_long_from, tree_of, typed_from, typed_of, fault_in as first_line};
 
 use crate::lowering::lower;
 use gsl_base::{Bytes, Code, Fault, Memory, Place, Raws, Refusal, Sources, Stage};
@@ -21,7 +22,8 @@ use gsl_parse::parse_feed;
 use gsl_pp::Feed;
 use gsl_syntax::Unit;
 use gsl_tree::{Program as Linked, TypedUnit, TypedUnits};
-use gsl_words::encode;
+use gsl_validate::Valid;
+use gsl_words::{Module, encode};
 use std::alloc::Global;
 
 /// The most bytes of a source file.
@@ -42,8 +44,22 @@ pub fn compile(alloc: Global, stage: Stage, sources: &Sources) -> Result<Bytes, 
     requires { length sources.now ≤ MAX_SOURCES }
     ensures { Compiles stage sources.now result }
 {
+    match compiled_module(alloc, stage, sources) {
+        Ok(valid) => match file_of(alloc, valid.module()) {
+            Ok(bytes) => Ok(bytes),
+            Err(_) => Err(Refusal::Memory),
+        },
+        Err(refusal) => Err(refusal),
+    }
+}
+
+/// The module itself.
+pub fn compiled_module(alloc: Global, stage: Stage, sources: &Sources) -> Result<Valid, Refusal>
+    requires { length sources.now ≤ MAX_SOURCES }
+    ensures { Makes stage sources.now result }
+{
     match linked(alloc, stage, sources.as_slice()) {
-        Ok(program) => compile_linked(alloc, stage, &program),
+        Ok(program) => module_linked(alloc, stage, &program),
         Err(refusal) => Err(refusal),
     }
 }
@@ -130,13 +146,13 @@ fn tree_from(alloc: Global, number: u32, raws: Raws) -> Result<Unit, Refusal>
     parse_feed(alloc, feed)
 }
 
-/// The bytes of the module of a linked program, or `E0001` where it is not of the form.
-fn compile_linked(alloc: Global, stage: Stage, linked: &Linked) -> Result<Bytes, Refusal>
-    ensures { CompilesLinked stage linked.now result }
+/// The module of a linked program, or `E0001` where it is not of the form.
+fn module_linked(alloc: Global, stage: Stage, linked: &Linked) -> Result<Valid, Refusal>
+    ensures { MakesLinked stage linked.now result }
 {
     match accepted(alloc, stage, linked)? {
         None => Err(Refusal::Source(fault_in(0, Code::E0001))),
-        Some(program) => Ok(file_of(alloc, &program)?),
+        Some(program) => Ok(valid_of(alloc, &program)?),
     }
 }
 
@@ -161,14 +177,21 @@ pub fn fault_in(unit: u32, code: Code) -> Fault
     }
 }
 
-/// The file of a program's module.
-#[tactic(auto, using(crate::proofs::Encodable::module_has_file))]
-fn file_of(alloc: Global, program: &Program) -> Result<Bytes, Memory>
+/// A program's module, which is valid by how it was made.
+fn valid_of(alloc: Global, program: &Program) -> Result<Valid, Memory>
     requires { IsProgram program.now }
-    ensures { IfOk result (λ bytes. bytes ≡ bytes_of (module_of program.now)) }
+    ensures { IfOk result (λ valid. valid ≡ module_of program.now) }
 {
     let module = lower(alloc, program)?;
+    Valid::from_proved(alloc, module)
+}
+
+/// The file of a module.
+fn file_of(alloc: Global, of: &Module) -> Result<Bytes, Memory>
+    requires { HasFile of.now }
+    ensures { IfOk result (λ bytes. bytes ≡ bytes_of of.now) }
+{
     let mut bytes = Bytes::new(alloc);
-    encode(&module, &mut bytes)?;
+    encode(of, &mut bytes)?;
     Ok(bytes)
 }

@@ -1,18 +1,16 @@
 //! `dis` and `asm`: from the file of a module to its text, and back.
 
 ghost use Rattle.std.specs.Prelude.{◌≡◌, ◌≤◌, length, MatchResult};
-ghost use Rattle.gsl_cmd.specs.Command.{Gives, Rejects, Tells};
+ghost use Rattle.gsl_cmd.specs.Command.{Gives, Tells, refused_by};
 ghost use Rattle.gsl_cmd.specs.Converting as spec;
 
 use crate::stop::Stop;
-use crate::text::{line_text, long_text, placed};
+use crate::text::{line_text, long_text};
 use gsl_asm::{AsmFault, assemble, show};
 use gsl_base::{Bytes, Memory, Text};
-use gsl_words::{WordFault, decode, encode};
+use gsl_exec::{Stop as Unlisted, rejection};
+use gsl_words::{decode, encode};
 use std::alloc::Global;
-
-/// The most bytes of the file of a module, and of its text.
-pub const MAX_MODULE_BYTES: usize = 402_653_184;
 
 /// What is made of a file.
 #[derive(Clone, Copy, Debug)]
@@ -45,7 +43,7 @@ fn shown(alloc: Global, bytes: &[u8]) -> Result<Bytes, Stop>
             Ok(text) => Ok(text),
             Err(_) => Err(Stop::Memory),
         },
-        Err(fault) => Err(rejection(alloc, fault)),
+        Err(fault) => Err(refused(rejection(alloc, fault))),
     }
 }
 
@@ -67,19 +65,14 @@ fn assembled(alloc: Global, name: &Text, bytes: &[u8]) -> Result<Bytes, Stop>
     }
 }
 
-/// Tells what is wrong with a module's file, unless memory was wanting.
-pub(crate) fn rejection(alloc: Global, fault: WordFault) -> Stop
-    ensures { Rejects fault result }
+/// Why a module's file is refused.
+fn refused(why: Unlisted) -> Stop
+    ensures { result ≡ refused_by why }
 {
-    match fault {
-        WordFault::NotWhole => told(Bytes::from_slice(alloc, b"MODULE: NotWhole\n")),
-        WordFault::BigEndian => told(Bytes::from_slice(alloc, b"MODULE: BigEndian\n")),
-        WordFault::BadMagic => told(Bytes::from_slice(alloc, b"MODULE: BadMagic\n")),
-        WordFault::BadHeader => told(Bytes::from_slice(alloc, b"MODULE: BadHeader\n")),
-        WordFault::UnknownOpcode(at) => told(placed(alloc, b"MODULE: UnknownOpcode ", at)),
-        WordFault::BadCount(at) => told(placed(alloc, b"MODULE: BadCount ", at)),
-        WordFault::BadString(at) => told(placed(alloc, b"MODULE: BadString ", at)),
-        WordFault::Memory => Stop::Memory,
+    match why {
+        Unlisted::Told(_, text) => Stop::Rejected(text),
+        Unlisted::Host => Stop::Host,
+        Unlisted::Memory => Stop::Memory,
     }
 }
 
@@ -94,7 +87,7 @@ pub fn too_long(alloc: Global, conversion: Conversion, name: &Text) -> Stop
 }
 
 /// A line that is told, unless memory was wanting for it.
-pub(crate) fn told(line: Result<Bytes, Memory>) -> Stop
+fn told(line: Result<Bytes, Memory>) -> Stop
     ensures { MatchResult line (λ text. result ≡ Stop.Rejected text) (λ _. result ≡ Stop.Memory) }
 {
     match line {

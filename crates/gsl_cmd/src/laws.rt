@@ -10,6 +10,8 @@ ghost use Rattle.gsl_cmd.specs.Job.{Job, IsJob};
 ghost use Rattle.gsl_plan.specs.Plan.{Plan};
 ghost use Rattle.gsl_cmd.specs.Verdict.{Accepts, FirstFault, Judges};
 
+use gsl_exec::{one_owed, one_owed_of_valid};
+
 /// The rules give one program or one first fault, whatever the sources are.
 pub fn one_verdict()
     ensures some { (stage : Stage) (sources : List (List ℕ)) → (verdict : Checked Program) × Judges stage sources verdict }
@@ -20,4 +22,7 @@ pub fn one_verdict()
 pub fn one_job()
     ensures some { (plan : Plan) (files : Files) → (job : Job) × IsJob plan files job }
     ensures one { (plan : Plan) (files : Files) (j k : Job) → IsJob plan files j → IsJob plan files k → j ≡ k }
-{}
+{
+    one_owed();
+    one_owed_of_valid();
+}

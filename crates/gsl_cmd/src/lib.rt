@@ -1,5 +1,5 @@
-//! The compiler: from the words of a command line and the files that they name to a module's file and
-//! a status.
+//! The compiler: from the words of a command line and the files that they name to a module's file, or to what
+//! the module gives on an input, and a status.
 //!
 //! `glsl_main` carries what a run does, against the job of its words and files (`specs/Job.antt`,
 //! `specs/Performs.antt`), and `compile` what a source compiles to (`specs/Verdict.antt`): the lexer, the
@@ -16,11 +16,13 @@ mod converting;
 mod laws;
 mod lowering;
 mod meaning;
+mod printing;
+mod running;
 mod stop;
 mod text;
 mod validity;
 
-pub use command::{glsl_main, read_sources, say, show_text};
+pub use command::{glsl_main, read_sources};
 pub use compiling::{MAX_SOURCE_BYTES, MAX_SOURCES, compile, linked};
 pub use gsl_manifest::{
     BufferLine, BufferLines, Manifest, ManifestRefusal, PushLine, listing, read_manifest,
@@ -28,6 +30,7 @@ pub use gsl_manifest::{
 pub use laws::{one_job, one_verdict};
 pub use lowering::lower;
 pub use meaning::{headline, module_runs};
+pub use printing::{say, show_text};
 pub use stop::Stop;
 pub use text::{HOST_TEXT, told_fault};
 pub use validity::{module_is_placed, module_is_portable, module_is_small, module_is_valid};

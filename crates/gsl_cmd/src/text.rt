@@ -1,8 +1,7 @@
 //! The texts that the program prints.
 
-ghost use Rattle.std.specs.Prelude.{◌≡◌, ◌+◌, ◌%◌, ◌++◌, [], IfOk, codes, slice_index_or};
-ghost use Rattle.std.specs.Fmt.{decimal};
-ghost use Rattle.gsl_cmd.specs.Texts.{fault_text as text_of_fault, told_fault as text_told, four_digits as digits_of, line_text as text_of_line, long_text as text_of_long, broken_text as text_of_broken};
+ghost use Rattle.std.specs.Prelude.{◌≡◌, ◌+◌, ◌%◌, [], IfOk, slice_index_or};
+ghost use Rattle.gsl_cmd.specs.Texts.{fault_text as text_of_fault, told_fault as text_told, four_digits as digits_of, line_text as text_of_line, long_text as text_of_long};
 
 use gsl_base::{Bytes, Fault, Memory, Text};
 use std::alloc::Global;
@@ -42,31 +41,6 @@ fn name_at(files: &[Text], unit: u32) -> &str
     } else {
         ""
     }
-}
-
-/// A text, a number behind it, and the end of the line.
-pub fn placed(alloc: Global, front: &[u8], number: u32) -> Result<Bytes, Memory>
-    ensures { IfOk result (λ text. text ≡ front.now ++ decimal number ++ codes "\n") }
-{
-    let mut text = Bytes::from_slice(alloc, front)?;
-    let digits = number.to_string(alloc)?;
-    text.extend_from_slice(digits.as_bytes())?;
-    text.extend_from_slice(b"\n")?;
-    Ok(text)
-}
-
-/// The line that tells which rule a module breaks, and at which word: `MODULE: VRULE AT`.
-pub fn broken_text(alloc: Global, rule: u32, at: u32) -> Result<Bytes, Memory>
-    ensures { IfOk result (λ text. text ≡ text_of_broken (rule, at)) }
-{
-    let mut text = Bytes::from_slice(alloc, b"MODULE: V")?;
-    let number = rule.to_string(alloc)?;
-    text.extend_from_slice(number.as_bytes())?;
-    text.extend_from_slice(b" ")?;
-    let place = at.to_string(alloc)?;
-    text.extend_from_slice(place.as_bytes())?;
-    text.extend_from_slice(b"\n")?;
-    Ok(text)
 }
 
 /// The line that tells which line of a text is wrong: `FILE: line N`.

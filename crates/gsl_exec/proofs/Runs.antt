@@ -73,7 +73,7 @@ Failed faults faults' = (name : Name) × Rose faults faults' (Reading name)
 of_reading : (target : Target) (faults faults' : Target → ℕ) (name : Name) → Reading name ≡ target → Rose faults faults' target → Failed faults faults'
 of_reading target faults faults' name is rose = (name, subst (Rose faults faults') (sym is) rose)
 
-read_name : (names : List Name) (target : Target) (faults faults' : Target → ℕ) → Contains (map Reading names) target → Rose faults faults' target → Failed faults faults'
+pub read_name : (names : List Name) (target : Target) (faults faults' : Target → ℕ) → Contains (map Reading names) target → Rose faults faults' target → Failed faults faults'
 read_name [] target faults faults' (k, within, here) rose = absurd (omega (arith, within))
 read_name (name ∷ names) target faults faults' (zero, within, here) rose = of_reading target faults faults' name here rose
 read_name (name ∷ names) target faults faults' (suc k, within, here) rose = read_name names target faults faults' (k, omega (arith, within), here) rose
@@ -269,11 +269,11 @@ module _ (read : AreRead) (never : NeverStuck) (files : Files) (text : List ℕ)
 
 -- ---- files
 
-is_longer : (most : ℕ) (file : Option (List ℕ)) → IsSomeAnd file (λ bytes. most < length bytes) → read_of most file ≡ Longer
+pub is_longer : (most : ℕ) (file : Option (List ℕ)) → IsSomeAnd file (λ bytes. most < length bytes) → read_of most file ≡ Longer
 is_longer most None longer = absurd longer
 is_longer most (Some bytes) longer = ap (λ b. cond b Longer (Whole bytes)) (lt-ltb most (length bytes) longer)
 
-is_whole : (most : ℕ) (file : Option (List ℕ)) (bytes : List ℕ) → file ≡ Some bytes → length bytes ≤ most → read_of most file ≡ Whole bytes
+pub is_whole : (most : ℕ) (file : Option (List ℕ)) (bytes : List ℕ) → file ≡ Some bytes → length bytes ≤ most → read_of most file ≡ Whole bytes
 is_whole most file bytes is within = ap (read_of most) is ∙ ap (λ b. cond b Longer (Whole bytes)) (le-ltb most (length bytes) within)
 
 module _ (read : AreRead) (never : NeverStuck) (files : Files) (file inputs : Name) where

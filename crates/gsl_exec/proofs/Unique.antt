@@ -46,7 +46,7 @@ module _ (one : (lines : List (List ℕ)) (m k : Manifest) → AreManifest lines
   one_said bytes (Err n) (Err k) is same = ap Err (one_break (lines_of bytes) n k is same)
 
   module _ (files : Files) (a b : Owed) where
-    one_taken : (text : List ℕ) (targets : List Target) (verdict : Result Module WordFault) (refusal : Option (List ℕ)) → IsTaken files text targets a verdict refusal
+    pub one_taken : (text : List ℕ) (targets : List Target) (verdict : Result Module WordFault) (refusal : Option (List ℕ)) → IsTaken files text targets a verdict refusal
         → IsTaken files text targets b verdict refusal → a ≡ b
     one_taken text targets verdict (Some line) is same = is ∙ sym same
     one_taken text targets (Ok m) None (x, says, is) (y, also, same) =

@@ -68,14 +68,18 @@ pub refused_none : (m : Module) → broken m ≡ None → refused_module m ≡ N
 unfolding refused_module
 refused_none m e = ap (option_map broken_text) e
 
+-- the file of a module is what its bytes are
+pub of_file : (l : List ℕ) (m : Module) → JudgesFile l (Ok m) → Judges l (Ok m)
+of_file l m judged =
+    elim (bytes_or l) [
+      | inl fit ↦ judged.0 fit
+      | inr never ↦ absurd (let no : Ok m ≡ Err NotWhole = judged.1 never in cc)
+    ]
+
 -- a module that is not refused is valid
 pub is_valid : (l : List ℕ) (m : Module) → JudgesFile l (Ok m) → refused_module m ≡ None → Valid m
 is_valid l m judged e =
-    let file : HasFile m = elim (bytes_or l) as (λ _. HasFile m) [
-      | inl fit ↦ (judged.0 fit).0
-      | inr never ↦ absurd (let no : Ok m ≡ Err NotWhole = judged.1 never in cc)
-    ] in
-    record { file = file; kept = kept_of m e }
+    record { file = (of_file l m judged).0; kept = kept_of m e }
 
 -- what is told of a module that breaks a rule
 pub told_judges : {E : Type 0} (m : Module) (rule at : ℕ) (line : Result (List ℕ) E) (end : Stop) → broken m ≡ Some (rule, at)

@@ -37,7 +37,7 @@ fn judged_module(alloc: Global, of: Module) -> Result<Valid, Stop>
 }
 
 /// Tells what is wrong with a module's file, unless memory was wanting.
-fn rejection(alloc: Global, fault: WordFault) -> Stop
+pub fn rejection(alloc: Global, fault: WordFault) -> Stop
     ensures { Rejects fault result }
 {
     match fault {

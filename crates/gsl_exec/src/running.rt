@@ -104,6 +104,30 @@ fn exec_said<H: Host>(
     }
 }
 
+/// Runs a valid module on the input of the manifest that the bytes are: reads the files that it names, runs the module on the input, if it fits,
+/// for the manifest's steps, and gives the listing, or tells why there is none as `exec` does.
+pub fn exec_valid<H: Host>(
+    alloc: Global,
+    valid: &Valid,
+    text: &[u8],
+    host: &mut H,
+) -> Result<Bytes, Stop>
+    requires valid { IsValid valid.now }
+    requires text { length text.now ≤ MAX_MANIFEST_BYTES }
+    // So much is owed of a module that is not refused, whatever was reached for before, and as much of it is done as the host and the memory let.
+    ensures told { (files : Files) → H.files host.old ≡ Some files → (targets : List Target) →
+        Ends (λ one. owed.IsTaken files text.now targets one (Ok valid.now) None) (H.faults host.old) (H.faults host.new) result }
+    ensures line { HasStatus result }
+    ensures failed { result ≡ Err Stop.Host → (name : Name) × Rose (H.faults host.old) (H.faults host.new) (Target.Reading name) }
+    ensures faults { NeverFall (H.faults host.old) (H.faults host.new) }
+    ensures files { H.files host.new ≡ H.files host.old }
+    ensures streams { (stream : Stream) → H.printed host.new stream ≡ H.printed host.old stream }
+{
+    one_reading();
+    valid_modules_are_never_stuck();
+    exec_said(alloc, valid, text, host)
+}
+
 /// Runs the module whose file the bytes are on the input of a manifest.
 fn exec_bytes<H: Host>(
     alloc: Global,

@@ -84,7 +84,8 @@ pub planned_is : (words : List Name) → planned (taken words) ≡ plan_of words
 planned_is [] = refl
 planned_is (name ∷ []) = refl
 planned_is (name ∷ command ∷ words) =
-    go (bytes_eq (codes "compile") command) (bytes_eq (codes "dis") command) (bytes_eq (codes "asm") command) (bytes_eq (codes "check") command) refl refl refl refl
+    go (bytes_eq (codes "compile") command) (bytes_eq (codes "dis") command) (bytes_eq (codes "asm") command) (bytes_eq (codes "check") command)
+    (bytes_eq (codes "exec") command) (bytes_eq (codes "run") command) refl refl refl refl refl refl
   where
     each : (o : Option (List Name)) → planned (option_map (λ more. (command, more)) o) ≡ given o (named command)
     each None = refl
@@ -97,15 +98,18 @@ planned_is (name ∷ command ∷ words) =
     not_named : (known : Name) → bytes_eq known command ≡ false → bytes_eq command known ≡ false
     not_named known is = turned known command ∙ is
 
-    go : (c d a k : Bool) → bytes_eq (codes "compile") command ≡ c → bytes_eq (codes "dis") command ≡ d → bytes_eq (codes "asm") command ≡ a
-        → bytes_eq (codes "check") command ≡ k → planned (taken (name ∷ command ∷ words)) ≡ plan_of (name ∷ command ∷ words)
-    go true d a k is_c is_d is_a is_k = rw is_c (each (operands words))
-    go false true a k is_c is_d is_a is_k = rw (is_c, is_d) (each (operands words))
-    go false false true k is_c is_d is_a is_k = rw (is_c, is_d, is_a) (each (operands words))
-    go false false false true is_c is_d is_a is_k = rw (is_c, is_d, is_a, is_k) (each (operands words))
-    go false false false false is_c is_d is_a is_k =
-        rw (is_c, is_d, is_a, is_k) (no_other (operands words)
-        (λ more. rw (not_named (codes "compile") is_c, not_named (codes "dis") is_d, not_named (codes "asm") is_a, not_named (codes "check") is_k) refl))
+    go : (c d a k x r : Bool) → bytes_eq (codes "compile") command ≡ c → bytes_eq (codes "dis") command ≡ d → bytes_eq (codes "asm") command ≡ a
+        → bytes_eq (codes "check") command ≡ k → bytes_eq (codes "exec") command ≡ x → bytes_eq (codes "run") command ≡ r → planned (taken (name ∷ command ∷ words)) ≡ plan_of (name ∷ command ∷ words)
+    go true d a k x r is_c is_d is_a is_k is_x is_r = rw is_c (each (operands words))
+    go false true a k x r is_c is_d is_a is_k is_x is_r = rw (is_c, is_d) (each (operands words))
+    go false false true k x r is_c is_d is_a is_k is_x is_r = rw (is_c, is_d, is_a) (each (operands words))
+    go false false false true x r is_c is_d is_a is_k is_x is_r = rw (is_c, is_d, is_a, is_k) (each (operands words))
+    go false false false false true r is_c is_d is_a is_k is_x is_r = rw (is_c, is_d, is_a, is_k, is_x) (each (operands words))
+    go false false false false false true is_c is_d is_a is_k is_x is_r = rw (is_c, is_d, is_a, is_k, is_x, is_r) (each (operands words))
+    go false false false false false false is_c is_d is_a is_k is_x is_r =
+        rw (is_c, is_d, is_a, is_k, is_x, is_r) (no_other (operands words) (λ more.
+        rw (not_named (codes "compile") is_c, not_named (codes "dis") is_d, not_named (codes "asm") is_a, not_named (codes "check") is_k, not_named (codes "exec") is_x, not_named (codes "run") is_r)
+        refl))
 
 pub found_plan : (words : List Name) (r : Result Command Memory) (o : Option (Name × List Name)) → o ≡ taken words → IfOk r (λ found. plan_in found ≡ planned o)
     → IfOk r (λ found. plan_in found ≡ plan_of words)

@@ -120,23 +120,25 @@ At name command words = Understands (taken (name ∷ command ∷ words)) (fault_
 by_command : (name command : Name) (words : List Name) → IsUtf8 command → All IsUtf8 words → At name command words
 by_command name command words first utf8 =
     go (bytes_eq (codes "compile") command) (bytes_eq (codes "dis") command) (bytes_eq (codes "asm") command) (bytes_eq (codes "check") command)
-    (bytes_eq (codes "help") command) refl refl refl refl refl
+    (bytes_eq (codes "exec") command) (bytes_eq (codes "run") command) (bytes_eq (codes "help") command) refl refl refl refl refl refl refl
   where
     named : (known : Name) → bytes_eq known command ≡ true → At name known words → At name command words
     named known is here = subst (λ w. At name w words) ((bytes_eq-Decides known command).0 is) here
 
-    go : (c d a k h : Bool) → bytes_eq (codes "compile") command ≡ c → bytes_eq (codes "dis") command ≡ d → bytes_eq (codes "asm") command ≡ a
-        → bytes_eq (codes "check") command ≡ k → bytes_eq (codes "help") command ≡ h → At name command words
-    go true d a k h is_c is_d is_a is_k is_h = named (codes "compile") is_c (enters_with (codes "compile") refl refl refl name words utf8)
-    go false true a k h is_c is_d is_a is_k is_h = named (codes "dis") is_d (enters_with (codes "dis") refl refl refl name words utf8)
-    go false false true k h is_c is_d is_a is_k is_h = named (codes "asm") is_a (enters_with (codes "asm") refl refl refl name words utf8)
-    go false false false true h is_c is_d is_a is_k is_h = named (codes "check") is_k (enters_with (codes "check") refl refl refl name words utf8)
-    go false false false false true is_c is_d is_a is_k is_h =
-        let met : subcommand_met names idle command ≡ Some (codes "help") = rw (is_c, is_d, is_a, is_k, is_h) refl in
-        rw (is_c, is_d, is_a, is_k) (turn_first name command words (helps command met))
-    go false false false false false is_c is_d is_a is_k is_h =
-        let met : subcommand_met names idle command ≡ None = rw (is_c, is_d, is_a, is_k, is_h) refl in
-        rw (is_c, is_d, is_a, is_k) (other_fails name command words first met)
+    go : (c d a k x r h : Bool) → bytes_eq (codes "compile") command ≡ c → bytes_eq (codes "dis") command ≡ d → bytes_eq (codes "asm") command ≡ a
+        → bytes_eq (codes "check") command ≡ k → bytes_eq (codes "exec") command ≡ x → bytes_eq (codes "run") command ≡ r → bytes_eq (codes "help") command ≡ h → At name command words
+    go true d a k x r h is_c is_d is_a is_k is_x is_r is_h = named (codes "compile") is_c (enters_with (codes "compile") refl refl refl name words utf8)
+    go false true a k x r h is_c is_d is_a is_k is_x is_r is_h = named (codes "dis") is_d (enters_with (codes "dis") refl refl refl name words utf8)
+    go false false true k x r h is_c is_d is_a is_k is_x is_r is_h = named (codes "asm") is_a (enters_with (codes "asm") refl refl refl name words utf8)
+    go false false false true x r h is_c is_d is_a is_k is_x is_r is_h = named (codes "check") is_k (enters_with (codes "check") refl refl refl name words utf8)
+    go false false false false true r h is_c is_d is_a is_k is_x is_r is_h = named (codes "exec") is_x (enters_with (codes "exec") refl refl refl name words utf8)
+    go false false false false false true h is_c is_d is_a is_k is_x is_r is_h = named (codes "run") is_r (enters_with (codes "run") refl refl refl name words utf8)
+    go false false false false false false true is_c is_d is_a is_k is_x is_r is_h =
+        let met : subcommand_met names idle command ≡ Some (codes "help") = rw (is_c, is_d, is_a, is_k, is_x, is_r, is_h) refl in
+        rw (is_c, is_d, is_a, is_k, is_x, is_r) (turn_first name command words (helps command met))
+    go false false false false false false false is_c is_d is_a is_k is_x is_r is_h =
+        let met : subcommand_met names idle command ≡ None = rw (is_c, is_d, is_a, is_k, is_x, is_r, is_h) refl in
+        rw (is_c, is_d, is_a, is_k, is_x, is_r) (other_fails name command words first met)
 
 pub understood : (words : List Name) → All IsUtf8 words → Understands (taken words) (fault_of grammar words) (subcommand_of grammar words)
 unfolding clap_on_literals

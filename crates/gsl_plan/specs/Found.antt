@@ -23,8 +23,12 @@ program = on_top (λ s. record s { subcommand_required = true }) (new_app (codes
 abbrev pub writing : App
 writing = with_subcommand (with_subcommand (with_subcommand program (operated (codes "compile")).top) (operated (codes "dis")).top) (operated (codes "asm")).top
 
+-- and the one that judges a module
+abbrev pub judging : App
+judging = with_subcommand writing (operated (codes "check")).top
+
 abbrev pub grammar : App
-grammar = with_subcommand writing (operated (codes "check")).top
+grammar = with_subcommand (with_subcommand judging (operated (codes "exec")).top) (operated (codes "run")).top
 
 abbrev pub operands_in : List Row → List Name
 operands_in rows = unwrap_or (all_of (codes "operands") rows) []
@@ -35,7 +39,7 @@ found_in m = option_map (λ p. (p.0, operands_in p.1)) (subcommand_rows_of m)
 
 abbrev pub is_command : Name → Bool
 is_command word =
-    bytes_eq (codes "compile") word || (bytes_eq (codes "dis") word || (bytes_eq (codes "asm") word || bytes_eq (codes "check") word))
+    bytes_eq (codes "compile") word || (bytes_eq (codes "dis") word || (bytes_eq (codes "asm") word || (bytes_eq (codes "check") word || (bytes_eq (codes "exec") word || bytes_eq (codes "run") word))))
 
 -- a command with its operands, where the words have one and no option stands before the first `--`
 abbrev pub taken : List Name → Option (Name × List Name)

@@ -21,6 +21,10 @@ pub data Plan : Type 0 where
   Assemble : (file out : Name) → Plan
   -- `check`: a module is judged
   Check : (file : Name) → Plan
+  -- `exec`: a module is run on the input of a manifest
+  Exec : (file inputs : Name) → Plan
+  -- `run`: sources are compiled, and their module is run on the input of a manifest
+  Run : (stage : Stage) (inputs : Name) (files : List Name) → Plan
 
 -- whether a word begins with `-` and is not `-` alone
 abbrev pub is_option : Name → Bool
@@ -45,18 +49,26 @@ abbrev pub compile_in : Option Stage → Name → List Name → Option Plan
 compile_in None out files = None
 compile_in (Some stage) out files = Some (Compile stage out files)
 
+abbrev pub run_in : Option Stage → Name → List Name → Option Plan
+run_in None inputs files = None
+run_in (Some stage) inputs files = Some (Run stage inputs files)
+
 -- one source file or more, and not too many
 abbrev pub are_files : List Name → Bool
 are_files [] = false
 are_files (file ∷ files) = nat_le (length (file ∷ files)) MAX_FILES
 
--- the stage by its word
-abbrev pub compile_for : Name → Name → List Name → Option Plan
-compile_for stage out files = if are_files files then compile_in (stage_of stage) out files else None
+-- the stage by its word, if there are as many files as there may be
+abbrev pub staged : Name → List Name → Option Stage
+staged stage files = if are_files files then stage_of stage else None
 
 abbrev pub compile_of : List Name → Option Plan
-compile_of (stage ∷ out ∷ files) = compile_for stage out files
+compile_of (stage ∷ out ∷ files) = compile_in (staged stage files) out files
 compile_of _ = None
+
+abbrev pub run_of : List Name → Option Plan
+run_of (stage ∷ inputs ∷ files) = run_in (staged stage files) inputs files
+run_of _ = None
 
 abbrev pub disassemble_of : List Name → Option Plan
 disassemble_of (file ∷ out ∷ []) = Some (Disassemble file out)
@@ -70,16 +82,21 @@ abbrev pub check_of : List Name → Option Plan
 check_of (file ∷ []) = Some (Check file)
 check_of _ = None
 
+abbrev pub exec_of : List Name → Option Plan
+exec_of (file ∷ inputs ∷ []) = Some (Exec file inputs)
+exec_of _ = None
+
 -- goes on with the operands, if there are some
 abbrev pub given : Option (List Name) → (List Name → Option Plan) → Option Plan
 given None f = None
 given (Some words) f = f words
 
--- `compile STAGE OUT FILE..`, `dis MODULE OUT`, `asm TEXT OUT`, `check MODULE`
+-- `compile STAGE OUT FILE..`, `dis MODULE OUT`, `asm TEXT OUT`, `check MODULE`, `exec MODULE INPUTS`, `run STAGE INPUTS FILE..`
 abbrev pub named : Name → List Name → Option Plan
 named command words =
     if bytes_eq command (codes "compile") then compile_of words else if bytes_eq command (codes "dis") then disassemble_of words
-    else if bytes_eq command (codes "asm") then assemble_of words else if bytes_eq command (codes "check") then check_of words else None
+    else if bytes_eq command (codes "asm") then assemble_of words else if bytes_eq command (codes "check") then check_of words
+    else if bytes_eq command (codes "exec") then exec_of words else if bytes_eq command (codes "run") then run_of words else None
 
 abbrev pub command_of : Name → List Name → Option Plan
 command_of command words = given (operands words) (named command)
@@ -96,3 +113,5 @@ plan_in (command.Compile stage out files) = Some (Compile stage out files)
 plan_in (command.Disassemble file out) = Some (Disassemble file out)
 plan_in (command.Assemble file out) = Some (Assemble file out)
 plan_in (command.Check file) = Some (Check file)
+plan_in (command.Exec file inputs) = Some (Exec file inputs)
+plan_in (command.Run stage inputs files) = Some (Run stage inputs files)

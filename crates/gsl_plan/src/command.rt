@@ -27,4 +27,15 @@ pub enum Command {
     Check {
         file: Text,
     },
+    /// Runs a module on the input of a manifest.
+    Exec {
+        file: Text,
+        inputs: Text,
+    },
+    /// Compiles one source file or more, of which there are at most 64, and runs their module on the input of a manifest.
+    Run {
+        stage: Stage,
+        inputs: Text,
+        files: Words,
+    },
 }

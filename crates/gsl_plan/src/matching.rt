@@ -26,6 +26,25 @@ pub(crate) fn matches_of<'a>(alloc: Global, words: &'a [&'a str]) -> Result<ArgM
 fn grammar<'a>(alloc: Global) -> Result<Command<'a>, AllocError>
     ensures { IfOk result (λ c. app_of c ≡ spec.grammar) }
 {
+    let exec = operated(
+        alloc,
+        "exec",
+        "Runs a module on the input of a manifest",
+        "gsl exec MODULE INPUTS",
+    )?;
+    let run = operated(
+        alloc,
+        "run",
+        "Compiles a shader and runs its module on the input of a manifest",
+        "gsl run STAGE INPUTS FILE..",
+    )?;
+    judging(alloc)?.subcommand(exec)?.subcommand(run)
+}
+
+/// The program with the commands that run no module.
+fn judging<'a>(alloc: Global) -> Result<Command<'a>, AllocError>
+    ensures { IfOk result (λ c. app_of c ≡ spec.judging) }
+{
     let check = operated(
         alloc,
         "check",

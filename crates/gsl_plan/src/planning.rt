@@ -79,6 +79,12 @@ fn named(alloc: Global, name: &str, operands: &[&str]) -> Result<Command, Memory
     if name == "check" {
         return check_of(alloc, operands);
     }
+    if name == "exec" {
+        return exec_of(alloc, operands);
+    }
+    if name == "run" {
+        return run_of(alloc, operands);
+    }
     usage(alloc)
 }
 
@@ -92,18 +98,48 @@ fn compile_of(alloc: Global, operands: &[&str]) -> Result<Command, Memory>
 }
 
 fn compile_for(alloc: Global, stage: &str, out: &str, files: &[&str]) -> Result<Command, Memory>
-    ensures { IfOk result (λ found. plan_in found ≡ spec.compile_for stage.now out.now (texts files.now)) }
+    ensures { IfOk result (λ found. plan_in found ≡ spec.compile_in (spec.staged stage.now (texts files.now)) out.now (texts files.now)) }
 {
-    if !are_files(files) {
-        return usage(alloc);
-    }
-    match stage_of(stage) {
+    match staged(stage, files) {
         Some(stage) => Ok(Command::Compile {
             stage,
             out: Text::from_str(alloc, out)?,
             files: names_of(alloc, files)?,
         }),
         None => usage(alloc),
+    }
+}
+
+fn run_of(alloc: Global, operands: &[&str]) -> Result<Command, Memory>
+    ensures { IfOk result (λ found. plan_in found ≡ spec.run_of (texts operands.now)) }
+{
+    match operands {
+        [stage, inputs, files @ ..] => run_for(alloc, stage, inputs, files),
+        _ => usage(alloc),
+    }
+}
+
+fn run_for(alloc: Global, stage: &str, inputs: &str, files: &[&str]) -> Result<Command, Memory>
+    ensures { IfOk result (λ found. plan_in found ≡ spec.run_in (spec.staged stage.now (texts files.now)) inputs.now (texts files.now)) }
+{
+    match staged(stage, files) {
+        Some(stage) => Ok(Command::Run {
+            stage,
+            inputs: Text::from_str(alloc, inputs)?,
+            files: names_of(alloc, files)?,
+        }),
+        None => usage(alloc),
+    }
+}
+
+/// The stage of a word, if there are as many files as there may be.
+fn staged(stage: &str, files: &[&str]) -> Option<Stage>
+    ensures { result ≡ spec.staged stage.now (texts files.now) }
+{
+    if are_files(files) {
+        stage_of(stage)
+    } else {
+        None
     }
 }
 
@@ -170,6 +206,18 @@ fn check_of(alloc: Global, operands: &[&str]) -> Result<Command, Memory>
     match operands {
         [file] => Ok(Command::Check {
             file: Text::from_str(alloc, file)?,
+        }),
+        _ => usage(alloc),
+    }
+}
+
+fn exec_of(alloc: Global, operands: &[&str]) -> Result<Command, Memory>
+    ensures { IfOk result (λ found. plan_in found ≡ spec.exec_of (texts operands.now)) }
+{
+    match operands {
+        [file, inputs] => Ok(Command::Exec {
+            file: Text::from_str(alloc, file)?,
+            inputs: Text::from_str(alloc, inputs)?,
         }),
         _ => usage(alloc),
     }

@@ -9,17 +9,11 @@ use Rattle.gsl_host.specs.Outside.{Files, Appends, AppendsSome, NeverFall}
 use Rattle.gsl_cmd.specs.Command.{Said, Shown}
 use Rattle.gsl_cmd.specs.Job.{Job, Effect}
 use Rattle.gsl_cmd.specs.Performs.{Performs, Prints, KeepsAllBut, effect_on, text_of}
-use Rattle.gsl_cmd.specs.Texts.{host_text}
-use Rattle.gsl_cmd.proofs.Streams.{appends_none, appends_part, later_rise, earlier_rise, prints_over}
+use Rattle.gsl_exec.specs.Texts.{host_text}
+use Rattle.gsl_cmd.proofs.Streams.{appends_no_text, appends_part, appends_some, later_rise, earlier_rise, prints_over}
 use Rattle.gsl_reference.specs.declared.stop.Stop.{Stop}
 use Rattle.gsl_reference.specs.declared.stop.Stop.TheVariants as stop
 use Rattle.gsl_reference.specs.Steps.{Comes, Ends, EndsWith, Reaches, Reported}
-
-appends_no_text : (before after : Option (List ℕ)) (text : List ℕ) → text ≡ [] → after ≡ before → Appends before after text
-appends_no_text before after text none same = subst (Appends before after) (sym none) (appends_none before after same)
-
-appends_some : (before after : Option (List ℕ)) (text : List ℕ) → after ≡ before → AppendsSome before after text
-appends_some before after text same = (0, appends_none before after same)
 
 module _ (before : Files) (after : Option Files) (first then last : Target → ℕ) (printed printed' : Stream → Option (List ℕ)) (same : after ≡ Some before) (up : NeverFall first then)
     (over : NeverFall then last) where

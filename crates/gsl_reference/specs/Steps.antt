@@ -10,7 +10,8 @@ use Rattle.gsl_host.specs.Outside.{Name, Rose}
 use Rattle.gsl_tree.specs.declared.program.Program.{Program}
 use Rattle.gsl_cmd.specs.Command.{Said}
 use Rattle.gsl_cmd.specs.Job.{Job, Effect, Gathered, Sources, TooLong}
-use Rattle.gsl_cmd.specs.Texts.{host_text, told_fault}
+use Rattle.gsl_cmd.specs.Texts.{told_fault}
+use Rattle.gsl_exec.specs.Texts.{host_text}
 use Rattle.gsl_cmd.specs.Verdict.{fault_in}
 use Rattle.gsl_given.specs.declared.stop.Stop.{Stop as GivenStop}
 use Rattle.gsl_given.specs.declared.stop.Stop.TheVariants as given

@@ -27,6 +27,12 @@ fn told(alloc: Global, command: Command) -> Result<String, Memory> {
         Command::Disassemble { file, out } => joined(alloc, "dis", &file, &out),
         Command::Assemble { file, out } => joined(alloc, "asm", &file, &out),
         Command::Check { file } => joined(alloc, "check", &file, &Text::from_str(alloc, "alone")?),
+        Command::Exec { file, inputs } => joined(alloc, "exec", &file, &inputs),
+        Command::Run {
+            stage,
+            inputs,
+            files,
+        } => all(alloc, running(stage), &inputs, &files),
     }
 }
 
@@ -35,6 +41,14 @@ fn compiling(stage: Stage) -> &'static str {
         Stage::Compute => "compile comp",
         Stage::Vertex => "compile vert",
         Stage::Fragment => "compile frag",
+    }
+}
+
+fn running(stage: Stage) -> &'static str {
+    match stage {
+        Stage::Compute => "run comp",
+        Stage::Vertex => "run vert",
+        Stage::Fragment => "run frag",
     }
 }
 
@@ -83,6 +97,14 @@ fn each_command_has_its_operands(rt: HostRuntime) -> Result<(), Fail> {
     );
     assert_eq!(rt; shown(alloc, "asm m.txt -")?.as_str(), "asm m.txt -");
     assert_eq!(rt; shown(alloc, "check m.spv")?.as_str(), "check m.spv alone");
+    assert_eq!(rt;
+        shown(alloc, "exec m.spv i.txt")?.as_str(),
+        "exec m.spv i.txt"
+    );
+    assert_eq!(rt;
+        shown(alloc, "run vert i.txt a.vert b.vert")?.as_str(),
+        "run vert i.txt a.vert b.vert"
+    );
     Ok(())
 }
 
@@ -121,6 +143,9 @@ fn other_words_are_no_command(rt: HostRuntime) -> Result<(), Fail> {
         "asm -é o.spv",
         "check",
         "check m.spv o.spv",
+        "exec m.spv",
+        "exec m.spv i.txt more",
+        "run comp i.txt",
         "-- dis m.spv o.txt",
         "Dis m.spv o.txt",
         "help",

@@ -1,13 +1,14 @@
-use Rattle.std.proofs.Common.{ℕ, List, ◌∙◌, ap, sym, subst}
-use Rattle.gsl_base.specs.Checked.{Refuses}
-use Rattle.gsl_cmd.specs.Verdict.{linked_of}
-use Rattle.gsl_cmd.proofs.Compiled.{refused, compiled}
+use Rattle.std.proofs.Common.{subst, sym, ◌∙◌, ap}
+use Rattle.gsl_words.specs.Bytes.{bytes_of}
+use Rattle.gsl_words.specs.Instructions.{HasFile}
+use Rattle.gsl_cmd.proofs.Compiled.{compiled, uncompiled}
 use Rattle.gsl_cmd.proofs.compiling.compile.Goals as goal
 
-pub returns-in-Ok : goal.returns-in-Ok
-returns-in-Ok c =
-    compiled c.args.stage c.args.sources.now c.in-Ok.program c.compile_linked.result (ap (linked_of c.args.stage) (sym c.as_slice.ensures) ∙ (rw c.in-Ok.is at c.linked.ensures.made)) c.compile_linked.ensures
+pub file_of-requires : goal.file_of-requires
+file_of-requires c = subst HasFile (sym c.module.ensures.is) c.module.ensures.valid.file
 
-pub returns-in-Err : goal.returns-in-Err
-returns-in-Err c =
-    refused c.args.stage c.args.sources.now c.in-Err.refusal (subst (λ (s : List (List ℕ)). Refuses c.in-Err.refusal (linked_of c.args.stage s)) c.as_slice.ensures (rw c.in-Err.is at c.linked.ensures.made))
+pub returns-in-Ok-file_of : goal.returns-in-Ok-file_of
+returns-in-Ok-file_of c = compiled c.args.stage c.args.sources.now c.in-Ok.valid c.in-Ok-file_of.bytes c.in-Ok.ensures (c.in-Ok-file_of.ensures ∙ ap bytes_of c.module.ensures.is)
+
+pub returns : goal.returns
+returns c = uncompiled c.args.stage c.args.sources.now c.in-Err.refusal c.in-Err.ensures
