@@ -1,2 +1,6 @@
 pub mod Steps
 pub mod Turns
+pub mod Parts
+pub mod Layouts
+pub mod Rows
+pub mod Standing

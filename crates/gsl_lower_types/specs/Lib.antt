@@ -1,2 +1,5 @@
 pub mod Known
 pub mod Values
+pub mod Laid
+pub mod Blocks
+pub mod Globals
