@@ -4,3 +4,4 @@ pub mod Parts
 pub mod Layouts
 pub mod Rows
 pub mod Standing
+mod Example

@@ -6,7 +6,7 @@ use Rattle.std.proofs.lemmas.Bool.{true≢false}
 use Rattle.std.proofs.lemmas.List.Elements.{Contains-append_right}
 use Rattle.std.proofs.lemmas.Option.{none-some}
 use Rattle.gsl_instr.specs.declared.enumerant.decoration.TheConstants as decoration
-use Rattle.gsl_layout.specs.Layout.{Parts, End, Part, offset_at}
+use Rattle.gsl_layout.specs.Layout.{Leaf, Parts, End, Part, offset_at}
 use Rattle.gsl_layout.proofs.Order.{number_or}
 use Rattle.gsl_words.specs.declared.module.Instr.{Instr}
 use Rattle.gsl_spv.specs.Calls as call
@@ -14,10 +14,19 @@ use Rattle.gsl_spv.specs.Calls.{Out, decorating}
 use Rattle.gsl_spv.specs.Declarations as d
 use Rattle.gsl_spv.specs.Sections.{Sections}
 use Rattle.gsl_spv.specs.declared.refusal.TheConstants.{MOST_IDS}
-use Rattle.gsl_types.specs.declared.ty.Scalar.TheVariants.{Uint}
+use Rattle.gsl_types.specs.declared.ty.Scalar.TheVariants.{Bool as Boolean, Uint}
+use Rattle.gsl_types.specs.declared.ty.StructType.{StructType}
+use Rattle.gsl_types.specs.declared.ty.Ty.TheVariants as ty
+use Rattle.gsl_types.specs.declared.ty.Ty.TheVariants.{outs-One}
+use Rattle.gsl_tree.specs.Around.{stage_var_type}
+use Rattle.gsl_tree.specs.Shapes.{of_shape, shape_kind}
+use Rattle.gsl_tree.specs.declared.expr.StageVar.{StageVar}
+use Rattle.gsl_tree.specs.declared.expr.StageVar.TheVariants.{NumWorkGroups, WorkGroupId, LocalInvocationId, GlobalInvocationId, LocalInvocationIndex, VertexIndex, InstanceIndex}
 use Rattle.gsl_lower_values.specs.Building.{Built, Made, Full, Step, behind, given, ◌>>=◌, id_by}
 use Rattle.gsl_lower_values.specs.Types.{scalar_constant}
-use Rattle.gsl_lower_types.specs.Laid.{array_by, offsets, struct_by}
+use Rattle.gsl_lower_types.specs.Interfaces.{stage_shape}
+use Rattle.gsl_lower_types.specs.Known.{Known}
+use Rattle.gsl_lower_types.specs.Laid.{array_by, offsets, stored_as, struct_by, type_laid}
 
 -- ---- what is made
 
@@ -110,3 +119,17 @@ pub runtimes_stride : (stride element id : ℕ) (before after : Sections) → id
 runtimes_stride stride element id before after is =
     let new = call.runtime_type element stride before in
     strided_out stride (call.declare (d.runtime_type element) before) id before after (only_made (nat_le new.sections.last MOST_IDS) new id after is)
+
+-- ---- types
+
+pub truths_lie : (structs : List StructType) (components : ℕ) (known : Known) (s : Sections) → type_laid structs (Leaf components) (ty.One Boolean) known s ≡ type_laid structs (Leaf components) (ty.One Uint) known s
+truths_lie structs components known s = ap (λ o. stored_as o known s) (ap shape_kind (outs-One Boolean)) ∙ sym (ap (λ o. stored_as o known s) (ap shape_kind (outs-One Uint)))
+
+pub stage_types : (var : StageVar) → of_shape (stage_shape var) ≡ stage_var_type var
+stage_types NumWorkGroups = refl
+stage_types WorkGroupId = refl
+stage_types LocalInvocationId = refl
+stage_types GlobalInvocationId = refl
+stage_types LocalInvocationIndex = refl
+stage_types VertexIndex = refl
+stage_types InstanceIndex = refl

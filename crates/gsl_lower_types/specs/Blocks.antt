@@ -1,6 +1,6 @@
 -- Blocks as variables of a module: the struct type of a block with its marks and names, and its variable with its set and binding
 -- (SPIR-V 1.0, 3.7 and 3.20).
-use Rattle.std.specs.Prelude.{ℕ, ◌+◌, Bool, true, false, if◌then◌else◌, List, [], ◌∷◌, map, Option, Some, None}
+use Rattle.std.specs.Prelude.{ℕ, ◌+◌, Bool, true, false, if◌then◌else◌, List, [], ◌∷◌, map, Some, None}
 use Rattle.gsl_instr.specs.declared.enumerant.decoration.TheConstants as decoration
 use Rattle.gsl_instr.specs.declared.enumerant.storage_class.TheConstants as storage_class
 use Rattle.gsl_layout.specs.Layout.{Layout, members_of}
@@ -13,11 +13,10 @@ use Rattle.gsl_tree.specs.declared.unit.Block.{Block}
 use Rattle.gsl_tree.specs.declared.unit.BlockKind.{BlockKind}
 use Rattle.gsl_tree.specs.declared.unit.BlockKind.TheVariants.{Uniform, Buffer, Push}
 use Rattle.gsl_tree.specs.declared.unit.BlockMember.{BlockMember}
-use Rattle.gsl_spv.specs.Calls as call
-use Rattle.gsl_lower_values.specs.Building.{Made, Step, ◌>>=◌, given, id_by}
-use Rattle.gsl_lower_places.specs.Reading.{pointer_type}
+use Rattle.gsl_lower_values.specs.Building.{Step, ◌>>=◌, given}
+use Rattle.gsl_lower_types.specs.Declaring.{decorated, named, variable_in}
 use Rattle.gsl_lower_types.specs.Known.{Known, Put, aside}
-use Rattle.gsl_lower_types.specs.Laid.{decorated, grouped, types_laid}
+use Rattle.gsl_lower_types.specs.Laid.{grouped, types_laid}
 use Rattle.gsl_lower_types.specs.declared.blocks.LaidTypes.{LaidTypes}
 
 -- ---- what a kind of block is in a module
@@ -46,10 +45,6 @@ mark_of target Push = decoration.BLOCK
 -- a member with a decoration, where a word stands on it
 abbrev pub marked : ℕ → ℕ → ℕ → Bool → Step (Unit {0})
 marked id number what word = if word then decorated id (Some number) what None else given tt
-
--- an id, or a member of it, with a name
-abbrev pub named : ℕ → Option ℕ → List ℕ → Step (Unit {0})
-named id member text sections = Made tt (call.name id member text sections)
 
 -- the marks of a member and its name; the word `restrict` leaves no mark
 unfoldable pub member_marked : ℕ → ℕ → BlockMember → Step (Unit {0})
@@ -85,8 +80,7 @@ bound_by _ set binding id = decorated id None decoration.DESCRIPTOR_SET (Some se
 -- a variable of a struct type
 abbrev pub block_variable : Target → Block → ℕ → Step ℕ
 block_variable target block struct =
-    pointer_type (class_of target block.kind) struct >>= (λ pointer. id_by (call.global pointer (class_of target block.kind) None) >>= (λ id.
-    bound_by block.kind block.set block.binding id >>= (λ done. given id)))
+    variable_in (class_of target block.kind) struct None >>= (λ id. bound_by block.kind block.set block.binding id >>= (λ done. given id))
 
 abbrev pub block_by : Target → Block → ℕ → Step ℕ
 block_by target block struct = block_marked target block struct >>= (λ done. block_variable target block struct)

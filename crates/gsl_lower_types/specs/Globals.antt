@@ -12,9 +12,9 @@ use Rattle.gsl_values.specs.declared.value.Value.TheOpen.{Value-F}
 use Rattle.gsl_tree.specs.declared.unit.GlobalVar.{GlobalVar}
 use Rattle.gsl_spv.specs.Calls as call
 use Rattle.gsl_spv.specs.declared.plain.PlainConst.TheVariants as of
-use Rattle.gsl_lower_values.specs.Building.{Step, ◌>>=◌, given, id_by}
+use Rattle.gsl_lower_values.specs.Building.{◌>>=◌, given, id_by}
 use Rattle.gsl_lower_values.specs.Types.{composed, scalar_constant}
-use Rattle.gsl_lower_places.specs.Reading.{pointer_type}
+use Rattle.gsl_lower_types.specs.Declaring.{variable_in}
 use Rattle.gsl_lower_types.specs.Known.{Put, aside, each, lacking}
 use Rattle.gsl_lower_types.specs.Laid.{types_in}
 use Rattle.gsl_lower_types.specs.Values.{value_type}
@@ -65,11 +65,8 @@ abbrev pub beginning : List StructType → Ty → ℕ → Option Value → Put �
 beginning structs t type None = aside (id_by (call.constant (of.Null type)))
 beginning structs t type (Some v) = constant_of structs v t
 
-abbrev pub private_variable : ℕ → ℕ → Step ℕ
-private_variable type init = pointer_type storage_class.PRIVATE type >>= (λ pointer. id_by (call.global pointer storage_class.PRIVATE (Some init)))
-
 abbrev pub variable_of : List StructType → GlobalVar → ℕ → Put ℕ
-variable_of structs g type known = beginning structs g.ty type g.value known >>= (λ r. aside (private_variable type r.0) r.1)
+variable_of structs g type known = beginning structs g.ty type g.value known >>= (λ r. aside (variable_in storage_class.PRIVATE type (Some r.0)) r.1)
 
 -- a global variable
 unfoldable pub global_put : List StructType → GlobalVar → Put ℕ

@@ -11,16 +11,13 @@ use Rattle.gsl_types.specs.declared.ty.Ty.TheOpen.{Ty-F}
 use Rattle.gsl_types.specs.declared.ty.Ty.TheViews.{out-Ty}
 use Rattle.gsl_tree.specs.Shapes.{Shape, shape_of}
 use Rattle.gsl_spv.specs.Calls as call
-use Rattle.gsl_lower_values.specs.Building.{Made, Step, ◌>>=◌, given, id_by}
+use Rattle.gsl_lower_values.specs.Building.{Step, ◌>>=◌, given, id_by}
 use Rattle.gsl_lower_values.specs.Types.{scalar_constant, type_of}
 use Rattle.gsl_lower_places.specs.Reached.{stored_scalar}
+use Rattle.gsl_lower_types.specs.Declaring.{decorated}
 use Rattle.gsl_lower_types.specs.Known.{Put, aside, lacking, once}
 
 -- ---- decorations
-
--- an id, or a member of it, with a decoration
-abbrev pub decorated : ℕ → Option ℕ → ℕ → Option ℕ → Step (Unit {0})
-decorated id member what literal sections = Made tt (call.decorate id member what literal sections)
 
 -- each member of a struct, numbered from one on, with the offset at which it stands
 unfoldable pub offsets : ℕ → ℕ → Parts → Step (Unit {0})

@@ -11,6 +11,7 @@ ghost use Rattle.gsl_lower_values.specs.Building as steps;
 ghost use Rattle.gsl_lower_types.specs.Known.{Does};
 ghost use Rattle.gsl_lower_types.specs.Blocks as spec;
 
+use crate::declaring::variable_in;
 use crate::known::number_of;
 use crate::laid::grouped;
 use gsl_base::{List, Memory, Text};
@@ -18,7 +19,7 @@ use gsl_block_words::lay_block;
 use gsl_instr::enumerant::{decoration, storage_class};
 use gsl_layout::{Kind, Laid};
 use gsl_lower_holders::{Ids, TypeIds};
-use gsl_spv::{BuildRefusal, Builder, PlainType};
+use gsl_spv::{BuildRefusal, Builder};
 use gsl_tree::{Block, BlockKind, BlockMember, BlockMembers, Blocks};
 use gsl_types::{Structs, Types};
 use gsl_typing::copy;
@@ -154,8 +155,7 @@ fn block_variable(
     ensures { steps.Does result b.new (spec.block_variable target block.now struct_id b.old) }
 {
     let class = class_of(target, block.kind);
-    let pointer = b.plain_type(PlainType::Pointer(class, struct_id))?;
-    let id = b.global(pointer, class, None)?;
+    let id = variable_in(b, class, struct_id, None)?;
     bound_by(b, block.kind, block.set, block.binding, id)?;
     Ok(id)
 }

@@ -3,16 +3,16 @@
 ghost use Rattle.std.specs.Prelude.{◌≡◌, IfOk, map, slice_get};
 ghost use Rattle.gsl_lower_types.specs.Laid.{types_in};
 ghost use Rattle.gsl_types.specs.declared.ty.Ty.TheViews.{out-Ty};
-ghost use Rattle.gsl_lower_values.specs.Building as steps;
 ghost use Rattle.gsl_lower_types.specs.Known.{Does};
 ghost use Rattle.gsl_lower_types.specs.Globals as spec;
 
+use crate::declaring::variable_in;
 use crate::values::value_type;
 use gsl_base::{List, Memory};
 use gsl_instr::enumerant::storage_class;
 use gsl_lower_holders::{Ids, TypeIds};
 use gsl_lower_values::scalar_constant;
-use gsl_spv::{BuildRefusal, Builder, PlainConst, PlainType};
+use gsl_spv::{BuildRefusal, Builder, PlainConst};
 use gsl_tree::{GlobalVar, Globals};
 use gsl_types::{Structs, Ty};
 use gsl_typing::copy;
@@ -135,13 +135,6 @@ fn beginning(
     }
 }
 
-fn private_variable(b: &mut Builder, type_id: u32, init: u32) -> Result<u32, BuildRefusal>
-    ensures { steps.Does result b.new (spec.private_variable type_id init b.old) }
-{
-    let pointer = b.plain_type(PlainType::Pointer(storage_class::PRIVATE, type_id))?;
-    b.global(pointer, storage_class::PRIVATE, Some(init))
-}
-
 fn variable_of(
     alloc: Global,
     b: &mut Builder,
@@ -153,7 +146,7 @@ fn variable_of(
     ensures { Does result b.new known.new (spec.variable_of structs.now g.now type_id known.old b.old) }
 {
     let init = beginning(alloc, b, known, structs, g, type_id)?;
-    private_variable(b, type_id, init)
+    variable_in(b, storage_class::PRIVATE, type_id, Some(init))
 }
 
 #[tactic(auto, unfolding(crate::specs::Globals::global_put))]

@@ -2,11 +2,13 @@
 //!
 //! `specs/Known.antt` has the words for what puts a type once: steps of `gsl_lower_values` over the arrays and structs that are known.
 //! `Values` says which types stand for those of values, `Laid` which ones lie in blocks, `Blocks` what a block's variable is, and `Globals`
-//! what a global variable is.
+//! what a global variable is, and `Interfaces` what inputs, outputs and built-in variables are.
 #![tactic(auto)]
 
 mod blocks;
+mod declaring;
 mod globals;
+mod interfaces;
 mod known;
 mod laid;
 mod laws;
@@ -14,5 +16,9 @@ mod values;
 
 pub use blocks::{LaidTypes, blocks_put, class_of, classes_of};
 pub use globals::globals_put;
-pub use laws::{elements_stand_where_they_lie, members_stand_where_they_lie};
+pub use interfaces::{interfaces_put, stage_put};
+pub use laws::{
+    built_in_variables_have_their_types, elements_stand_where_they_lie,
+    members_stand_where_they_lie, truth_values_lie_as_numbers,
+};
 pub use values::{program_types, value_type};
