@@ -101,12 +101,12 @@ elements_end e vs s k at bytes whole past same = sym (ap (λ l. put_row (λ plac
 
 -- ---- members
 
-opened_part : (parts : Parts) (i o : ℕ) (m : Layout) → part_at parts i ≡ Some m → offset_at parts i ≡ Some o → parts_from i parts ≡ Part o m (parts_from (suc i) parts)
+pub opened_part : (parts : Parts) (i o : ℕ) (m : Layout) → part_at parts i ≡ Some m → offset_at parts i ≡ Some o → parts_from i parts ≡ Part o m (parts_from (suc i) parts)
 opened_part End i o m part offset = let never : ⊥ = none-some _ part in elim never [ ]
 opened_part (Part p l rest) zero o m part offset = ap (λ n. Part n l rest) (ap (number_or o) offset) ∙ ap (λ x. Part o x rest) (ap (layout_or m) part)
 opened_part (Part p l rest) (suc i) o m part offset = opened_part rest i o m part offset
 
-all_parts : (parts : Parts) (i : ℕ) → part_count parts ≤ i → parts_from i parts ≡ End
+pub all_parts : (parts : Parts) (i : ℕ) → part_count parts ≤ i → parts_from i parts ≡ End
 all_parts End zero past = refl
 all_parts End (suc i) past = refl
 all_parts (Part p l rest) zero past = let never : ⊥ = omega (arith, past) in elim never [ ]

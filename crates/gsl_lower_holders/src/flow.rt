@@ -39,8 +39,8 @@ fn is_of(ty: &Ty, entry: &(Ty, u32)) -> bool
     identical(ty, &entry.0)
 }
 
-/// The id of an array or struct.
-fn find_type(composites: &[(Ty, u32)], ty: &Ty) -> Option<u32>
+/// The id of an array or struct, if it is among those.
+pub fn find_type(composites: &[(Ty, u32)], ty: &Ty) -> Option<u32>
     ensures { result ≡ spec.find_type ty.now composites.now }
 {
     for k in 0..composites.len() {

@@ -10,6 +10,6 @@ mod place;
 mod waiting;
 
 pub use blocks::{Fork, begin_choice, begin_short, join, other_way};
-pub use flow::{id_in, opening, type_id};
+pub use flow::{find_type, id_in, opening, type_id};
 pub use place::{FlowPlace, Ids, TypeIds};
 pub use waiting::{fetch, fetch_reached, hold, hold_reached, holder, keep, take_back};

@@ -13,6 +13,6 @@ mod writing;
 
 pub use pointers::{index, pointer};
 pub use pointing::pointed;
-pub use reached::{Base, Part, Parts, Picked, Positions, Reached, is_block_class};
+pub use reached::{Base, Part, Parts, Picked, Positions, Reached, is_block_class, stored_scalar};
 pub use reading::{extracted, loaded, read};
 pub use writing::{put_at, stored};

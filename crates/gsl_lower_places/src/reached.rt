@@ -254,7 +254,8 @@ pub fn is_block_class(class: u32) -> bool
         || class == storage_class::PUSH_CONSTANT
 }
 
-fn stored_scalar(s: Scalar) -> Scalar
+/// The scalar type in which a scalar lies in a block: a truth value is a number.
+pub fn stored_scalar(s: Scalar) -> Scalar
     ensures { result ≡ spec.stored_scalar s }
 {
     match s {

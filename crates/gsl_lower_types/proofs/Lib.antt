@@ -1,0 +1,7 @@
+pub mod Steps
+pub mod Turns
+pub mod Parts
+pub mod Layouts
+pub mod Rows
+pub mod Standing
+mod Example

@@ -1,0 +1,40 @@
+//! Laws of the definitions: calls that do nothing, whose contracts are the laws.
+
+ghost use Rattle.std.specs.Prelude.{◌≡◌, ℕ, List, None, Some};
+ghost use Rattle.std.specs.List.{Contains};
+ghost use Rattle.gsl_instr.specs.declared.enumerant.decoration.TheConstants as decoration;
+ghost use Rattle.gsl_layout.specs.Layout.{Leaf, Parts, offset_at};
+ghost use Rattle.gsl_types.specs.declared.ty.Scalar.TheVariants.{Bool as Boolean, Uint};
+ghost use Rattle.gsl_types.specs.declared.ty.StructType.{StructType};
+ghost use Rattle.gsl_types.specs.declared.ty.Ty.TheVariants as ty;
+ghost use Rattle.gsl_tree.specs.Around.{stage_var_type};
+ghost use Rattle.gsl_tree.specs.Shapes.{of_shape};
+ghost use Rattle.gsl_tree.specs.declared.expr.StageVar.{StageVar};
+ghost use Rattle.gsl_spv.specs.Calls as call;
+ghost use Rattle.gsl_spv.specs.Calls.{decorating};
+ghost use Rattle.gsl_spv.specs.Sections.{Sections};
+ghost use Rattle.gsl_lower_values.specs.Building.{Made, id_by};
+ghost use Rattle.gsl_lower_types.specs.Interfaces.{stage_shape};
+ghost use Rattle.gsl_lower_types.specs.Known.{Known};
+ghost use Rattle.gsl_lower_types.specs.Laid.{array_by, struct_by, type_laid};
+
+/// The struct type that is put for a group of a layout has an Offset for each member, the one of the layout.
+pub fn members_stand_where_they_lie()
+    ensures { (parts : Parts) (members : List ℕ) (number offset id : ℕ) (before after : Sections) → offset_at parts number ≡ Some offset → struct_by parts members before ≡ Made id after → Contains after.decorations (decorating id (Some number) decoration.OFFSET (Some offset)) }
+{}
+
+/// The type that is put for an array of a layout, or for a runtime array, has the layout's stride as its ArrayStride.
+pub fn elements_stand_where_they_lie()
+    ensures array { (stride element count id : ℕ) (before after : Sections) → array_by stride element count before ≡ Made id after → Contains after.decorations (decorating id None decoration.ARRAY_STRIDE (Some stride)) }
+    ensures runtime { (stride element id : ℕ) (before after : Sections) → id_by (call.runtime_type element stride) before ≡ Made id after → Contains after.decorations (decorating id None decoration.ARRAY_STRIDE (Some stride)) }
+{}
+
+/// A truth value lies in a block as a `uint` does.
+pub fn truth_values_lie_as_numbers()
+    ensures { (structs : List StructType) (components : ℕ) (known : Known) (s : Sections) → type_laid structs (Leaf components) (ty.One Boolean) known s ≡ type_laid structs (Leaf components) (ty.One Uint) known s }
+{}
+
+/// A built-in variable has the type that the language gives it.
+pub fn built_in_variables_have_their_types()
+    ensures { (var : StageVar) → of_shape (stage_shape var) ≡ stage_var_type var }
+{}
