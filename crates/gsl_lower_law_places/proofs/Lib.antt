@@ -6,3 +6,4 @@ pub mod Stored
 pub mod Variables
 pub mod Merged
 pub mod Kept
+pub mod Blocks

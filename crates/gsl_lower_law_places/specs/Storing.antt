@@ -4,8 +4,12 @@ use Rattle.gsl_base.specs.declared.input.Buffer.{Buffer}
 use Rattle.gsl_base.specs.declared.input.Input.{Input}
 use Rattle.gsl_words.specs.declared.module.Module.{Module}
 use Rattle.gsl_values.specs.declared.value.Value.{Value}
+use Rattle.gsl_instr.specs.declared.enumerant.decoration.TheConstants as decoration
+use Rattle.gsl_valid.specs.Decorations.{number_on}
+use Rattle.gsl_valid.specs.Kinds.{OfVector, shape_of}
 use Rattle.gsl_valid.specs.Placed.{Placed}
-use Rattle.gsl_machine.specs.Memory.{storing}
+use Rattle.gsl_valid.specs.Types.{defined_as, lanes_of}
+use Rattle.gsl_machine.specs.Memory.{size_of, storing, with_bytes_if}
 use Rattle.gsl_machine.specs.State.{Ids, Outcome, Pointer, State}
 
 -- A value that is stored where a pointer leads leaves these variables and buffers, whatever ids stand for and is still to come.
@@ -22,3 +26,15 @@ goes_to (Some number) positions = number ∷ []
 abbrev pub AreStored : Option ℕ → List ℕ → Type 0
 AreStored None positions = Unit {0}
 AreStored (Some number) positions = length positions ≡ 1
+
+-- ---- blocks
+
+-- A type is that of vectors of so many components of a type.
+pub record IsVectorType (m : Module) (type component count : ℕ) : Type 0 where
+  pub is : shape_of (defined_as m type) ≡ OfVector component count
+  pub size : size_of (lanes_of m type) ≡ count
+  pub part : size_of (lanes_of m component) ≡ 1
+
+-- the buffers where the variable of a block has these bytes
+abbrev pub buffers_with : Module → State → ℕ → List ℕ → List Buffer
+buffers_with m state variable bytes = with_bytes_if state.buffers (number_on m decoration.DESCRIPTOR_SET variable) (number_on m decoration.BINDING variable) bytes

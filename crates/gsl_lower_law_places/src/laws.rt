@@ -7,7 +7,10 @@ ghost use Rattle.gsl_words.specs.declared.module.Module.{Module};
 ghost use Rattle.gsl_values.specs.declared.value.Value.{Value};
 ghost use Rattle.gsl_tree.specs.Operations.{value_at, with_value_at};
 ghost use Rattle.gsl_tree.specs.Shapes.{Shape};
-ghost use Rattle.gsl_machine.specs.State.{InVariable, Pointer, Points, State};
+ghost use Rattle.gsl_tree.specs.Values.{components_in, of_components};
+ghost use Rattle.gsl_views.specs.Buffers.{put_words};
+ghost use Rattle.gsl_machine.specs.Memory.{bytes_of, words_at};
+ghost use Rattle.gsl_machine.specs.State.{InBlock, InVariable, Pointer, Points, State};
 ghost use Rattle.gsl_spv.specs.Sections.{Sections};
 ghost use Rattle.gsl_lower_places.specs.Reached.{is_block_class, stored_shape};
 ghost use Rattle.gsl_lower_places.specs.Reading.{extracted_shape, loaded, number_in, pointer, read};
@@ -20,7 +23,7 @@ ghost use Rattle.gsl_lower_law.specs.Operands.{converted_value, replaced_value};
 ghost use Rattle.gsl_lower_law.specs.Values.{IsOf, Stands};
 ghost use Rattle.gsl_lower_law_places.specs.Components.{HoldsComponents, Picks, picks_of};
 ghost use Rattle.gsl_lower_law_places.specs.Leading.{HoldsValue, LeadsTo, NumberEach};
-ghost use Rattle.gsl_lower_law_places.specs.Storing.{AreStored, Stores, goes_to};
+ghost use Rattle.gsl_lower_law_places.specs.Storing.{AreStored, IsVectorType, Stores, buffers_with, goes_to};
 
 /// Where the parts of a variable are in bounds, the id that is given stands for a pointer to where they lead.
 pub fn pointers_lead()
@@ -60,4 +63,14 @@ pub fn variables_hold_components()
 /// In a variable that holds a value the components that are picked are stored, by positions or by a word that is in bounds, and the others stay.
 pub fn variables_are_stored()
     ensures { (m : Module) (input : Input) (whole : Sections) (id class : ℕ) (shape : Shape) (parts : List Part) (p : Picked) (by : Option ℕ) (words : List ℕ) (from : Pointer) (number : ℕ) (path : List ℕ) (old v w : Value) (value : ℕ) (state : State) (before : Sections) → is_block_class class ≡ false → state.ids id ≡ Some (Points from) → NumberEach state.ids parts words → LeadsTo m input state from words (InVariable number path) → slice_get state.variables number ≡ Some old → value_at old path ≡ v → IsOf p.shape v → IsOf (p.shape.0, length p.positions) w → Stands state.ids value w → Picks state.ids p by → AreStored by p.positions → length p.positions ≤ p.shape.1 → Acts m input whole (λ given ids. Unit {0}) (record { choices = state.choices; variables = set state.variables number (with_value_at old path (replaced_value v (goes_to by p.positions) w)); buffers = state.buffers }) state before (stored shape (record { base = base.Variable id class; path = parts; picked = Some p }) value) }
+{}
+
+/// A pointer into the bytes of a block leads to the scalar or vector that lies there, and to each component of a vector.
+pub fn blocks_hold_components()
+    ensures { (m : Module) (input : Input) (state : State) (variable offset pointee : ℕ) (bytes : List ℕ) (component count : ℕ) → bytes_of m input state variable ≡ Some bytes → IsVectorType m pointee component count → HoldsComponents m input state (InBlock variable offset pointee) (of_components (words_at m offset pointee bytes)) }
+{}
+
+/// A store into the bytes of a block leaves the words there, and the variables as they were.
+pub fn blocks_are_stored()
+    ensures { (m : Module) (input : Input) (state : State) (variable offset pointee : ℕ) (bytes : List ℕ) (v : Value) → bytes_of m input state variable ≡ Some bytes → Stores m input state (InBlock variable offset pointee) v state.variables (buffers_with m state variable (put_words offset (components_in v) bytes)) }
 {}
