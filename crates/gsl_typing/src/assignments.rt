@@ -9,12 +9,13 @@ ghost use Rattle.gsl_typing.specs.Operators as spec;
 ghost use Rattle.gsl_typing.specs.Scene.{made};
 
 use crate::fits::{Fitting, fitted};
+use crate::nodes::{give_up_both, second_as};
 use crate::operators::made;
 use crate::refusing::refuse;
 use crate::scene::{Part, Scene};
-use crate::types::{as_type, copy, serves_as};
+use crate::types::{copy, serves_as};
 use crate::uses::{is_unread, is_value_type, is_writable};
-use gsl_base::{Boxed, Code, Memory, Place, Refusal};
+use gsl_base::{Code, Memory, Place, Refusal};
 use gsl_syntax::AssignOp as Sign;
 use gsl_tree::{Expr, ExprKind};
 use gsl_types::Ty;
@@ -43,18 +44,33 @@ fn storable(scene: &Scene, place: Place, a: &Part, b: &Part) -> Result<(), Refus
 fn assignment(alloc: Global, scene: &Scene, place: Place, a: Part, b: Part) -> Result<Part, Refusal>
     ensures { Gives result (spec.assignment scene.now place a b) }
 {
-    storable(scene, place, &a, &b)?;
-    Ok(stored(alloc, place, a.expr, b.expr)?)
+    match storable(scene, place, &a, &b) {
+        Ok(()) => Ok(stored(alloc, place, a.expr, b.expr)?),
+        Err(refusal) => {
+            give_up_both(a, b);
+            Err(refusal)
+        }
+    }
 }
 
 /// A value is stored as the type of what it is stored in.
 fn stored(alloc: Global, place: Place, a: Expr, b: Expr) -> Result<Part, Memory>
     ensures { IfOk result (λ x. x ≡ made place (type_of a) (kind.Assign a (as_type (type_of a) b))) }
 {
-    let ty = copy(alloc, &a.ty)?;
-    let b = as_type(alloc, &ty, b)?;
-    let a = Boxed::new(alloc, a)?;
-    let b = Boxed::new(alloc, b)?;
+    match copy(alloc, &a.ty) {
+        Ok(ty) => set(alloc, place, ty, a, b),
+        Err(memory) => {
+            drop(a);
+            drop(b);
+            Err(memory)
+        }
+    }
+}
+
+fn set(alloc: Global, place: Place, ty: Ty, a: Expr, b: Expr) -> Result<Part, Memory>
+    ensures { IfOk result (λ x. x ≡ made place ty (kind.Assign a (as_type ty b))) }
+{
+    let (a, b) = second_as(alloc, &ty, a, b)?;
     Ok(made(place, ty, ExprKind::Assign(a, b)))
 }
 
@@ -94,8 +110,13 @@ fn update(
 ) -> Result<Part, Refusal>
     ensures { Gives result (spec.update scene.now op place a b) }
 {
-    let fit = updates(scene, op, place, &a, &b)?;
-    Ok(updated(alloc, place, op, &fit.right, a.expr, b.expr)?)
+    match updates(scene, op, place, &a, &b) {
+        Ok(fit) => Ok(updated(alloc, place, op, &fit.right, a.expr, b.expr)?),
+        Err(refusal) => {
+            give_up_both(a, b);
+            Err(refusal)
+        }
+    }
 }
 
 /// A value is updated with another, which is needed as a type.
@@ -109,10 +130,28 @@ fn updated(
 ) -> Result<Part, Memory>
     ensures { IfOk result (λ x. x ≡ made place (type_of a) (kind.Update op a (as_type right.now b))) }
 {
-    let ty = copy(alloc, &a.ty)?;
-    let b = as_type(alloc, right, b)?;
-    let a = Boxed::new(alloc, a)?;
-    let b = Boxed::new(alloc, b)?;
+    match copy(alloc, &a.ty) {
+        Ok(ty) => changed(alloc, place, ty, op, right, a, b),
+        Err(memory) => {
+            drop(a);
+            drop(b);
+            Err(memory)
+        }
+    }
+}
+
+fn changed(
+    alloc: Global,
+    place: Place,
+    ty: Ty,
+    op: BinaryOp,
+    right: &Ty,
+    a: Expr,
+    b: Expr,
+) -> Result<Part, Memory>
+    ensures { IfOk result (λ x. x ≡ made place ty (kind.Update op a (as_type right.now b))) }
+{
+    let (a, b) = second_as(alloc, right, a, b)?;
     Ok(made(place, ty, ExprKind::Update(op, a, b)))
 }
 

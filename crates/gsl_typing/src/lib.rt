@@ -6,6 +6,7 @@
 
 mod assignments;
 mod fits;
+mod nodes;
 mod operators;
 mod refusing;
 mod scene;

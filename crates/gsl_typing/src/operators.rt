@@ -11,9 +11,10 @@ ghost use Rattle.gsl_tree.specs.Trees.{type_of};
 ghost use Rattle.gsl_typing.specs.Scene.{made};
 
 use crate::fits::{Fitting, fitted, unary_type};
+use crate::nodes::{both_as, boxed_both, give_up, give_up_both};
 use crate::refusing::refuse;
 use crate::scene::{Part, Scene};
-use crate::types::{as_type, common, copy};
+use crate::types::{common, copy};
 use crate::uses::{
     is_bool, is_integral, is_large, is_runtime, is_unread, is_value_type, is_writable,
 };
@@ -32,21 +33,6 @@ pub(crate) fn made(place: Place, ty: Ty, kind: ExprKind) -> Part
         expr: Expr { ty, place, kind },
         fixed: false,
     }
-}
-
-fn joined(
-    alloc: Global,
-    place: Place,
-    ty: Ty,
-    op: BinaryOp,
-    a: Expr,
-    b: Expr,
-) -> Result<Part, Memory>
-    ensures { IfOk result (λ x. x ≡ made place ty (kind.Binary op a b)) }
-{
-    let a = Boxed::new(alloc, a)?;
-    let b = Boxed::new(alloc, b)?;
-    Ok(made(place, ty, ExprKind::Binary(op, a, b)))
 }
 
 /// What an arithmetic operator, an operator on bits, a shift or a relation does with two operands.
@@ -81,9 +67,8 @@ fn converted(
 ) -> Result<Part, Memory>
     ensures { IfOk result (λ x. x ≡ spec.fitted place op fit a b) }
 {
-    let a = as_type(alloc, &fit.left, a)?;
-    let b = as_type(alloc, &fit.right, b)?;
-    joined(alloc, place, fit.result, op, a, b)
+    let (a, b) = both_as(alloc, &fit.left, &fit.right, a, b)?;
+    Ok(made(place, fit.result, ExprKind::Binary(op, a, b)))
 }
 
 /// An arithmetic operator, an operator on bits, a shift or a relation.
@@ -98,8 +83,13 @@ fn operation(
 ) -> Result<Part, Refusal>
     ensures { Gives result (spec.operation scene.now op place a b) }
 {
-    let fit = operands(scene, op, place, &a, &b)?;
-    Ok(converted(alloc, place, op, fit, a.expr, b.expr)?)
+    match operands(scene, op, place, &a, &b) {
+        Ok(fit) => Ok(converted(alloc, place, op, fit, a.expr, b.expr)?),
+        Err(refusal) => {
+            give_up_both(a, b);
+            Err(refusal)
+        }
+    }
 }
 
 /// The type in which two operands are compared.
@@ -137,8 +127,13 @@ fn equality(
     requires known { AreStructs scene.now.structs }
     ensures { Gives result (spec.equality scene.now op place a b) }
 {
-    let ty = comparison(alloc, scene, place, &a, &b)?;
-    Ok(compared(alloc, place, &ty, op, a.expr, b.expr)?)
+    match comparison(alloc, scene, place, &a, &b) {
+        Ok(ty) => Ok(compared(alloc, place, &ty, op, a.expr, b.expr)?),
+        Err(refusal) => {
+            give_up_both(a, b);
+            Err(refusal)
+        }
+    }
 }
 
 /// A comparison of two values in one type.
@@ -152,16 +147,14 @@ fn compared(
 ) -> Result<Part, Memory>
     ensures { IfOk result (λ x. x ≡ made place boolean (kind.Binary op (as_type ty.now a) (as_type ty.now b))) }
 {
-    let a = as_type(alloc, ty, a)?;
-    let b = as_type(alloc, ty, b)?;
-    joined(alloc, place, Ty::One(Scalar::Bool), op, a, b)
+    let (a, b) = both_as(alloc, ty, ty, a, b)?;
+    Ok(made(place, Ty::One(Scalar::Bool), ExprKind::Binary(op, a, b)))
 }
 
 fn connected(alloc: Global, place: Place, op: LogicOp, a: Expr, b: Expr) -> Result<Part, Memory>
     ensures { IfOk result (λ x. x ≡ made place boolean (kind.Logic op a b)) }
 {
-    let a = Boxed::new(alloc, a)?;
-    let b = Boxed::new(alloc, b)?;
+    let (a, b) = boxed_both(alloc, a, b)?;
     Ok(made(place, Ty::One(Scalar::Bool), ExprKind::Logic(op, a, b)))
 }
 
@@ -191,8 +184,13 @@ fn logic(
 ) -> Result<Part, Refusal>
     ensures { Gives result (spec.logic scene.now op place a b) }
 {
-    truths(scene, place, &a, &b)?;
-    Ok(connected(alloc, place, op, a.expr, b.expr)?)
+    match truths(scene, place, &a, &b) {
+        Ok(()) => Ok(connected(alloc, place, op, a.expr, b.expr)?),
+        Err(refusal) => {
+            give_up_both(a, b);
+            Err(refusal)
+        }
+    }
 }
 
 /// An operator on two operands, by its sign.
@@ -268,9 +266,11 @@ fn plus(scene: &Scene, place: Place, a: Part) -> Result<Part, Refusal>
     ensures { Gives result (spec.plus scene.now place a) }
 {
     if !is_integral(&a) {
+        give_up(a);
         return Err(refuse(place, Code::E0503));
     }
     if is_unread(scene, &a) {
+        give_up(a);
         return Err(refuse(place, Code::E0507));
     }
     Ok(Part {
@@ -297,7 +297,18 @@ fn counter(scene: &Scene, place: Place, a: &Part) -> Result<(), Refusal>
 fn stepped(alloc: Global, place: Place, op: StepOp, a: Expr) -> Result<Part, Memory>
     ensures { IfOk result (λ x. x ≡ made place (type_of a) (kind.Step op a)) }
 {
-    let ty = copy(alloc, &a.ty)?;
+    match copy(alloc, &a.ty) {
+        Ok(ty) => moved(alloc, place, ty, op, a),
+        Err(memory) => {
+            drop(a);
+            Err(memory)
+        }
+    }
+}
+
+fn moved(alloc: Global, place: Place, ty: Ty, op: StepOp, a: Expr) -> Result<Part, Memory>
+    ensures { IfOk result (λ x. x ≡ made place ty (kind.Step op a)) }
+{
     let a = Boxed::new(alloc, a)?;
     Ok(made(place, ty, ExprKind::Step(op, a)))
 }
@@ -307,8 +318,13 @@ fn stepped(alloc: Global, place: Place, op: StepOp, a: Expr) -> Result<Part, Mem
 fn step(alloc: Global, scene: &Scene, op: StepOp, place: Place, a: Part) -> Result<Part, Refusal>
     ensures { Gives result (spec.step scene.now op place a) }
 {
-    counter(scene, place, &a)?;
-    Ok(stepped(alloc, place, op, a.expr)?)
+    match counter(scene, place, &a) {
+        Ok(()) => Ok(stepped(alloc, place, op, a.expr)?),
+        Err(refusal) => {
+            give_up(a);
+            Err(refusal)
+        }
+    }
 }
 
 /// An operator before its operand, by its sign.
@@ -382,24 +398,32 @@ fn offered(
     place: Place,
     ty: Ty,
     test: Expr,
-    a: Expr,
-    b: Expr,
+    a: Boxed<Expr>,
+    b: Boxed<Expr>,
 ) -> Result<Part, Memory>
     ensures { IfOk result (λ x. x ≡ made place ty (kind.Choose test a b)) }
 {
-    let test = Boxed::new(alloc, test)?;
-    let a = Boxed::new(alloc, a)?;
-    let b = Boxed::new(alloc, b)?;
-    Ok(made(place, ty, ExprKind::Choose(test, a, b)))
+    match Boxed::new(alloc, test) {
+        Ok(test) => Ok(made(place, ty, ExprKind::Choose(test, a, b))),
+        Err(memory) => {
+            drop(a);
+            drop(b);
+            Err(memory)
+        }
+    }
 }
 
 /// A choice between two values, which are converted to one type.
 fn chosen(alloc: Global, place: Place, ty: Ty, test: Expr, a: Expr, b: Expr) -> Result<Part, Memory>
     ensures { IfOk result (λ x. x ≡ made place ty (kind.Choose test (as_type ty a) (as_type ty b))) }
 {
-    let a = as_type(alloc, &ty, a)?;
-    let b = as_type(alloc, &ty, b)?;
-    offered(alloc, place, ty, test, a, b)
+    match both_as(alloc, &ty, &ty, a, b) {
+        Ok((a, b)) => offered(alloc, place, ty, test, a, b),
+        Err(memory) => {
+            drop(test);
+            Err(memory)
+        }
+    }
 }
 
 /// `test ? a : b`
@@ -414,8 +438,14 @@ pub fn choice(
 ) -> Result<Part, Refusal>
     ensures { Gives result (spec.choice scene.now place test a b) }
 {
-    let ty = chosen_type(alloc, scene, place, &test, &a, &b)?;
-    Ok(chosen(alloc, place, ty, test.expr, a.expr, b.expr)?)
+    match chosen_type(alloc, scene, place, &test, &a, &b) {
+        Ok(ty) => Ok(chosen(alloc, place, ty, test.expr, a.expr, b.expr)?),
+        Err(refusal) => {
+            give_up(test);
+            give_up_both(a, b);
+            Err(refusal)
+        }
+    }
 }
 
 /// The value behind a comma, which takes the one before it too.
@@ -424,9 +454,11 @@ pub fn comma(scene: &Scene, place: Place, before: &Part, behind: Part) -> Result
     ensures { Gives result (spec.comma scene.now place before.now behind) }
 {
     if is_unread(scene, before) || is_unread(scene, &behind) {
+        give_up(behind);
         return Err(refuse(place, Code::E0507));
     }
     if is_runtime(before) || is_runtime(&behind) {
+        give_up(behind);
         return Err(refuse(place, Code::E0510));
     }
     Ok(behind)

@@ -1,6 +1,8 @@
 //! Types as values, and values where a type is needed.
 
 ghost use Rattle.std.specs.Prelude.{◌≡◌, IfOk};
+ghost use Rattle.gsl_tree.specs.Trees.{typed, place_of};
+ghost use Rattle.gsl_tree.specs.declared.expr.ExprKind.TheVariants as kind;
 ghost use Rattle.gsl_typing.specs.Conversions as spec;
 
 use gsl_base::{Boxed, Memory};
@@ -56,8 +58,19 @@ pub fn as_type(alloc: Global, ty: &Ty, e: Expr) -> Result<Expr, Memory>
     if identical(&e.ty, ty) {
         return Ok(e);
     }
+    match copy(alloc, ty) {
+        Ok(ty) => convert(alloc, ty, e),
+        Err(memory) => {
+            drop(e);
+            Err(memory)
+        }
+    }
+}
+
+fn convert(alloc: Global, ty: Ty, e: Expr) -> Result<Expr, Memory>
+    ensures { IfOk result (λ x. x ≡ typed (place_of e) ty (kind.Convert e)) }
+{
     let place = e.place;
-    let ty = copy(alloc, ty)?;
     let kind = ExprKind::Convert(Boxed::new(alloc, e)?);
     Ok(Expr { ty, place, kind })
 }

@@ -12,6 +12,7 @@ ghost use Rattle.gsl_values.specs.Vectors.{components as picked};
 ghost use Rattle.gsl_typing.specs.Scene.{around};
 ghost use Rattle.gsl_typing.specs.Uses as spec;
 
+use crate::nodes::give_up;
 use crate::refusing::refuse;
 use crate::scene::{Part, Scene};
 use crate::shapes::{is_integer, shape_of};
@@ -309,7 +310,9 @@ pub fn whole(scene: &Scene, part: Part) -> Result<Part, Refusal>
     ensures { Gives result (spec.whole scene.now part) }
 {
     if expr_in_block(&part.expr) && is_large(scene, &part.expr.ty) {
-        return Err(refuse(part.expr.place, Code::E0904));
+        let place = part.expr.place;
+        give_up(part);
+        return Err(refuse(place, Code::E0904));
     }
     Ok(part)
 }
