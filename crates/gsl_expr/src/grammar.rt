@@ -10,8 +10,9 @@ ghost use Rattle.gsl_expr.specs.declared.rule.Start.TheVariants as start;
 ghost use Rattle.gsl_expr.specs.declared.rule.Tail.TheVariants as tail;
 
 use crate::nodes::{
-    assign, binary, conditional, head_type, index, index_all, is_tight, keyword, level_in,
-    may_be_index, may_be_open, mode_after, named, paren, postfix, sequence, unary, void_alone,
+    assign, binary, conditional, give_up, head_type, index, index_all, is_tight, keyword, level_in,
+    may_be_index, may_be_open, member_of, method_of, named, paren, postfix, sequence, sized, unary,
+    void_alone,
 };
 use crate::reading::Cursor;
 use crate::rule::{
@@ -57,9 +58,13 @@ impl<F: Fn(Global, &mut Cursor<'_>, usize, u8) -> Result<Expr, Stop>> Grammar<F>
             return Ok((Dim::Open(place), Mode::Type));
         }
         let size = self.expr(tokens, level_in(mode))?;
-        tokens.expect(Punct::RightBracket)?;
-        let after = mode_after(mode, &size);
-        Ok((Dim::Sized(place, Boxed::new(self.alloc, size)?), after))
+        match tokens.expect(Punct::RightBracket) {
+            Ok(_) => Ok(sized(self.alloc, mode, place, size)?),
+            Err(stop) => {
+                drop(size);
+                Err(stop)
+            }
+        }
     }
 
     /// The brackets of a type, or of a declared name.
@@ -116,8 +121,13 @@ impl<F: Fn(Global, &mut Cursor<'_>, usize, u8) -> Result<Expr, Stop>> Grammar<F>
     {
         let place = tokens.take_one()?;
         let inner = self.expr(tokens, 0)?;
-        tokens.expect(Punct::RightParen)?;
-        Ok(paren(self.alloc, place, inner)?)
+        match tokens.expect(Punct::RightParen) {
+            Ok(_) => Ok(paren(self.alloc, place, inner)?),
+            Err(stop) => {
+                drop(inner);
+                Err(stop)
+            }
+        }
     }
 
     fn unary(&self, op: UnaryOp, tokens: &mut Cursor<'_>) -> Result<Expr, Stop>
@@ -191,16 +201,24 @@ impl<F: Fn(Global, &mut Cursor<'_>, usize, u8) -> Result<Expr, Stop>> Grammar<F>
     {
         let callee = Boxed::new(self.alloc, callee)?;
         if tokens.sees(Punct::RightParen) {
-            tokens.take_one()?;
-            return Ok(Expr::Call(callee, List::new(self.alloc)));
+            return match tokens.take_one() {
+                Ok(_) => Ok(Expr::Call(callee, List::new(self.alloc))),
+                Err(stop) => {
+                    drop(callee);
+                    Err(stop)
+                }
+            };
         }
         if void_alone(tokens) {
-            tokens.take_one()?;
-            tokens.take_one()?;
-            return Ok(Expr::CallVoid(callee));
+            return call_void(callee, tokens);
         }
-        let found = self.items(tokens)?;
-        Ok(Expr::Call(callee, found))
+        match self.items(tokens) {
+            Ok(found) => Ok(Expr::Call(callee, found)),
+            Err(stop) => {
+                drop(callee);
+                Err(stop)
+            }
+        }
     }
 
     /// The operand that begins with a name or a type: a call, or an index of a name.
@@ -210,10 +228,16 @@ impl<F: Fn(Global, &mut Cursor<'_>, usize, u8) -> Result<Expr, Stop>> Grammar<F>
         ensures { Reads (spec.applied (spec.expr self.now.depth) head tokens.old.left) result tokens.old tokens.new }
     {
         if tokens.sees(Punct::LeftParen) && may_be_open(head.mode) {
-            tokens.take_one()?;
-            return self.arguments(head_type(head), tokens);
+            return match tokens.take_one() {
+                Ok(_) => self.arguments(head_type(head), tokens),
+                Err(stop) => {
+                    give_up(head);
+                    Err(stop)
+                }
+            };
         }
         if !may_be_index(head.mode) {
+            give_up(head);
             return Err(Stop::Bad);
         }
         let Head {
@@ -224,7 +248,10 @@ impl<F: Fn(Global, &mut Cursor<'_>, usize, u8) -> Result<Expr, Stop>> Grammar<F>
         } = head;
         match base {
             Base::Named(text) => Ok(index_all(self.alloc, Expr::Name(place, text), dims)?),
-            Base::Basic(_) => Err(Stop::Bad),
+            Base::Basic(_) => {
+                drop(dims);
+                Err(Stop::Bad)
+            }
         }
     }
 
@@ -239,50 +266,104 @@ impl<F: Fn(Global, &mut Cursor<'_>, usize, u8) -> Result<Expr, Stop>> Grammar<F>
     ) -> Result<Expr, Stop>
         ensures { Reads (spec.selected place member left tokens.old.left) result tokens.old tokens.new }
     {
-        let left = Boxed::new(self.alloc, left)?;
         let Name { text, .. } = member;
-        if tokens.sees(Punct::LeftParen) {
-            tokens.take_one()?;
-            tokens.expect(Punct::RightParen)?;
-            return Ok(Expr::Method(place, left, text));
+        if !tokens.sees(Punct::LeftParen) {
+            return Ok(member_of(self.alloc, place, left, text)?);
         }
-        Ok(Expr::Member(place, left, text))
+        if let Err(stop) = tokens.take_one() {
+            drop(left);
+            drop(text);
+            return Err(stop);
+        }
+        match tokens.expect(Punct::RightParen) {
+            Ok(_) => Ok(method_of(self.alloc, place, left, text)?),
+            Err(stop) => {
+                drop(left);
+                drop(text);
+                Err(stop)
+            }
+        }
     }
 
     fn indexed(&self, left: Expr, tokens: &mut Cursor<'_>) -> Result<Expr, Stop>
         requires { Nests self.now.depth (F.pre self.now.expr) (F.post self.now.expr) }
         ensures { Reads (spec.operate_as (spec.expr self.now.depth) left follow.Index tokens.old.left) result tokens.old tokens.new }
     {
-        let place = tokens.take_one()?;
-        let at = self.expr(tokens, 0)?;
-        tokens.expect(Punct::RightBracket)?;
-        Ok(index(self.alloc, place, left, at)?)
+        let place = match tokens.take_one() {
+            Ok(place) => place,
+            Err(stop) => {
+                drop(left);
+                return Err(stop);
+            }
+        };
+        let at = match self.expr(tokens, 0) {
+            Ok(at) => at,
+            Err(stop) => {
+                drop(left);
+                return Err(stop);
+            }
+        };
+        match tokens.expect(Punct::RightBracket) {
+            Ok(_) => Ok(index(self.alloc, place, left, at)?),
+            Err(stop) => {
+                drop(left);
+                drop(at);
+                Err(stop)
+            }
+        }
     }
 
     fn member(&self, left: Expr, tokens: &mut Cursor<'_>) -> Result<Expr, Stop>
         requires { Nests self.now.depth (F.pre self.now.expr) (F.post self.now.expr) }
         ensures { Reads (spec.operate_as (spec.expr self.now.depth) left follow.Member tokens.old.left) result tokens.old tokens.new }
     {
-        let place = tokens.take_one()?;
-        let name = tokens.name()?;
-        self.selected(place, name, left, tokens)
+        let place = match tokens.take_one() {
+            Ok(place) => place,
+            Err(stop) => {
+                drop(left);
+                return Err(stop);
+            }
+        };
+        match tokens.name() {
+            Ok(name) => self.selected(place, name, left, tokens),
+            Err(stop) => {
+                drop(left);
+                Err(stop)
+            }
+        }
     }
 
     fn stepped(&self, op: PostfixOp, left: Expr, tokens: &mut Cursor<'_>) -> Result<Expr, Stop>
         requires { Nests self.now.depth (F.pre self.now.expr) (F.post self.now.expr) }
         ensures { Reads (spec.operate_as (spec.expr self.now.depth) left (follow.Postfix op) tokens.old.left) result tokens.old tokens.new }
     {
-        let place = tokens.take_one()?;
-        Ok(postfix(self.alloc, place, op, left)?)
+        match tokens.take_one() {
+            Ok(place) => Ok(postfix(self.alloc, place, op, left)?),
+            Err(stop) => {
+                drop(left);
+                Err(stop)
+            }
+        }
     }
 
     fn joined(&self, op: BinaryOp, left: Expr, tokens: &mut Cursor<'_>) -> Result<Expr, Stop>
         requires { Nests self.now.depth (F.pre self.now.expr) (F.post self.now.expr) }
         ensures { Reads (spec.operate_as (spec.expr self.now.depth) left (follow.Binary op) tokens.old.left) result tokens.old tokens.new }
     {
-        let place = tokens.take_one()?;
-        let right = self.expr(tokens, level(op) + 1)?;
-        Ok(binary(self.alloc, place, op, left, right)?)
+        let place = match tokens.take_one() {
+            Ok(place) => place,
+            Err(stop) => {
+                drop(left);
+                return Err(stop);
+            }
+        };
+        match self.expr(tokens, level(op) + 1) {
+            Ok(right) => Ok(binary(self.alloc, place, op, left, right)?),
+            Err(stop) => {
+                drop(left);
+                Err(stop)
+            }
+        }
     }
 
     #[tactic(auto, unfolding(crate::specs::Expressions::operate))]
@@ -295,7 +376,10 @@ impl<F: Fn(Global, &mut Cursor<'_>, usize, u8) -> Result<Expr, Stop>> Grammar<F>
             Follow::Member => self.member(left, tokens),
             Follow::Postfix(op) => self.stepped(op, left, tokens),
             Follow::Binary(op) => self.joined(op, left, tokens),
-            Follow::End => Err(Stop::Bad),
+            Follow::End => {
+                drop(left);
+                Err(Stop::Bad)
+            }
         }
     }
 
@@ -323,11 +407,33 @@ impl<F: Fn(Global, &mut Cursor<'_>, usize, u8) -> Result<Expr, Stop>> Grammar<F>
         if least > 2 {
             return Ok(left);
         }
-        let place = tokens.take_one()?;
-        let chosen = self.expr(tokens, 0)?;
-        tokens.expect(Punct::Colon)?;
-        let other = self.expr(tokens, 1)?;
-        Ok(conditional(self.alloc, place, left, chosen, other)?)
+        let place = match tokens.take_one() {
+            Ok(place) => place,
+            Err(stop) => {
+                drop(left);
+                return Err(stop);
+            }
+        };
+        let chosen = match self.expr(tokens, 0) {
+            Ok(chosen) => chosen,
+            Err(stop) => {
+                drop(left);
+                return Err(stop);
+            }
+        };
+        if let Err(stop) = tokens.expect(Punct::Colon) {
+            drop(left);
+            drop(chosen);
+            return Err(stop);
+        }
+        match self.expr(tokens, 1) {
+            Ok(other) => Ok(conditional(self.alloc, place, left, chosen, other)?),
+            Err(stop) => {
+                drop(left);
+                drop(chosen);
+                Err(stop)
+            }
+        }
     }
 
     /// The rest of an assignment, from its operator on.
@@ -344,9 +450,20 @@ impl<F: Fn(Global, &mut Cursor<'_>, usize, u8) -> Result<Expr, Stop>> Grammar<F>
         if least > 1 || !is_tight(&left) {
             return Ok(left);
         }
-        let place = tokens.take_one()?;
-        let value = self.expr(tokens, 1)?;
-        Ok(assign(self.alloc, place, op, left, value)?)
+        let place = match tokens.take_one() {
+            Ok(place) => place,
+            Err(stop) => {
+                drop(left);
+                return Err(stop);
+            }
+        };
+        match self.expr(tokens, 1) {
+            Ok(value) => Ok(assign(self.alloc, place, op, left, value)?),
+            Err(stop) => {
+                drop(left);
+                Err(stop)
+            }
+        }
     }
 
     /// A condition or an assignment, where such may stand.
@@ -390,8 +507,13 @@ impl<F: Fn(Global, &mut Cursor<'_>, usize, u8) -> Result<Expr, Stop>> Grammar<F>
         if least > 0 {
             return Ok(tree);
         }
-        let more = self.further(tokens)?;
-        Ok(sequence(self.alloc, tree, more)?)
+        match self.further(tokens) {
+            Ok(more) => Ok(sequence(self.alloc, tree, more)?),
+            Err(stop) => {
+                drop(tree);
+                Err(stop)
+            }
+        }
     }
 
     /// An expression, its first operand first.
@@ -401,6 +523,23 @@ impl<F: Fn(Global, &mut Cursor<'_>, usize, u8) -> Result<Expr, Stop>> Grammar<F>
     {
         let first = self.operand(tokens)?;
         self.completed(least, first, tokens)
+    }
+}
+
+/// A call whose arguments are the word `void`, from that word on.
+fn call_void(callee: Boxed<TypeSpec>, tokens: &mut Cursor<'_>) -> Result<Expr, Stop>
+    ensures { Reads (spec.call_void callee tokens.old.left) result tokens.old tokens.new }
+{
+    if let Err(stop) = tokens.take_one() {
+        drop(callee);
+        return Err(stop);
+    }
+    match tokens.take_one() {
+        Ok(_) => Ok(Expr::CallVoid(callee)),
+        Err(stop) => {
+            drop(callee);
+            Err(stop)
+        }
     }
 }
 

@@ -39,14 +39,26 @@ impl<'a> Cursor<'a> {
         ensures { IfOk result (λ c. c ≡ hand.all_ahead supply.entry) }
     {
         let mut supply = supply;
-        let first = draw(&mut supply)?;
-        let second = draw(&mut supply)?;
-        Ok(Cursor {
-            supply,
-            first,
-            second,
-            last: Place { unit: 0, line: 1 },
-        })
+        let first = match draw(&mut supply) {
+            Ok(first) => first,
+            Err(memory) => {
+                drop(supply);
+                return Err(memory);
+            }
+        };
+        match draw(&mut supply) {
+            Ok(second) => Ok(Cursor {
+                supply,
+                first,
+                second,
+                last: Place { unit: 0, line: 1 },
+            }),
+            Err(memory) => {
+                drop(supply);
+                drop(first);
+                Err(memory)
+            }
+        }
     }
 
     /// The next token, or none at the end.

@@ -1,4 +1,5 @@
 pub mod Fed
+pub mod Held
 pub mod Judged
 pub mod Lists
 pub mod Openings

@@ -6,6 +6,7 @@
 //! what `parse` answers.
 #![tactic(auto)]
 
+mod held;
 mod judging;
 mod laws;
 mod list;
