@@ -9,6 +9,7 @@ ghost use Rattle.gsl_expr.specs.declared.rule.Follow.TheVariants as follow;
 ghost use Rattle.gsl_expr.specs.declared.rule.Start.TheVariants as start;
 ghost use Rattle.gsl_expr.specs.declared.rule.Tail.TheVariants as tail;
 
+use crate::held::with;
 use crate::nodes::{
     assign, binary, conditional, give_up, head_type, index, index_all, is_tight, keyword, level_in,
     may_be_index, may_be_open, member_of, method_of, named, paren, postfix, sequence, sized, unary,
@@ -58,13 +59,8 @@ impl<F: Fn(Global, &mut Cursor<'_>, usize, u8) -> Result<Expr, Stop>> Grammar<F>
             return Ok((Dim::Open(place), Mode::Type));
         }
         let size = self.expr(tokens, level_in(mode))?;
-        match tokens.expect(Punct::RightBracket) {
-            Ok(_) => Ok(sized(self.alloc, mode, place, size)?),
-            Err(stop) => {
-                drop(size);
-                Err(stop)
-            }
-        }
+        let (_, size) = with(tokens.expect(Punct::RightBracket), size)?;
+        Ok(sized(self.alloc, mode, place, size)?)
     }
 
     /// The brackets of a type, or of a declared name.
@@ -121,13 +117,8 @@ impl<F: Fn(Global, &mut Cursor<'_>, usize, u8) -> Result<Expr, Stop>> Grammar<F>
     {
         let place = tokens.take_one()?;
         let inner = self.expr(tokens, 0)?;
-        match tokens.expect(Punct::RightParen) {
-            Ok(_) => Ok(paren(self.alloc, place, inner)?),
-            Err(stop) => {
-                drop(inner);
-                Err(stop)
-            }
-        }
+        let (_, inner) = with(tokens.expect(Punct::RightParen), inner)?;
+        Ok(paren(self.alloc, place, inner)?)
     }
 
     fn unary(&self, op: UnaryOp, tokens: &mut Cursor<'_>) -> Result<Expr, Stop>
@@ -201,24 +192,14 @@ impl<F: Fn(Global, &mut Cursor<'_>, usize, u8) -> Result<Expr, Stop>> Grammar<F>
     {
         let callee = Boxed::new(self.alloc, callee)?;
         if tokens.sees(Punct::RightParen) {
-            return match tokens.take_one() {
-                Ok(_) => Ok(Expr::Call(callee, List::new(self.alloc))),
-                Err(stop) => {
-                    drop(callee);
-                    Err(stop)
-                }
-            };
+            let (_, callee) = with(tokens.take_one(), callee)?;
+            return Ok(Expr::Call(callee, List::new(self.alloc)));
         }
         if void_alone(tokens) {
             return call_void(callee, tokens);
         }
-        match self.items(tokens) {
-            Ok(found) => Ok(Expr::Call(callee, found)),
-            Err(stop) => {
-                drop(callee);
-                Err(stop)
-            }
-        }
+        let (found, callee) = with(self.items(tokens), callee)?;
+        Ok(Expr::Call(callee, found))
     }
 
     /// The operand that begins with a name or a type: a call, or an index of a name.
@@ -228,13 +209,8 @@ impl<F: Fn(Global, &mut Cursor<'_>, usize, u8) -> Result<Expr, Stop>> Grammar<F>
         ensures { Reads (spec.applied (spec.expr self.now.depth) head tokens.old.left) result tokens.old tokens.new }
     {
         if tokens.sees(Punct::LeftParen) && may_be_open(head.mode) {
-            return match tokens.take_one() {
-                Ok(_) => self.arguments(head_type(head), tokens),
-                Err(stop) => {
-                    give_up(head);
-                    Err(stop)
-                }
-            };
+            let (_, callee) = with(tokens.take_one(), head_type(head))?;
+            return self.arguments(callee, tokens);
         }
         if !may_be_index(head.mode) {
             give_up(head);
@@ -270,100 +246,45 @@ impl<F: Fn(Global, &mut Cursor<'_>, usize, u8) -> Result<Expr, Stop>> Grammar<F>
         if !tokens.sees(Punct::LeftParen) {
             return Ok(member_of(self.alloc, place, left, text)?);
         }
-        if let Err(stop) = tokens.take_one() {
-            drop(left);
-            drop(text);
-            return Err(stop);
-        }
-        match tokens.expect(Punct::RightParen) {
-            Ok(_) => Ok(method_of(self.alloc, place, left, text)?),
-            Err(stop) => {
-                drop(left);
-                drop(text);
-                Err(stop)
-            }
-        }
+        let (_, (left, text)) = with(tokens.take_one(), (left, text))?;
+        let (_, (left, text)) = with(tokens.expect(Punct::RightParen), (left, text))?;
+        Ok(method_of(self.alloc, place, left, text)?)
     }
 
     fn indexed(&self, left: Expr, tokens: &mut Cursor<'_>) -> Result<Expr, Stop>
         requires { Nests self.now.depth (F.pre self.now.expr) (F.post self.now.expr) }
         ensures { Reads (spec.operate_as (spec.expr self.now.depth) left follow.Index tokens.old.left) result tokens.old tokens.new }
     {
-        let place = match tokens.take_one() {
-            Ok(place) => place,
-            Err(stop) => {
-                drop(left);
-                return Err(stop);
-            }
-        };
-        let at = match self.expr(tokens, 0) {
-            Ok(at) => at,
-            Err(stop) => {
-                drop(left);
-                return Err(stop);
-            }
-        };
-        match tokens.expect(Punct::RightBracket) {
-            Ok(_) => Ok(index(self.alloc, place, left, at)?),
-            Err(stop) => {
-                drop(left);
-                drop(at);
-                Err(stop)
-            }
-        }
+        let (place, left) = with(tokens.take_one(), left)?;
+        let (at, left) = with(self.expr(tokens, 0), left)?;
+        let (_, (left, at)) = with(tokens.expect(Punct::RightBracket), (left, at))?;
+        Ok(index(self.alloc, place, left, at)?)
     }
 
     fn member(&self, left: Expr, tokens: &mut Cursor<'_>) -> Result<Expr, Stop>
         requires { Nests self.now.depth (F.pre self.now.expr) (F.post self.now.expr) }
         ensures { Reads (spec.operate_as (spec.expr self.now.depth) left follow.Member tokens.old.left) result tokens.old tokens.new }
     {
-        let place = match tokens.take_one() {
-            Ok(place) => place,
-            Err(stop) => {
-                drop(left);
-                return Err(stop);
-            }
-        };
-        match tokens.name() {
-            Ok(name) => self.selected(place, name, left, tokens),
-            Err(stop) => {
-                drop(left);
-                Err(stop)
-            }
-        }
+        let (place, left) = with(tokens.take_one(), left)?;
+        let (name, left) = with(tokens.name(), left)?;
+        self.selected(place, name, left, tokens)
     }
 
     fn stepped(&self, op: PostfixOp, left: Expr, tokens: &mut Cursor<'_>) -> Result<Expr, Stop>
         requires { Nests self.now.depth (F.pre self.now.expr) (F.post self.now.expr) }
         ensures { Reads (spec.operate_as (spec.expr self.now.depth) left (follow.Postfix op) tokens.old.left) result tokens.old tokens.new }
     {
-        match tokens.take_one() {
-            Ok(place) => Ok(postfix(self.alloc, place, op, left)?),
-            Err(stop) => {
-                drop(left);
-                Err(stop)
-            }
-        }
+        let (place, left) = with(tokens.take_one(), left)?;
+        Ok(postfix(self.alloc, place, op, left)?)
     }
 
     fn joined(&self, op: BinaryOp, left: Expr, tokens: &mut Cursor<'_>) -> Result<Expr, Stop>
         requires { Nests self.now.depth (F.pre self.now.expr) (F.post self.now.expr) }
         ensures { Reads (spec.operate_as (spec.expr self.now.depth) left (follow.Binary op) tokens.old.left) result tokens.old tokens.new }
     {
-        let place = match tokens.take_one() {
-            Ok(place) => place,
-            Err(stop) => {
-                drop(left);
-                return Err(stop);
-            }
-        };
-        match self.expr(tokens, level(op) + 1) {
-            Ok(right) => Ok(binary(self.alloc, place, op, left, right)?),
-            Err(stop) => {
-                drop(left);
-                Err(stop)
-            }
-        }
+        let (place, left) = with(tokens.take_one(), left)?;
+        let (right, left) = with(self.expr(tokens, level(op) + 1), left)?;
+        Ok(binary(self.alloc, place, op, left, right)?)
     }
 
     #[tactic(auto, unfolding(crate::specs::Expressions::operate))]
@@ -407,33 +328,11 @@ impl<F: Fn(Global, &mut Cursor<'_>, usize, u8) -> Result<Expr, Stop>> Grammar<F>
         if least > 2 {
             return Ok(left);
         }
-        let place = match tokens.take_one() {
-            Ok(place) => place,
-            Err(stop) => {
-                drop(left);
-                return Err(stop);
-            }
-        };
-        let chosen = match self.expr(tokens, 0) {
-            Ok(chosen) => chosen,
-            Err(stop) => {
-                drop(left);
-                return Err(stop);
-            }
-        };
-        if let Err(stop) = tokens.expect(Punct::Colon) {
-            drop(left);
-            drop(chosen);
-            return Err(stop);
-        }
-        match self.expr(tokens, 1) {
-            Ok(other) => Ok(conditional(self.alloc, place, left, chosen, other)?),
-            Err(stop) => {
-                drop(left);
-                drop(chosen);
-                Err(stop)
-            }
-        }
+        let (place, left) = with(tokens.take_one(), left)?;
+        let (chosen, left) = with(self.expr(tokens, 0), left)?;
+        let (_, (left, chosen)) = with(tokens.expect(Punct::Colon), (left, chosen))?;
+        let (other, (left, chosen)) = with(self.expr(tokens, 1), (left, chosen))?;
+        Ok(conditional(self.alloc, place, left, chosen, other)?)
     }
 
     /// The rest of an assignment, from its operator on.
@@ -450,20 +349,9 @@ impl<F: Fn(Global, &mut Cursor<'_>, usize, u8) -> Result<Expr, Stop>> Grammar<F>
         if least > 1 || !is_tight(&left) {
             return Ok(left);
         }
-        let place = match tokens.take_one() {
-            Ok(place) => place,
-            Err(stop) => {
-                drop(left);
-                return Err(stop);
-            }
-        };
-        match self.expr(tokens, 1) {
-            Ok(value) => Ok(assign(self.alloc, place, op, left, value)?),
-            Err(stop) => {
-                drop(left);
-                Err(stop)
-            }
-        }
+        let (place, left) = with(tokens.take_one(), left)?;
+        let (value, left) = with(self.expr(tokens, 1), left)?;
+        Ok(assign(self.alloc, place, op, left, value)?)
     }
 
     /// A condition or an assignment, where such may stand.
@@ -507,13 +395,8 @@ impl<F: Fn(Global, &mut Cursor<'_>, usize, u8) -> Result<Expr, Stop>> Grammar<F>
         if least > 0 {
             return Ok(tree);
         }
-        match self.further(tokens) {
-            Ok(more) => Ok(sequence(self.alloc, tree, more)?),
-            Err(stop) => {
-                drop(tree);
-                Err(stop)
-            }
-        }
+        let (more, tree) = with(self.further(tokens), tree)?;
+        Ok(sequence(self.alloc, tree, more)?)
     }
 
     /// An expression, its first operand first.
@@ -530,17 +413,9 @@ impl<F: Fn(Global, &mut Cursor<'_>, usize, u8) -> Result<Expr, Stop>> Grammar<F>
 fn call_void(callee: Boxed<TypeSpec>, tokens: &mut Cursor<'_>) -> Result<Expr, Stop>
     ensures { Reads (spec.call_void callee tokens.old.left) result tokens.old tokens.new }
 {
-    if let Err(stop) = tokens.take_one() {
-        drop(callee);
-        return Err(stop);
-    }
-    match tokens.take_one() {
-        Ok(_) => Ok(Expr::CallVoid(callee)),
-        Err(stop) => {
-            drop(callee);
-            Err(stop)
-        }
-    }
+    let (_, callee) = with(tokens.take_one(), callee)?;
+    let (_, callee) = with(tokens.take_one(), callee)?;
+    Ok(Expr::CallVoid(callee))
 }
 
 /// An expression of a level that nests no deeper than `depth`.

@@ -3,6 +3,7 @@
 ghost use Rattle.std.specs.Prelude.{◌≡◌, IfOk};
 ghost use Rattle.gsl_expr.specs.Expressions as spec;
 
+use crate::held::with;
 use crate::reading::Cursor;
 use crate::rule::{Base, Head, Mode};
 use gsl_base::{Boxed, Key, List, Memory, Place, Punct, Text};
@@ -90,25 +91,9 @@ pub(crate) fn give_up(head: Head) {
 fn boxed_both(alloc: Global, a: Expr, b: Expr) -> Result<(Boxed<Expr>, Boxed<Expr>), Memory>
     ensures { IfOk result (λ both. both ≡ (a, b)) }
 {
-    match Boxed::new(alloc, a) {
-        Ok(a) => beside(alloc, a, b),
-        Err(memory) => {
-            drop(b);
-            Err(memory)
-        }
-    }
-}
-
-fn beside(alloc: Global, a: Boxed<Expr>, b: Expr) -> Result<(Boxed<Expr>, Boxed<Expr>), Memory>
-    ensures { IfOk result (λ both. both ≡ (a, b)) }
-{
-    match Boxed::new(alloc, b) {
-        Ok(b) => Ok((a, b)),
-        Err(memory) => {
-            drop(a);
-            Err(memory)
-        }
-    }
+    let (a, b) = with(Boxed::new(alloc, a), b)?;
+    let (b, a) = with(Boxed::new(alloc, b), a)?;
+    Ok((a, b))
 }
 
 /// A size in brackets, and what the brackets behind it may be.
@@ -127,25 +112,15 @@ pub(crate) fn sized(
 pub(crate) fn member_of(alloc: Global, place: Place, left: Expr, name: Text) -> Result<Expr, Memory>
     ensures { IfOk result (λ t. t ≡ Expr.Member place left name) }
 {
-    match Boxed::new(alloc, left) {
-        Ok(left) => Ok(Expr::Member(place, left, name)),
-        Err(memory) => {
-            drop(name);
-            Err(memory)
-        }
-    }
+    let (left, name) = with(Boxed::new(alloc, left), name)?;
+    Ok(Expr::Member(place, left, name))
 }
 
 pub(crate) fn method_of(alloc: Global, place: Place, left: Expr, name: Text) -> Result<Expr, Memory>
     ensures { IfOk result (λ t. t ≡ Expr.Method place left name) }
 {
-    match Boxed::new(alloc, left) {
-        Ok(left) => Ok(Expr::Method(place, left, name)),
-        Err(memory) => {
-            drop(name);
-            Err(memory)
-        }
-    }
+    let (left, name) = with(Boxed::new(alloc, left), name)?;
+    Ok(Expr::Method(place, left, name))
 }
 
 pub(crate) fn index(alloc: Global, place: Place, a: Expr, b: Expr) -> Result<Expr, Memory>
@@ -208,33 +183,9 @@ pub(crate) fn conditional(
 ) -> Result<Expr, Memory>
     ensures { IfOk result (λ t. t ≡ Expr.Conditional place a b c) }
 {
-    match boxed_both(alloc, b, c) {
-        Ok((b, c)) => choice(alloc, place, a, b, c),
-        Err(memory) => {
-            drop(a);
-            Err(memory)
-        }
-    }
-}
-
-/// A condition before its two other parts.
-fn choice(
-    alloc: Global,
-    place: Place,
-    a: Expr,
-    b: Boxed<Expr>,
-    c: Boxed<Expr>,
-) -> Result<Expr, Memory>
-    ensures { IfOk result (λ t. t ≡ Expr.Conditional place a b c) }
-{
-    match Boxed::new(alloc, a) {
-        Ok(a) => Ok(Expr::Conditional(place, a, b, c)),
-        Err(memory) => {
-            drop(b);
-            drop(c);
-            Err(memory)
-        }
-    }
+    let (both, a) = with(boxed_both(alloc, b, c), a)?;
+    let (a, (b, c)) = with(Boxed::new(alloc, a), both)?;
+    Ok(Expr::Conditional(place, a, b, c))
 }
 
 /// An expression with its indexes.
@@ -264,13 +215,8 @@ pub(crate) fn sequence(
         drop(further);
         return Ok(first);
     }
-    match Boxed::new(alloc, first) {
-        Ok(first) => Ok(Expr::Sequence(first, further)),
-        Err(memory) => {
-            drop(further);
-            Err(memory)
-        }
-    }
+    let (first, further) = with(Boxed::new(alloc, first), further)?;
+    Ok(Expr::Sequence(first, further))
 }
 
 /// Whether the word `void` and a closing parenthesis stand next.

@@ -6,6 +6,7 @@ ghost use Rattle.gsl_expr.specs.Names as names;
 ghost use Rattle.gsl_expr.specs.Reading as spec;
 ghost use Rattle.gsl_expr.specs.Reading.{Reads, Tokens};
 
+use crate::held::with;
 use crate::stop::Stop;
 use gsl_base::{Fault, Key, Kind, Memory, Place, Punct, Token};
 use gsl_supply::Supply;
@@ -39,26 +40,14 @@ impl<'a> Cursor<'a> {
         ensures { IfOk result (λ c. c ≡ hand.all_ahead supply.entry) }
     {
         let mut supply = supply;
-        let first = match draw(&mut supply) {
-            Ok(first) => first,
-            Err(memory) => {
-                drop(supply);
-                return Err(memory);
-            }
-        };
-        match draw(&mut supply) {
-            Ok(second) => Ok(Cursor {
-                supply,
-                first,
-                second,
-                last: Place { unit: 0, line: 1 },
-            }),
-            Err(memory) => {
-                drop(supply);
-                drop(first);
-                Err(memory)
-            }
-        }
+        let first = draw(&mut supply)?;
+        let (second, first) = with(draw(&mut supply), first)?;
+        Ok(Cursor {
+            supply,
+            first,
+            second,
+            last: Place { unit: 0, line: 1 },
+        })
     }
 
     /// The next token, or none at the end.

@@ -1,5 +1,4 @@
 pub mod Fed
-pub mod Held
 pub mod Judged
 pub mod Lists
 pub mod Openings

@@ -6,7 +6,6 @@
 //! what `parse` answers.
 #![tactic(auto)]
 
-mod held;
 mod judging;
 mod laws;
 mod list;

@@ -5,10 +5,9 @@ ghost use Rattle.gsl_expr.specs.Reading.{Reads};
 ghost use Rattle.gsl_syntax.specs.Declarations as grammar;
 ghost use Rattle.gsl_parse.specs.Qualifiers as spec;
 
-use crate::held::with;
 use crate::list::{Item, Repeated, commas_of, row_of};
 use gsl_base::{Key, Kind, Place, Punct};
-use gsl_expr::{Cursor, Start, Stop, basic_head, dims, expr, head_type, next_start};
+use gsl_expr::{Cursor, Start, Stop, basic_head, dims, expr, head_type, next_start, with};
 use gsl_syntax::{Lay, Name, Qual, Quals, TypeSpec};
 use std::alloc::Global;
 

@@ -7,12 +7,11 @@ ghost use Rattle.gsl_parse.specs.Statements as spec;
 ghost use Rattle.gsl_parse.specs.Within.{Within};
 ghost use Rattle.gsl_parse.specs.declared.opening.Opening.TheVariants as opening;
 
-use crate::held::with;
 use crate::opening::{Opening, next_opening};
 use crate::qualifier::qualifiers;
 use crate::variable::{header, local_from, phrase};
 use gsl_base::{Boxed, Key, List, Place, Punct};
-use gsl_expr::{Cursor, Stop, expr};
+use gsl_expr::{Cursor, Stop, expr, with};
 use gsl_syntax::{Expr, ForInit, Stmt, Stmts};
 use std::alloc::Global;
 

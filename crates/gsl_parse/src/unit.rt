@@ -4,13 +4,12 @@ ghost use Rattle.std.specs.Prelude.{◌≡◌};
 ghost use Rattle.gsl_expr.specs.Reading.{Reads};
 ghost use Rattle.gsl_parse.specs.Units as spec;
 
-use crate::held::with;
 use crate::list::{Item, Repeated, commas_of, further_of, row_of, some_of};
 use crate::qualifier::{qualifiers, typed};
 use crate::statement::statements;
 use crate::variable::{declarator_from, struct_variables};
 use gsl_base::{Key, List, Punct};
-use gsl_expr::{Cursor, Stop, dims, void_alone};
+use gsl_expr::{Cursor, Stop, dims, void_alone, with};
 use gsl_syntax::{
     Body, Decl, Declarator, Function, Global as Top, Member, Name, Param, Params, Qual, Quals,
     TypeSpec, Unit,

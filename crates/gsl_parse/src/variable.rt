@@ -5,13 +5,12 @@ ghost use Rattle.gsl_expr.specs.Reading.{Reads};
 ghost use Rattle.gsl_expr.specs.declared.rule.Start.TheVariants as start;
 ghost use Rattle.gsl_parse.specs.Variables as spec;
 
-use crate::held::with;
 use crate::list::{Item, Repeated, commas_of, some_of};
 use crate::qualifier::{begins_qual, qualifiers, typed};
 use gsl_base::{Key, List, Punct};
 use gsl_expr::{
     Cursor, Head, Start, Stop, applied, basic_head, completed, dims, expr, head_type, may_be_open,
-    named_head, next_start,
+    named_head, next_start, with,
 };
 use gsl_syntax::{
     Basic, Decl, Declarator, Declared, Dims, ForInit, Init, Member, Name, Quals, Struct,
