@@ -106,6 +106,10 @@ closes_after (t ∷ ts) = sees punct.RightParen ts
 unfoldable pub void_alone : Tokens → Bool
 void_alone ts = sees_key key.Void ts && closes_after ts
 
+-- a call whose arguments are the word `void`, from that word on
+abbrev pub call_void : TypeSpec → Parser Expr
+call_void t = take_one >>= λ _. take_one >>= λ _. pure (e.CallVoid t)
+
 -- behind `.` and a name
 unfoldable pub selected : Place → Name → Expr → Parser Expr
 selected p n a ts =
@@ -148,7 +152,7 @@ module _ (expr : ℕ → Parser Expr) where
   unfoldable pub arguments : TypeSpec → Parser Expr
   arguments t ts =
       if sees punct.RightParen ts then (take_one >>= λ _. pure (e.Call t [])) ts
-      else if void_alone ts then (take_one >>= λ _. take_one >>= λ _. pure (e.CallVoid t)) ts
+      else if void_alone ts then call_void t ts
       else and_then (items (length ts) [] ts) (λ bs. pure (e.Call t bs))
 
   abbrev pub indexed_by : Place → Base → List Dim → Parser Expr

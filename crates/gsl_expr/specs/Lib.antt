@@ -1,4 +1,5 @@
 pub mod Expressions
+pub mod Held
 pub mod InHand
 pub mod Names
 pub mod Nests

@@ -9,9 +9,11 @@ ghost use Rattle.gsl_expr.specs.declared.rule.Follow.TheVariants as follow;
 ghost use Rattle.gsl_expr.specs.declared.rule.Start.TheVariants as start;
 ghost use Rattle.gsl_expr.specs.declared.rule.Tail.TheVariants as tail;
 
+use crate::held::with;
 use crate::nodes::{
-    assign, binary, conditional, head_type, index, index_all, is_tight, keyword, level_in,
-    may_be_index, may_be_open, mode_after, named, paren, postfix, sequence, unary, void_alone,
+    assign, binary, conditional, give_up, head_type, index, index_all, is_tight, keyword, level_in,
+    may_be_index, may_be_open, member_of, method_of, named, paren, postfix, sequence, sized, unary,
+    void_alone,
 };
 use crate::reading::Cursor;
 use crate::rule::{
@@ -57,9 +59,8 @@ impl<F: Fn(Global, &mut Cursor<'_>, usize, u8) -> Result<Expr, Stop>> Grammar<F>
             return Ok((Dim::Open(place), Mode::Type));
         }
         let size = self.expr(tokens, level_in(mode))?;
-        tokens.expect(Punct::RightBracket)?;
-        let after = mode_after(mode, &size);
-        Ok((Dim::Sized(place, Boxed::new(self.alloc, size)?), after))
+        let (_, size) = with(tokens.expect(Punct::RightBracket), size)?;
+        Ok(sized(self.alloc, mode, place, size)?)
     }
 
     /// The brackets of a type, or of a declared name.
@@ -116,7 +117,7 @@ impl<F: Fn(Global, &mut Cursor<'_>, usize, u8) -> Result<Expr, Stop>> Grammar<F>
     {
         let place = tokens.take_one()?;
         let inner = self.expr(tokens, 0)?;
-        tokens.expect(Punct::RightParen)?;
+        let (_, inner) = with(tokens.expect(Punct::RightParen), inner)?;
         Ok(paren(self.alloc, place, inner)?)
     }
 
@@ -191,15 +192,13 @@ impl<F: Fn(Global, &mut Cursor<'_>, usize, u8) -> Result<Expr, Stop>> Grammar<F>
     {
         let callee = Boxed::new(self.alloc, callee)?;
         if tokens.sees(Punct::RightParen) {
-            tokens.take_one()?;
+            let (_, callee) = with(tokens.take_one(), callee)?;
             return Ok(Expr::Call(callee, List::new(self.alloc)));
         }
         if void_alone(tokens) {
-            tokens.take_one()?;
-            tokens.take_one()?;
-            return Ok(Expr::CallVoid(callee));
+            return call_void(callee, tokens);
         }
-        let found = self.items(tokens)?;
+        let (found, callee) = with(self.items(tokens), callee)?;
         Ok(Expr::Call(callee, found))
     }
 
@@ -210,10 +209,11 @@ impl<F: Fn(Global, &mut Cursor<'_>, usize, u8) -> Result<Expr, Stop>> Grammar<F>
         ensures { Reads (spec.applied (spec.expr self.now.depth) head tokens.old.left) result tokens.old tokens.new }
     {
         if tokens.sees(Punct::LeftParen) && may_be_open(head.mode) {
-            tokens.take_one()?;
-            return self.arguments(head_type(head), tokens);
+            let (_, callee) = with(tokens.take_one(), head_type(head))?;
+            return self.arguments(callee, tokens);
         }
         if !may_be_index(head.mode) {
+            give_up(head);
             return Err(Stop::Bad);
         }
         let Head {
@@ -224,7 +224,10 @@ impl<F: Fn(Global, &mut Cursor<'_>, usize, u8) -> Result<Expr, Stop>> Grammar<F>
         } = head;
         match base {
             Base::Named(text) => Ok(index_all(self.alloc, Expr::Name(place, text), dims)?),
-            Base::Basic(_) => Err(Stop::Bad),
+            Base::Basic(_) => {
+                drop(dims);
+                Err(Stop::Bad)
+            }
         }
     }
 
@@ -239,23 +242,22 @@ impl<F: Fn(Global, &mut Cursor<'_>, usize, u8) -> Result<Expr, Stop>> Grammar<F>
     ) -> Result<Expr, Stop>
         ensures { Reads (spec.selected place member left tokens.old.left) result tokens.old tokens.new }
     {
-        let left = Boxed::new(self.alloc, left)?;
         let Name { text, .. } = member;
-        if tokens.sees(Punct::LeftParen) {
-            tokens.take_one()?;
-            tokens.expect(Punct::RightParen)?;
-            return Ok(Expr::Method(place, left, text));
+        if !tokens.sees(Punct::LeftParen) {
+            return Ok(member_of(self.alloc, place, left, text)?);
         }
-        Ok(Expr::Member(place, left, text))
+        let (_, (left, text)) = with(tokens.take_one(), (left, text))?;
+        let (_, (left, text)) = with(tokens.expect(Punct::RightParen), (left, text))?;
+        Ok(method_of(self.alloc, place, left, text)?)
     }
 
     fn indexed(&self, left: Expr, tokens: &mut Cursor<'_>) -> Result<Expr, Stop>
         requires { Nests self.now.depth (F.pre self.now.expr) (F.post self.now.expr) }
         ensures { Reads (spec.operate_as (spec.expr self.now.depth) left follow.Index tokens.old.left) result tokens.old tokens.new }
     {
-        let place = tokens.take_one()?;
-        let at = self.expr(tokens, 0)?;
-        tokens.expect(Punct::RightBracket)?;
+        let (place, left) = with(tokens.take_one(), left)?;
+        let (at, left) = with(self.expr(tokens, 0), left)?;
+        let (_, (left, at)) = with(tokens.expect(Punct::RightBracket), (left, at))?;
         Ok(index(self.alloc, place, left, at)?)
     }
 
@@ -263,8 +265,8 @@ impl<F: Fn(Global, &mut Cursor<'_>, usize, u8) -> Result<Expr, Stop>> Grammar<F>
         requires { Nests self.now.depth (F.pre self.now.expr) (F.post self.now.expr) }
         ensures { Reads (spec.operate_as (spec.expr self.now.depth) left follow.Member tokens.old.left) result tokens.old tokens.new }
     {
-        let place = tokens.take_one()?;
-        let name = tokens.name()?;
+        let (place, left) = with(tokens.take_one(), left)?;
+        let (name, left) = with(tokens.name(), left)?;
         self.selected(place, name, left, tokens)
     }
 
@@ -272,7 +274,7 @@ impl<F: Fn(Global, &mut Cursor<'_>, usize, u8) -> Result<Expr, Stop>> Grammar<F>
         requires { Nests self.now.depth (F.pre self.now.expr) (F.post self.now.expr) }
         ensures { Reads (spec.operate_as (spec.expr self.now.depth) left (follow.Postfix op) tokens.old.left) result tokens.old tokens.new }
     {
-        let place = tokens.take_one()?;
+        let (place, left) = with(tokens.take_one(), left)?;
         Ok(postfix(self.alloc, place, op, left)?)
     }
 
@@ -280,8 +282,8 @@ impl<F: Fn(Global, &mut Cursor<'_>, usize, u8) -> Result<Expr, Stop>> Grammar<F>
         requires { Nests self.now.depth (F.pre self.now.expr) (F.post self.now.expr) }
         ensures { Reads (spec.operate_as (spec.expr self.now.depth) left (follow.Binary op) tokens.old.left) result tokens.old tokens.new }
     {
-        let place = tokens.take_one()?;
-        let right = self.expr(tokens, level(op) + 1)?;
+        let (place, left) = with(tokens.take_one(), left)?;
+        let (right, left) = with(self.expr(tokens, level(op) + 1), left)?;
         Ok(binary(self.alloc, place, op, left, right)?)
     }
 
@@ -295,7 +297,10 @@ impl<F: Fn(Global, &mut Cursor<'_>, usize, u8) -> Result<Expr, Stop>> Grammar<F>
             Follow::Member => self.member(left, tokens),
             Follow::Postfix(op) => self.stepped(op, left, tokens),
             Follow::Binary(op) => self.joined(op, left, tokens),
-            Follow::End => Err(Stop::Bad),
+            Follow::End => {
+                drop(left);
+                Err(Stop::Bad)
+            }
         }
     }
 
@@ -323,10 +328,10 @@ impl<F: Fn(Global, &mut Cursor<'_>, usize, u8) -> Result<Expr, Stop>> Grammar<F>
         if least > 2 {
             return Ok(left);
         }
-        let place = tokens.take_one()?;
-        let chosen = self.expr(tokens, 0)?;
-        tokens.expect(Punct::Colon)?;
-        let other = self.expr(tokens, 1)?;
+        let (place, left) = with(tokens.take_one(), left)?;
+        let (chosen, left) = with(self.expr(tokens, 0), left)?;
+        let (_, (left, chosen)) = with(tokens.expect(Punct::Colon), (left, chosen))?;
+        let (other, (left, chosen)) = with(self.expr(tokens, 1), (left, chosen))?;
         Ok(conditional(self.alloc, place, left, chosen, other)?)
     }
 
@@ -344,8 +349,8 @@ impl<F: Fn(Global, &mut Cursor<'_>, usize, u8) -> Result<Expr, Stop>> Grammar<F>
         if least > 1 || !is_tight(&left) {
             return Ok(left);
         }
-        let place = tokens.take_one()?;
-        let value = self.expr(tokens, 1)?;
+        let (place, left) = with(tokens.take_one(), left)?;
+        let (value, left) = with(self.expr(tokens, 1), left)?;
         Ok(assign(self.alloc, place, op, left, value)?)
     }
 
@@ -390,7 +395,7 @@ impl<F: Fn(Global, &mut Cursor<'_>, usize, u8) -> Result<Expr, Stop>> Grammar<F>
         if least > 0 {
             return Ok(tree);
         }
-        let more = self.further(tokens)?;
+        let (more, tree) = with(self.further(tokens), tree)?;
         Ok(sequence(self.alloc, tree, more)?)
     }
 
@@ -402,6 +407,15 @@ impl<F: Fn(Global, &mut Cursor<'_>, usize, u8) -> Result<Expr, Stop>> Grammar<F>
         let first = self.operand(tokens)?;
         self.completed(least, first, tokens)
     }
+}
+
+/// A call whose arguments are the word `void`, from that word on.
+fn call_void(callee: Boxed<TypeSpec>, tokens: &mut Cursor<'_>) -> Result<Expr, Stop>
+    ensures { Reads (spec.call_void callee tokens.old.left) result tokens.old tokens.new }
+{
+    let (_, callee) = with(tokens.take_one(), callee)?;
+    let (_, callee) = with(tokens.take_one(), callee)?;
+    Ok(Expr::CallVoid(callee))
 }
 
 /// An expression of a level that nests no deeper than `depth`.

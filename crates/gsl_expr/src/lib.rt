@@ -6,6 +6,7 @@
 #![tactic(auto)]
 
 mod grammar;
+mod held;
 mod laws;
 mod nodes;
 mod parts;
@@ -14,6 +15,7 @@ mod rule;
 mod stop;
 
 pub use grammar::expr;
+pub use held::with;
 pub use laws::read_is_derived;
 pub use nodes::{head_type, may_be_open, void_alone};
 pub use parts::{applied, basic_head, completed, dims, named_head};

@@ -3,9 +3,10 @@
 ghost use Rattle.std.specs.Prelude.{◌≡◌, IfOk};
 ghost use Rattle.gsl_expr.specs.Expressions as spec;
 
+use crate::held::with;
 use crate::reading::Cursor;
 use crate::rule::{Base, Head, Mode};
-use gsl_base::{Boxed, Key, List, Memory, Place, Punct};
+use gsl_base::{Boxed, Key, List, Memory, Place, Punct, Text};
 use gsl_syntax::{AssignOp, Basic, BinaryOp, Dim, Dims, Expr, Name, PostfixOp, TypeSpec, UnaryOp};
 use std::alloc::Global;
 
@@ -29,7 +30,7 @@ pub(crate) fn is_tight(tree: &Expr) -> bool
     }
 }
 
-pub(crate) fn mode_after(mode: Mode, size: &Expr) -> Mode
+fn mode_after(mode: Mode, size: &Expr) -> Mode
     ensures { result ≡ spec.mode_after mode size.now }
 {
     match mode {
@@ -79,10 +80,54 @@ pub fn head_type(head: Head) -> TypeSpec
     }
 }
 
+/// Gives up a head, part by part.
+pub(crate) fn give_up(head: Head) {
+    let Head { base, dims, .. } = head;
+    drop(base);
+    drop(dims);
+}
+
+/// Two trees in boxes.
+fn boxed_both(alloc: Global, a: Expr, b: Expr) -> Result<(Boxed<Expr>, Boxed<Expr>), Memory>
+    ensures { IfOk result (λ both. both ≡ (a, b)) }
+{
+    let (a, b) = with(Boxed::new(alloc, a), b)?;
+    let (b, a) = with(Boxed::new(alloc, b), a)?;
+    Ok((a, b))
+}
+
+/// A size in brackets, and what the brackets behind it may be.
+pub(crate) fn sized(
+    alloc: Global,
+    mode: Mode,
+    place: Place,
+    size: Expr,
+) -> Result<(Dim, Mode), Memory>
+    ensures { IfOk result (λ r. r ≡ (Dim.Sized place size, spec.mode_after mode size)) }
+{
+    let after = mode_after(mode, &size);
+    Ok((Dim::Sized(place, Boxed::new(alloc, size)?), after))
+}
+
+pub(crate) fn member_of(alloc: Global, place: Place, left: Expr, name: Text) -> Result<Expr, Memory>
+    ensures { IfOk result (λ t. t ≡ Expr.Member place left name) }
+{
+    let (left, name) = with(Boxed::new(alloc, left), name)?;
+    Ok(Expr::Member(place, left, name))
+}
+
+pub(crate) fn method_of(alloc: Global, place: Place, left: Expr, name: Text) -> Result<Expr, Memory>
+    ensures { IfOk result (λ t. t ≡ Expr.Method place left name) }
+{
+    let (left, name) = with(Boxed::new(alloc, left), name)?;
+    Ok(Expr::Method(place, left, name))
+}
+
 pub(crate) fn index(alloc: Global, place: Place, a: Expr, b: Expr) -> Result<Expr, Memory>
     ensures { IfOk result (λ t. t ≡ Expr.Index place a b) }
 {
-    Ok(Expr::Index(place, Boxed::new(alloc, a)?, Boxed::new(alloc, b)?))
+    let (a, b) = boxed_both(alloc, a, b)?;
+    Ok(Expr::Index(place, a, b))
 }
 
 pub(crate) fn paren(alloc: Global, place: Place, a: Expr) -> Result<Expr, Memory>
@@ -112,7 +157,8 @@ pub(crate) fn binary(
 ) -> Result<Expr, Memory>
     ensures { IfOk result (λ t. t ≡ Expr.Binary place op a b) }
 {
-    Ok(Expr::Binary(place, op, Boxed::new(alloc, a)?, Boxed::new(alloc, b)?))
+    let (a, b) = boxed_both(alloc, a, b)?;
+    Ok(Expr::Binary(place, op, a, b))
 }
 
 pub(crate) fn assign(
@@ -124,7 +170,8 @@ pub(crate) fn assign(
 ) -> Result<Expr, Memory>
     ensures { IfOk result (λ t. t ≡ Expr.Assign place op a b) }
 {
-    Ok(Expr::Assign(place, op, Boxed::new(alloc, a)?, Boxed::new(alloc, b)?))
+    let (a, b) = boxed_both(alloc, a, b)?;
+    Ok(Expr::Assign(place, op, a, b))
 }
 
 pub(crate) fn conditional(
@@ -136,9 +183,8 @@ pub(crate) fn conditional(
 ) -> Result<Expr, Memory>
     ensures { IfOk result (λ t. t ≡ Expr.Conditional place a b c) }
 {
-    let a = Boxed::new(alloc, a)?;
-    let b = Boxed::new(alloc, b)?;
-    let c = Boxed::new(alloc, c)?;
+    let (both, a) = with(boxed_both(alloc, b, c), a)?;
+    let (a, (b, c)) = with(Boxed::new(alloc, a), both)?;
     Ok(Expr::Conditional(place, a, b, c))
 }
 
@@ -166,9 +212,11 @@ pub(crate) fn sequence(
     ensures { IfOk result (λ t. t ≡ spec.sequence_of first further) }
 {
     if further.is_empty() {
+        drop(further);
         return Ok(first);
     }
-    Ok(Expr::Sequence(Boxed::new(alloc, first)?, further))
+    let (first, further) = with(Boxed::new(alloc, first), further)?;
+    Ok(Expr::Sequence(first, further))
 }
 
 /// Whether the word `void` and a closing parenthesis stand next.

@@ -6,6 +6,7 @@ ghost use Rattle.gsl_expr.specs.Names as names;
 ghost use Rattle.gsl_expr.specs.Reading as spec;
 ghost use Rattle.gsl_expr.specs.Reading.{Reads, Tokens};
 
+use crate::held::with;
 use crate::stop::Stop;
 use gsl_base::{Fault, Key, Kind, Memory, Place, Punct, Token};
 use gsl_supply::Supply;
@@ -40,7 +41,7 @@ impl<'a> Cursor<'a> {
     {
         let mut supply = supply;
         let first = draw(&mut supply)?;
-        let second = draw(&mut supply)?;
+        let (second, first) = with(draw(&mut supply), first)?;
         Ok(Cursor {
             supply,
             first,

@@ -70,6 +70,7 @@ fn over(tree: Unit, tokens: Cursor<'_>) -> Result<Unit, Refusal>
     if is_over(&tokens) {
         return accept(tree, tokens);
     }
+    drop(tree);
     Err(refuse(tokens))
 }
 

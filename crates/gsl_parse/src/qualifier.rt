@@ -7,7 +7,7 @@ ghost use Rattle.gsl_parse.specs.Qualifiers as spec;
 
 use crate::list::{Item, Repeated, commas_of, row_of};
 use gsl_base::{Key, Kind, Place, Punct};
-use gsl_expr::{Cursor, Start, Stop, basic_head, dims, expr, head_type, next_start};
+use gsl_expr::{Cursor, Start, Stop, basic_head, dims, expr, head_type, next_start, with};
 use gsl_syntax::{Lay, Name, Qual, Quals, TypeSpec};
 use std::alloc::Global;
 
@@ -65,8 +65,8 @@ fn lay_from(alloc: Global, name: Name, tokens: &mut Cursor<'_>, depth: usize) ->
     if !tokens.sees(Punct::Equal) {
         return Ok(Lay::Flag(name));
     }
-    tokens.take_one()?;
-    let value = expr(alloc, tokens, depth, 2)?;
+    let (_, name) = with(tokens.take_one(), name)?;
+    let (value, name) = with(expr(alloc, tokens, depth, 2), name)?;
     Ok(Lay::Value(name, value))
 }
 
@@ -87,7 +87,7 @@ fn layout(alloc: Global, tokens: &mut Cursor<'_>, depth: usize) -> Result<Qual, 
     let place = tokens.take_one()?;
     tokens.expect(Punct::LeftParen)?;
     let items = commas_of::<Lay>(alloc, tokens, depth)?;
-    tokens.expect(Punct::RightParen)?;
+    let (_, items) = with(tokens.expect(Punct::RightParen), items)?;
     Ok(Qual::Layout(place, items))
 }
 
@@ -101,7 +101,7 @@ impl Item for Qual {
         }
         match next_plain(tokens) {
             Some(qual) => {
-                tokens.take_one()?;
+                let (_, qual) = with(tokens.take_one(), qual)?;
                 Ok(qual)
             }
             None => Err(Stop::Bad),
@@ -137,7 +137,8 @@ pub(crate) fn typed(alloc: Global, tokens: &mut Cursor<'_>, depth: usize) -> Res
     match next_start(tokens) {
         Start::Name => {
             let Name { place, text } = tokens.name()?;
-            Ok(TypeSpec::Named(place, text, dims(alloc, tokens, depth)?))
+            let (dims, text) = with(dims(alloc, tokens, depth), text)?;
+            Ok(TypeSpec::Named(place, text, dims))
         }
         Start::Basic(basic) => Ok(head_type(basic_head(alloc, basic, tokens, depth)?)),
         _ => Err(Stop::Bad),

@@ -11,7 +11,7 @@ use crate::opening::{Opening, next_opening};
 use crate::qualifier::qualifiers;
 use crate::variable::{header, local_from, phrase};
 use gsl_base::{Boxed, Key, List, Place, Punct};
-use gsl_expr::{Cursor, Stop, expr};
+use gsl_expr::{Cursor, Stop, expr, with};
 use gsl_syntax::{Expr, ForInit, Stmt, Stmts};
 use std::alloc::Global;
 
@@ -33,7 +33,7 @@ fn test(alloc: Global, tokens: &mut Cursor<'_>, depth: usize) -> Result<Expr, St
 {
     tokens.expect(Punct::LeftParen)?;
     let tree = expr(alloc, tokens, depth, 0)?;
-    tokens.expect(Punct::RightParen)?;
+    let (_, tree) = with(tokens.expect(Punct::RightParen), tree)?;
     Ok(tree)
 }
 
@@ -52,7 +52,7 @@ fn optional(
         return Ok(None);
     }
     let tree = expr(alloc, tokens, depth, 0)?;
-    tokens.expect(end)?;
+    let (_, tree) = with(tokens.expect(end), tree)?;
     Ok(Some(tree))
 }
 
@@ -71,7 +71,7 @@ fn returned(
         return Ok(Stmt::Return(place));
     }
     let tree = expr(alloc, tokens, depth, 0)?;
-    tokens.expect(Punct::Semicolon)?;
+    let (_, tree) = with(tokens.expect(Punct::Semicolon), tree)?;
     Ok(Stmt::ReturnValue(place, tree))
 }
 
@@ -157,8 +157,8 @@ impl<F: Fn(Global, &mut Cursor<'_>, usize) -> Result<Stmt, Stop>> Rules<F> {
         if !tokens.sees_key(Key::Else) {
             return Ok(Stmt::If(place, test, then));
         }
-        tokens.take_one()?;
-        let other = self.boxed(tokens)?;
+        let (_, (test, then)) = with(tokens.take_one(), (test, then))?;
+        let (other, (test, then)) = with(self.boxed(tokens), (test, then))?;
         Ok(Stmt::IfElse(place, test, then, other))
     }
 
@@ -168,7 +168,7 @@ impl<F: Fn(Global, &mut Cursor<'_>, usize) -> Result<Stmt, Stop>> Rules<F> {
     {
         let place = tokens.take_one()?;
         let test = test(self.alloc, tokens, self.depth)?;
-        let then = self.boxed(tokens)?;
+        let (then, test) = with(self.boxed(tokens), test)?;
         self.alternative(place, test, then, tokens)
     }
 
@@ -178,8 +178,8 @@ impl<F: Fn(Global, &mut Cursor<'_>, usize) -> Result<Stmt, Stop>> Rules<F> {
     {
         let place = tokens.take_one()?;
         let test = test(self.alloc, tokens, self.depth)?;
-        tokens.expect(Punct::LeftBrace)?;
-        let found = self.statements(tokens)?;
+        let (_, test) = with(tokens.expect(Punct::LeftBrace), test)?;
+        let (found, test) = with(self.statements(tokens), test)?;
         Ok(Stmt::Switch(place, test, found))
     }
 
@@ -188,7 +188,7 @@ impl<F: Fn(Global, &mut Cursor<'_>, usize) -> Result<Stmt, Stop>> Rules<F> {
     {
         let place = tokens.take_one()?;
         let label = expr(self.alloc, tokens, self.depth, 2)?;
-        tokens.expect(Punct::Colon)?;
+        let (_, label) = with(tokens.expect(Punct::Colon), label)?;
         Ok(Stmt::Case(place, label))
     }
 
@@ -206,7 +206,7 @@ impl<F: Fn(Global, &mut Cursor<'_>, usize) -> Result<Stmt, Stop>> Rules<F> {
     {
         let place = tokens.take_one()?;
         let test = test(self.alloc, tokens, self.depth)?;
-        let body = self.boxed(tokens)?;
+        let (body, test) = with(self.boxed(tokens), test)?;
         Ok(Stmt::While(place, test, body))
     }
 
@@ -216,9 +216,9 @@ impl<F: Fn(Global, &mut Cursor<'_>, usize) -> Result<Stmt, Stop>> Rules<F> {
     {
         let place = tokens.take_one()?;
         let body = self.boxed(tokens)?;
-        expect_key(tokens, Key::While)?;
-        let test = test(self.alloc, tokens, self.depth)?;
-        tokens.expect(Punct::Semicolon)?;
+        let (_, body) = with(expect_key(tokens, Key::While), body)?;
+        let (test, body) = with(test(self.alloc, tokens, self.depth), body)?;
+        let (_, (body, test)) = with(tokens.expect(Punct::Semicolon), (body, test))?;
         Ok(Stmt::Do(place, body, test))
     }
 
@@ -236,7 +236,10 @@ impl<F: Fn(Global, &mut Cursor<'_>, usize) -> Result<Stmt, Stop>> Rules<F> {
         requires { Within self.now.depth (F.pre self.now.statement) (F.post self.now.statement) }
         ensures { Reads (spec.for_test self.now.depth (spec.statement self.now.depth) place init tokens.old.left) result tokens.old tokens.new }
     {
-        let test = optional(self.alloc, tokens, self.depth, Punct::Semicolon)?;
+        let (test, init) = with(
+            optional(self.alloc, tokens, self.depth, Punct::Semicolon),
+            init,
+        )?;
         self.for_step(place, init, test, tokens)
     }
 
@@ -250,7 +253,10 @@ impl<F: Fn(Global, &mut Cursor<'_>, usize) -> Result<Stmt, Stop>> Rules<F> {
         requires { Within self.now.depth (F.pre self.now.statement) (F.post self.now.statement) }
         ensures { Reads (spec.for_step self.now.depth (spec.statement self.now.depth) place init test tokens.old.left) result tokens.old tokens.new }
     {
-        let step = optional(self.alloc, tokens, self.depth, Punct::RightParen)?;
+        let (step, (init, test)) = with(
+            optional(self.alloc, tokens, self.depth, Punct::RightParen),
+            (init, test),
+        )?;
         self.for_body(place, init, test, step, tokens)
     }
 
@@ -265,7 +271,7 @@ impl<F: Fn(Global, &mut Cursor<'_>, usize) -> Result<Stmt, Stop>> Rules<F> {
         requires { Within self.now.depth (F.pre self.now.statement) (F.post self.now.statement) }
         ensures { Reads (spec.for_body self.now.depth (spec.statement self.now.depth) place init test step tokens.old.left) result tokens.old tokens.new }
     {
-        let body = self.boxed(tokens)?;
+        let (body, (init, (test, step))) = with(self.boxed(tokens), (init, (test, step)))?;
         Ok(Stmt::For(place, init, test, step, body))
     }
 

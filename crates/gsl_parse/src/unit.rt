@@ -9,7 +9,7 @@ use crate::qualifier::{qualifiers, typed};
 use crate::statement::statements;
 use crate::variable::{declarator_from, struct_variables};
 use gsl_base::{Key, List, Punct};
-use gsl_expr::{Cursor, Stop, dims, void_alone};
+use gsl_expr::{Cursor, Stop, dims, void_alone, with};
 use gsl_syntax::{
     Body, Decl, Declarator, Function, Global as Top, Member, Name, Param, Params, Qual, Quals,
     TypeSpec, Unit,
@@ -30,8 +30,8 @@ fn parameter_from(
     if !tokens.sees_name() {
         return Ok(Param::Unnamed(quals, ty));
     }
-    let name = tokens.name()?;
-    let dims = dims(alloc, tokens, depth)?;
+    let (name, (quals, ty)) = with(tokens.name(), (quals, ty))?;
+    let (dims, (name, (quals, ty))) = with(dims(alloc, tokens, depth), (name, (quals, ty)))?;
     Ok(Param::Named(quals, ty, name, dims))
 }
 
@@ -41,7 +41,7 @@ impl Item for Param {
     #[tactic(auto, unfolding(crate::specs::Units::parameter))]
     fn read(alloc: Global, tokens: &mut Cursor<'_>, depth: usize) -> Result<Param, Stop> {
         let quals = qualifiers(alloc, tokens, depth)?;
-        let ty = typed(alloc, tokens, depth)?;
+        let (ty, quals) = with(typed(alloc, tokens, depth), quals)?;
         parameter_from(alloc, quals, ty, tokens, depth)
     }
 }
@@ -51,7 +51,7 @@ fn listed_parameters(alloc: Global, tokens: &mut Cursor<'_>, depth: usize) -> Re
     ensures { Reads (spec.listed_parameters depth tokens.old.left) result tokens.old tokens.new }
 {
     let found = commas_of::<Param>(alloc, tokens, depth)?;
-    tokens.expect(Punct::RightParen)?;
+    let (_, found) = with(tokens.expect(Punct::RightParen), found)?;
     Ok(Params::Items(found))
 }
 
@@ -96,7 +96,10 @@ fn function_end(
 ) -> Result<Function, Stop>
     ensures { Reads (spec.function_end depth quals ty name params tokens.old.left) result tokens.old tokens.new }
 {
-    let body = function_body(alloc, tokens, depth)?;
+    let (body, (quals, (ty, (name, params)))) = with(
+        function_body(alloc, tokens, depth),
+        (quals, (ty, (name, params))),
+    )?;
     Ok(Function {
         quals,
         ty,
@@ -118,8 +121,11 @@ fn function_from(
 ) -> Result<Function, Stop>
     ensures { Reads (spec.function_from depth quals ty name tokens.old.left) result tokens.old tokens.new }
 {
-    tokens.take_one()?;
-    let params = parameters(alloc, tokens, depth)?;
+    let (_, (quals, (ty, name))) = with(tokens.take_one(), (quals, (ty, name)))?;
+    let (params, (quals, (ty, name))) = with(
+        parameters(alloc, tokens, depth),
+        (quals, (ty, name)),
+    )?;
     function_end(alloc, quals, ty, name, params, tokens, depth)
 }
 
@@ -135,9 +141,12 @@ fn variables_from(
 ) -> Result<Decl, Stop>
     ensures { Reads (spec.variables_from depth quals ty name tokens.old.left) result tokens.old tokens.new }
 {
-    let first = declarator_from(alloc, name, tokens, depth)?;
-    let found = further_of::<Declarator>(alloc, first, tokens, depth)?;
-    tokens.expect(Punct::Semicolon)?;
+    let (first, (quals, ty)) = with(declarator_from(alloc, name, tokens, depth), (quals, ty))?;
+    let (found, (quals, ty)) = with(
+        further_of::<Declarator>(alloc, first, tokens, depth),
+        (quals, ty),
+    )?;
+    let (_, (found, (quals, ty))) = with(tokens.expect(Punct::Semicolon), (found, (quals, ty)))?;
     Ok(Decl::Variables(quals, ty, found))
 }
 
@@ -182,7 +191,10 @@ fn block_close(
 ) -> Result<Decl, Stop>
     ensures { Reads (spec.block_close quals name members instance tokens.old.left) result tokens.old tokens.new }
 {
-    tokens.expect(Punct::Semicolon)?;
+    let (_, (quals, (name, (members, instance)))) = with(
+        tokens.expect(Punct::Semicolon),
+        (quals, (name, (members, instance))),
+    )?;
     Ok(Decl::Block(quals, name, members, instance))
 }
 
@@ -195,8 +207,11 @@ fn block_end(
 ) -> Result<Decl, Stop>
     ensures { Reads (spec.block_end quals name members tokens.old.left) result tokens.old tokens.new }
 {
-    tokens.expect(Punct::RightBrace)?;
-    let instance = instance(tokens)?;
+    let (_, (quals, (name, members))) = with(
+        tokens.expect(Punct::RightBrace),
+        (quals, (name, members)),
+    )?;
+    let (instance, (quals, (name, members))) = with(instance(tokens), (quals, (name, members)))?;
     block_close(quals, name, members, instance, tokens)
 }
 
@@ -205,9 +220,9 @@ fn block_end(
 fn block(alloc: Global, quals: Quals, tokens: &mut Cursor<'_>, depth: usize) -> Result<Decl, Stop>
     ensures { Reads (spec.block depth quals tokens.old.left) result tokens.old tokens.new }
 {
-    let name = tokens.name()?;
-    tokens.expect(Punct::LeftBrace)?;
-    let members = some_of::<Member>(alloc, tokens, depth)?;
+    let (name, quals) = with(tokens.name(), quals)?;
+    let (_, (name, quals)) = with(tokens.expect(Punct::LeftBrace), (name, quals))?;
+    let (members, (name, quals)) = with(some_of::<Member>(alloc, tokens, depth), (name, quals))?;
     block_end(quals, name, members, tokens)
 }
 
@@ -240,7 +255,7 @@ fn struct_at_top(
 fn quals_alone(quals: Quals, tokens: &mut Cursor<'_>) -> Result<Top, Stop>
     ensures { Reads (spec.quals_alone quals tokens.old.left) result tokens.old tokens.new }
 {
-    tokens.take_one()?;
+    let (_, quals) = with(tokens.take_one(), quals)?;
     Ok(Top::Decl(Decl::Quals(quals)))
 }
 
@@ -264,8 +279,8 @@ fn typed_at_top(
 ) -> Result<Top, Stop>
     ensures { Reads (spec.typed_at_top depth quals tokens.old.left) result tokens.old tokens.new }
 {
-    let ty = typed(alloc, tokens, depth)?;
-    let name = tokens.name()?;
+    let (ty, quals) = with(typed(alloc, tokens, depth), quals)?;
+    let (name, (quals, ty)) = with(tokens.name(), (quals, ty))?;
     named_from(alloc, quals, ty, name, tokens, depth)
 }
 

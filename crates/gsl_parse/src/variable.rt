@@ -10,7 +10,7 @@ use crate::qualifier::{begins_qual, qualifiers, typed};
 use gsl_base::{Key, List, Punct};
 use gsl_expr::{
     Cursor, Head, Start, Stop, applied, basic_head, completed, dims, expr, head_type, may_be_open,
-    named_head, next_start,
+    named_head, next_start, with,
 };
 use gsl_syntax::{
     Basic, Decl, Declarator, Declared, Dims, ForInit, Init, Member, Name, Quals, Struct,
@@ -24,7 +24,7 @@ impl Item for Declared {
     #[tactic(auto, unfolding(crate::specs::Variables::declared))]
     fn read(alloc: Global, tokens: &mut Cursor<'_>, depth: usize) -> Result<Declared, Stop> {
         let name = tokens.name()?;
-        let dims = dims(alloc, tokens, depth)?;
+        let (dims, name) = with(dims(alloc, tokens, depth), name)?;
         Ok(Declared { name, dims })
     }
 }
@@ -36,8 +36,8 @@ impl Item for StructMember {
     #[tactic(auto, unfolding(crate::specs::Variables::struct_member), using(crate::proofs::Shrinking::declared_shrinks))]
     fn read(alloc: Global, tokens: &mut Cursor<'_>, depth: usize) -> Result<StructMember, Stop> {
         let ty = typed(alloc, tokens, depth)?;
-        let names = commas_of::<Declared>(alloc, tokens, depth)?;
-        tokens.expect(Punct::Semicolon)?;
+        let (names, ty) = with(commas_of::<Declared>(alloc, tokens, depth), ty)?;
+        let (_, (names, ty)) = with(tokens.expect(Punct::Semicolon), (names, ty))?;
         Ok(StructMember { ty, names })
     }
 }
@@ -57,9 +57,12 @@ impl Item for Member {
     #[tactic(auto, unfolding(crate::specs::Variables::member), using(crate::proofs::Shrinking::declared_shrinks))]
     fn read(alloc: Global, tokens: &mut Cursor<'_>, depth: usize) -> Result<Member, Stop> {
         let quals = qualifiers(alloc, tokens, depth)?;
-        let ty = typed(alloc, tokens, depth)?;
-        let names = commas_of::<Declared>(alloc, tokens, depth)?;
-        tokens.expect(Punct::Semicolon)?;
+        let (ty, quals) = with(typed(alloc, tokens, depth), quals)?;
+        let (names, (ty, quals)) = with(commas_of::<Declared>(alloc, tokens, depth), (ty, quals))?;
+        let (_, (names, (ty, quals))) = with(
+            tokens.expect(Punct::Semicolon),
+            (names, (ty, quals)),
+        )?;
         Ok(Member { quals, ty, names })
     }
 }
@@ -154,8 +157,8 @@ fn initialised(
     if !tokens.sees(Punct::Equal) {
         return Ok(Declarator::Plain(name, dims));
     }
-    tokens.take_one()?;
-    let init = initialiser(alloc, tokens, depth, depth)?;
+    let (_, (name, dims)) = with(tokens.take_one(), (name, dims))?;
+    let (init, (name, dims)) = with(initialiser(alloc, tokens, depth, depth), (name, dims))?;
     Ok(Declarator::Initialised(name, dims, init))
 }
 
@@ -169,7 +172,7 @@ pub(crate) fn declarator_from(
 ) -> Result<Declarator, Stop>
     ensures { Reads (spec.declarator_from depth name tokens.old.left) result tokens.old tokens.new }
 {
-    let dims = dims(alloc, tokens, depth)?;
+    let (dims, name) = with(dims(alloc, tokens, depth), name)?;
     initialised(alloc, name, dims, tokens, depth)
 }
 
@@ -180,9 +183,9 @@ fn structure(alloc: Global, tokens: &mut Cursor<'_>, depth: usize) -> Result<Str
 {
     let place = tokens.take_one()?;
     let name = tokens.name()?;
-    tokens.expect(Punct::LeftBrace)?;
-    let members = some_of::<StructMember>(alloc, tokens, depth)?;
-    tokens.expect(Punct::RightBrace)?;
+    let (_, name) = with(tokens.expect(Punct::LeftBrace), name)?;
+    let (members, name) = with(some_of::<StructMember>(alloc, tokens, depth), name)?;
+    let (_, (members, name)) = with(tokens.expect(Punct::RightBrace), (members, name))?;
     Ok(Struct {
         place,
         name,
@@ -216,8 +219,8 @@ fn variables_of(
 ) -> Result<Decl, Stop>
     ensures { Reads (spec.variables_of depth quals ty tokens.old.left) result tokens.old tokens.new }
 {
-    let found = commas_of::<Declarator>(alloc, tokens, depth)?;
-    tokens.expect(Punct::Semicolon)?;
+    let (found, (quals, ty)) = with(commas_of::<Declarator>(alloc, tokens, depth), (quals, ty))?;
+    let (_, (found, (quals, ty))) = with(tokens.expect(Punct::Semicolon), (found, (quals, ty)))?;
     Ok(Decl::Variables(quals, ty, found))
 }
 
@@ -231,7 +234,7 @@ fn variables(
 ) -> Result<Decl, Stop>
     ensures { Reads (spec.variables depth quals tokens.old.left) result tokens.old tokens.new }
 {
-    let ty = typed(alloc, tokens, depth)?;
+    let (ty, quals) = with(typed(alloc, tokens, depth), quals)?;
     variables_of(alloc, quals, ty, tokens, depth)
 }
 
@@ -245,9 +248,12 @@ pub(crate) fn struct_variables(
 ) -> Result<Decl, Stop>
     ensures { Reads (spec.struct_variables depth quals tokens.old.left) result tokens.old tokens.new }
 {
-    let structure = structure(alloc, tokens, depth)?;
-    let found = declarators(alloc, tokens, depth)?;
-    tokens.expect(Punct::Semicolon)?;
+    let (structure, quals) = with(structure(alloc, tokens, depth), quals)?;
+    let (found, (quals, structure)) = with(declarators(alloc, tokens, depth), (quals, structure))?;
+    let (_, (found, (quals, structure))) = with(
+        tokens.expect(Punct::Semicolon),
+        (found, (quals, structure)),
+    )?;
     Ok(Decl::Struct(quals, structure, found))
 }
 
@@ -278,7 +284,7 @@ fn expr_from(
 {
     let first = applied(alloc, head, tokens, depth)?;
     let tree = completed(alloc, 0, first, tokens, depth)?;
-    tokens.expect(Punct::Semicolon)?;
+    let (_, tree) = with(tokens.expect(Punct::Semicolon), tree)?;
     Ok(ForInit::Expr(tree))
 }
 
@@ -329,7 +335,7 @@ pub(crate) fn phrase(alloc: Global, tokens: &mut Cursor<'_>, depth: usize) -> Re
         Start::Basic(basic) => basic_phrase(alloc, basic, tokens, depth),
         _ => {
             let tree = expr(alloc, tokens, depth, 0)?;
-            tokens.expect(Punct::Semicolon)?;
+            let (_, tree) = with(tokens.expect(Punct::Semicolon), tree)?;
             Ok(ForInit::Expr(tree))
         }
     }
