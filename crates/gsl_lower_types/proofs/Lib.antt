@@ -4,4 +4,6 @@ pub mod Parts
 pub mod Layouts
 pub mod Rows
 pub mod Standing
+pub mod Finding
+pub mod Programs
 mod Example

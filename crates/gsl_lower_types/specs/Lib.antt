@@ -5,3 +5,4 @@ pub mod Laid
 pub mod Blocks
 pub mod Globals
 pub mod Interfaces
+pub mod Finding

@@ -1,22 +1,27 @@
 //! Laws of the definitions: calls that do nothing, whose contracts are the laws.
 
-ghost use Rattle.std.specs.Prelude.{◌≡◌, ℕ, List, None, Some};
+ghost use Rattle.std.specs.Prelude.{◌≡◌, ℕ, List, [], None, Some};
 ghost use Rattle.std.specs.List.{Contains};
 ghost use Rattle.gsl_instr.specs.declared.enumerant.decoration.TheConstants as decoration;
 ghost use Rattle.gsl_layout.specs.Layout.{Leaf, Parts, offset_at};
 ghost use Rattle.gsl_types.specs.declared.ty.Scalar.TheVariants.{Bool as Boolean, Uint};
 ghost use Rattle.gsl_types.specs.declared.ty.StructType.{StructType};
+ghost use Rattle.gsl_types.specs.declared.ty.Ty.{Ty};
 ghost use Rattle.gsl_types.specs.declared.ty.Ty.TheVariants as ty;
 ghost use Rattle.gsl_tree.specs.Around.{stage_var_type};
 ghost use Rattle.gsl_tree.specs.Shapes.{of_shape};
 ghost use Rattle.gsl_tree.specs.declared.expr.StageVar.{StageVar};
+ghost use Rattle.gsl_tree.specs.declared.program.Program.{Program};
 ghost use Rattle.gsl_spv.specs.Calls as call;
 ghost use Rattle.gsl_spv.specs.Calls.{decorating};
+ghost use Rattle.gsl_spv.specs.Growing.{Begins};
 ghost use Rattle.gsl_spv.specs.Sections.{Sections};
 ghost use Rattle.gsl_lower_values.specs.Building.{Made, id_by};
+ghost use Rattle.gsl_lower_types.specs.Finding.{AreFound, AreWhole, IsFound};
 ghost use Rattle.gsl_lower_types.specs.Interfaces.{stage_shape};
 ghost use Rattle.gsl_lower_types.specs.Known.{Known};
 ghost use Rattle.gsl_lower_types.specs.Laid.{array_by, struct_by, type_laid};
+ghost use Rattle.gsl_lower_types.specs.Values.{program_types, value_type};
 
 /// The struct type that is put for a group of a layout has an Offset for each member, the one of the layout.
 pub fn members_stand_where_they_lie()
@@ -37,4 +42,19 @@ pub fn truth_values_lie_as_numbers()
 /// A built-in variable has the type that the language gives it.
 pub fn built_in_variables_have_their_types()
     ensures { (var : StageVar) → of_shape (stage_shape var) ≡ stage_var_type var }
+{}
+
+/// Where nothing is known, no array is without its elements. A type that was put is found; what was known is so still, and no array comes without
+/// its elements.
+pub fn what_is_put_is_found()
+    ensures nothing { AreWhole [] }
+    ensures grows { (t : Ty) (known then_known : Known) (id : ℕ) (before after : Sections) → value_type t known before ≡ Made (id, then_known) after → Begins known then_known }
+    ensures found { (t : Ty) (known then_known : Known) (id : ℕ) (before after : Sections) → value_type t known before ≡ Made (id, then_known) after → IsFound then_known t }
+    ensures whole { (t : Ty) (known then_known : Known) (id : ℕ) (before after : Sections) → value_type t known before ≡ Made (id, then_known) after → AreWhole known → AreWhole then_known }
+{}
+
+/// Once the types of a program are put, all that it declares are found, and no array comes without its elements.
+pub fn what_is_declared_is_found()
+    ensures found { (p : Program) (known then_known : Known) (before after : Sections) → program_types p known before ≡ Made (tt, then_known) after → AreFound then_known p }
+    ensures whole { (p : Program) (known then_known : Known) (before after : Sections) → program_types p known before ≡ Made (tt, then_known) after → AreWhole known → AreWhole then_known }
 {}
