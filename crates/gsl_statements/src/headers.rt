@@ -1,6 +1,6 @@
 //! The header of a `for`, and loops behind their headers.
 
-ghost use Rattle.std.specs.Prelude.{◌≡◌, IfOk};
+ghost use Rattle.std.specs.Prelude.{◌≡◌, IfOk, ◌∷◌, []};
 ghost use Rattle.gsl_base.specs.Checked.{Gives, GivesBy};
 ghost use Rattle.gsl_check_stmt.specs.Statements as spec;
 
@@ -8,7 +8,7 @@ use gsl_base::{Boxed, List, Memory, Place, Refusal};
 use gsl_check_decl::{SoundEnv, declaration};
 use gsl_check_stmt::{Head, eval, loop_of, tested_if};
 use gsl_syntax::{Expr as Phrase, ForInit};
-use gsl_tree::{Expr, Stmt};
+use gsl_tree::{Expr, Stmt, Stmts};
 use std::alloc::Global;
 
 /// What stands first in the header of a `for`.
@@ -53,9 +53,21 @@ pub fn for_head(
 {
     env.open(alloc)?;
     let first = header(alloc, env, init)?;
-    let test = tested_if(alloc, env, test)?;
-    let step = eval_if(alloc, env, step)?;
-    Ok(Head { first, test, step })
+    let test = match tested_if(alloc, env, test) {
+        Ok(test) => test,
+        Err(refusal) => {
+            drop(first);
+            return Err(refusal);
+        }
+    };
+    match eval_if(alloc, env, step) {
+        Ok(step) => Ok(Head { first, test, step }),
+        Err(refusal) => {
+            drop(first);
+            drop(test);
+            Err(refusal)
+        }
+    }
 }
 
 /// A loop behind what stands first in its header.
@@ -65,10 +77,27 @@ fn behind_header(alloc: Global, first: Option<Stmt>, body: Stmt) -> Result<Stmt,
     match first {
         None => Ok(body),
         Some(first) => {
-            let mut both = List::new(alloc);
-            both.push(first)?;
-            both.push(body)?;
+            let both = pair(alloc, first, body)?;
             Ok(Stmt::Group(both))
+        }
+    }
+}
+
+/// Two statements in a row.
+fn pair(alloc: Global, first: Stmt, second: Stmt) -> Result<Stmts, Memory>
+    ensures { IfOk result (λ both. both ≡ first ∷ second ∷ []) }
+{
+    let mut both = List::new(alloc);
+    if let Err(memory) = both.push(first) {
+        drop(both);
+        drop(second);
+        return Err(memory);
+    }
+    match both.push(second) {
+        Ok(()) => Ok(both),
+        Err(memory) => {
+            drop(both);
+            Err(memory)
         }
     }
 }
@@ -86,8 +115,13 @@ pub fn loop_done(
 {
     env.close(alloc);
     let Head { first, test, step } = head;
-    let s = loop_of(place, test, step, body)?;
-    Ok(behind_header(alloc, first, s)?)
+    match loop_of(place, test, step, body) {
+        Ok(s) => Ok(behind_header(alloc, first, s)?),
+        Err(refusal) => {
+            drop(first);
+            Err(refusal)
+        }
+    }
 }
 
 /// Gives up a header, part by part.

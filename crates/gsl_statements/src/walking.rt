@@ -8,7 +8,7 @@ ghost use Rattle.gsl_check_stmt.specs.Switches as switches;
 
 use crate::headers::{for_head, give_up, loop_done};
 use crate::singles::single;
-use crate::switched::arms;
+use crate::switched::{arms, give_up_gathered, give_up_selector};
 use gsl_base::{Boxed, List, Place, Refusal};
 use gsl_check_decl::SoundEnv;
 use gsl_check_stmt::{
@@ -76,8 +76,17 @@ pub fn statements(
 {
     let mut found = List::new(alloc);
     for k in 0..all.len() {
-        let one = statement(alloc, env, &all[k], returns, within)?;
-        found.push(one)?;
+        let one = match statement(alloc, env, &all[k], returns, within) {
+            Ok(one) => one,
+            Err(refusal) => {
+                drop(found);
+                return Err(refusal);
+            }
+        };
+        if let Err(_) = found.push(one) {
+            drop(found);
+            return Err(Refusal::Memory);
+        }
     }
     Ok(found)
 }
@@ -119,8 +128,13 @@ fn branch(
     ensures { GivesBy (λ t. (t, env.new)) result (spec.branch place test.now (spec.statement returns.now body.now) within env.old) }
 {
     let test = if_head(alloc, env, test)?;
-    let body = part(alloc, env, body, returns, in_part(within))?;
-    if_done(alloc, env, place, test, body, None)
+    match part(alloc, env, body, returns, in_part(within)) {
+        Ok(body) => if_done(alloc, env, place, test, body, None),
+        Err(refusal) => {
+            drop(test);
+            Err(refusal)
+        }
+    }
 }
 
 /// An `if` with `else`.
@@ -138,10 +152,26 @@ fn branches(
     match s {
         Syntax::IfElse(place, test, body, other) => {
             let test = if_head(alloc, env, test)?;
-            let body = part(alloc, env, body.get(), returns, in_part(within))?;
-            between(alloc, env)?;
-            let other = part(alloc, env, other.get(), returns, in_part(within))?;
-            if_done(alloc, env, *place, test, body, Some(other))
+            let body = match part(alloc, env, body.get(), returns, in_part(within)) {
+                Ok(body) => body,
+                Err(refusal) => {
+                    drop(test);
+                    return Err(refusal);
+                }
+            };
+            if let Err(_) = between(alloc, env) {
+                drop(test);
+                drop(body);
+                return Err(Refusal::Memory);
+            }
+            match part(alloc, env, other.get(), returns, in_part(within)) {
+                Ok(other) => if_done(alloc, env, *place, test, body, Some(other)),
+                Err(refusal) => {
+                    drop(test);
+                    drop(body);
+                    Err(refusal)
+                }
+            }
         }
         // No other form comes here.
         _ => Err(Refusal::Memory),
@@ -163,15 +193,20 @@ fn switch(
     ensures { GivesBy (λ t. (t, env.new)) result (spec.switch place e.now (map (spec.answer returns.now) all.now) within env.old) }
 {
     let selector = switch_head(alloc, env, e)?;
-    let g = items(
+    match items(
         alloc,
         env,
         all,
         &selector.expr.ty,
         returns,
         in_switch(within),
-    )?;
-    arms(alloc, env, place, selector, g)
+    ) {
+        Ok(g) => arms(alloc, env, place, selector, g),
+        Err(refusal) => {
+            give_up_selector(selector);
+            Err(refusal)
+        }
+    }
 }
 
 /// The body of a `switch`, from left to right.
@@ -188,7 +223,10 @@ fn items(
 {
     let mut g = Gathered::new(alloc);
     for k in 0..all.len() {
-        item(alloc, env, &all[k], selector, returns, within, &mut g)?;
+        if let Err(refusal) = item(alloc, env, &all[k], selector, returns, within, &mut g) {
+            give_up_gathered(g);
+            return Err(refusal);
+        }
     }
     Ok(g)
 }
