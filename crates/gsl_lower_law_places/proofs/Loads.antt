@@ -8,7 +8,7 @@ use Rattle.gsl_values.specs.declared.value.Value.{Value}
 use Rattle.gsl_tree.specs.Operations.{value_at}
 use Rattle.gsl_tree.specs.Shapes.{Shape}
 use Rattle.gsl_machine.specs.Memory.{loading}
-use Rattle.gsl_machine.specs.State.{Ids, Pointer, Points, State, giving_value, on_pointer}
+use Rattle.gsl_machine.specs.State.{Pointer, Points, State, giving_value, on_pointer}
 use Rattle.gsl_spv.specs.Sections.{Sections}
 use Rattle.gsl_lower_values.specs.Building.{Step, giving, ◌>>=◌}
 use Rattle.gsl_lower_values.specs.Constructors.{operand}
@@ -73,18 +73,20 @@ module _ (m : Module) (input : Input) where
         load_grows : (type at : ℕ) (later : Sections) → Grows later (behind_pointer type at later)
         load_grows type at later = grows_then m input whole later (giving op.LOAD (at ∷ []) type later) behind_load (giving_grows m input whole op.LOAD (at ∷ []) type later) (λ w last. converted_grows m input whole shape.0 (operand stored w) state last)
 
-    pub extracted_computes : (id : ℕ) (shape : Shape) (parts : List Part) (v : Value) (state : State) (before : Sections) → Stands state.ids id v → Computes m input whole (value_at v (map number_in parts), state.choices) state before (extracted_shape id shape parts)
+    pub extracted_grows : (id type : ℕ) (parts : List Part) (state : State) (before : Sections) → Grows before (extracted id type parts before)
     unfolding extracted
+    extracted_grows id type [] state before = (given_does m input whole (λ given ids. Unit {0}) id state before tt).grows
+    extracted_grows id type (part ∷ parts) state before = giving_grows m input whole op.COMPOSITE_EXTRACT (id ∷ map number_in (part ∷ parts)) type before
+
+    pub extracted_does : (id type : ℕ) (parts : List Part) (v : Value) (state : State) (before : Sections) → Stands state.ids id v → Computes m input whole (value_at v (map number_in parts), state.choices) state before (extracted id type parts)
+    unfolding extracted
+    extracted_does id type [] v state before stands = given_does m input whole (λ given ids. Stands ids given v) id state before stands
+    extracted_does id type (part ∷ parts) v state before stands =
+        giving_does m input whole op.COMPOSITE_EXTRACT (id ∷ map number_in (part ∷ parts)) type state (value_at v (map number_in (part ∷ parts))) state.choices before (λ text. takes m input type id (map number_in (part ∷ parts)) v state stands)
+
+    pub extracted_computes : (id : ℕ) (shape : Shape) (parts : List Part) (v : Value) (state : State) (before : Sections) → Stands state.ids id v → Computes m input whole (value_at v (map number_in parts), state.choices) state before (extracted_shape id shape parts)
     extracted_computes id shape parts v state before stands =
         does_then m input whole (IsType m input whole shape) (λ given ids. Stands ids given (value_at v (map number_in parts))) state.choices state.choices state before (type_of shape) (λ type. extracted id type parts)
         (type_does m input whole shape state before)
-        (λ type between. grows parts type between)
-        (λ type between ids typed keeps. does parts type ids between (keeps.same id _ stands))
-      where
-        grows : (parts : List Part) (type : ℕ) (between : Sections) → Grows between (extracted id type parts between)
-        grows [] type between = (given_does m input whole (λ given ids. Unit {0}) id state between tt).grows
-        grows (part ∷ parts) type between = giving_grows m input whole op.COMPOSITE_EXTRACT (id ∷ map number_in (part ∷ parts)) type between
-
-        does : (parts : List Part) (type : ℕ) (ids : Ids) (between : Sections) → Stands ids id v → Computes m input whole (value_at v (map number_in parts), state.choices) (record state { ids = ids }) between (extracted id type parts)
-        does [] type ids between stands = given_does m input whole (λ given ids. Stands ids given v) id (record state { ids = ids }) between stands
-        does (part ∷ parts) type ids between stands = giving_does m input whole op.COMPOSITE_EXTRACT (id ∷ map number_in (part ∷ parts)) type (record state { ids = ids }) (value_at v (map number_in (part ∷ parts))) state.choices between (λ text. takes m input type id (map number_in (part ∷ parts)) v (record state { ids = ids }) stands)
+        (λ type between. extracted_grows id type parts state between)
+        (λ type between ids typed keeps. extracted_does id type parts v (record state { ids = ids }) between (keeps.same id _ stands))
