@@ -53,7 +53,7 @@ pub fn compile(alloc: Global, stage: Stage, sources: &Sources) -> Result<Bytes, 
     }
 }
 
-/// The module itself.
+/// The module that the sources of a stage compile to, which is valid by how it was made, or their first fault.
 pub fn compiled_module(alloc: Global, stage: Stage, sources: &Sources) -> Result<Valid, Refusal>
     requires { length sources.now ≤ MAX_SOURCES }
     ensures { Makes stage sources.now result }

@@ -1,5 +1,5 @@
 -- What is owed with status 0: the module has ended.
-use Rattle.std.proofs.Common.{◌≡◌, ℕ, List, [], ◌∷◌, length, Option, Some, None, Result, Ok, Err, refl, ap, sym, ◌∙◌, inl, inr}
+use Rattle.std.proofs.Common.{◌≡◌, ℕ, List, length, Option, Some, None, Result, Ok, Err, refl, ap, sym, ◌∙◌, inl, inr}
 use Rattle.std.proofs.lemmas.Bool.{cases_lt, lt-ltb, le-ltb, cond-true, cond-false}
 use Rattle.std.specs.FinMap.{get}
 use Rattle.gsl_base.specs.declared.input.Input.{Input}
@@ -23,7 +23,7 @@ use Rattle.gsl_valid.specs.Valid.{Valid}
 use Rattle.gsl_exec.specs.declared.reading.TheConstants.{MAX_MODULE_BYTES}
 use Rattle.gsl_exec.specs.Done.{HasEnded}
 use Rattle.gsl_exec.specs.Judged.{JudgesFile, refusal_of, refused_module}
-use Rattle.gsl_exec.specs.Owed.{Owed, Read, Missing, Longer, Whole, read_of, IsCame, IsTested, IsGiven, IsSaid, IsTaken, IsBehind, IsRead, IsOwed}
+use Rattle.gsl_exec.specs.Owed.{Owed, Read, Missing, Longer, Whole, read_of, IsCame, IsTested, IsGiven, IsTaken, IsBehind, IsRead, IsOwed}
 use Rattle.gsl_exec.proofs.Verdicts.{is_valid, of_file}
 
 -- a file that was read whole

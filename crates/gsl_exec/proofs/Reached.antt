@@ -1,5 +1,5 @@
 -- What is owed reaches for no more than what was reached for before it, the files that the manifest names, and standard output.
-use Rattle.std.proofs.Common.{◌≡◌, ℕ, zero, suc, ◌<◌, List, [], ◌∷◌, ◌++◌, length, Bool, true, false, Option, Some, None, Result, Ok, Err, refl, sym, subst, arith, inl, inr, ◌⊎◌}
+use Rattle.std.proofs.Common.{◌≡◌, ℕ, zero, suc, List, [], ◌∷◌, ◌++◌, Bool, true, false, Option, Some, None, Result, Ok, Err, refl, sym, subst, arith, inl, inr, ◌⊎◌}
 use Rattle.std.specs.Prelude.{Contains, map, if◌then◌else◌}
 use Rattle.std.specs.FinMap.{get}
 use Rattle.gsl_base.specs.declared.input.Input.{Input}
@@ -20,7 +20,7 @@ use Rattle.gsl_machine.specs.State.{Outcome, Ended, Going, Strayed, Stuck}
 use Rattle.gsl_exec.specs.declared.reading.TheConstants.{MAX_MODULE_BYTES}
 use Rattle.gsl_exec.specs.Done.{MayName}
 use Rattle.gsl_exec.specs.Judged.{refusal_of}
-use Rattle.gsl_exec.specs.Owed.{Owed, told, failed, listed, Read, Missing, Longer, Whole, read_of, IsCame, IsTested, IsGiven, IsSaid, IsTaken, IsJudged, IsBehind, IsRead, IsOwed}
+use Rattle.gsl_exec.specs.Owed.{Owed, Read, Missing, Longer, Whole, read_of, IsCame, IsTested, IsGiven, IsTaken, IsBehind, IsRead, IsOwed}
 use Rattle.gsl_exec.proofs.Done.{whole_is}
 
 -- ---- what is read of a manifest is named by it

@@ -1,5 +1,5 @@
 -- A run that came to its end, and what was printed then, perform its job.
-use Rattle.std.proofs.Common.{◌≡◌, ℕ, List, [], Option, Some, Result, Ok, Err, refl, ap, sym, subst, ◌∙◌, inl, inr, ◌⊎◌}
+use Rattle.std.proofs.Common.{◌≡◌, ℕ, List, Option, Some, Result, Ok, Err, refl, ap, sym, subst, ◌∙◌, inl, inr, ◌⊎◌}
 use Rattle.std.specs.Prelude.{◌≢◌}
 use Rattle.gsl_host.specs.declared.target.Stream.{Stream}
 use Rattle.gsl_host.specs.declared.target.Stream.TheVariants as stream
