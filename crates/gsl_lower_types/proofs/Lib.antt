@@ -5,5 +5,6 @@ pub mod Layouts
 pub mod Rows
 pub mod Standing
 pub mod Finding
+pub mod Exact
 pub mod Programs
 mod Example

@@ -17,6 +17,7 @@ ghost use Rattle.gsl_spv.specs.Calls.{decorating};
 ghost use Rattle.gsl_spv.specs.Growing.{Begins};
 ghost use Rattle.gsl_spv.specs.Sections.{Sections};
 ghost use Rattle.gsl_lower_values.specs.Building.{Made, id_by};
+ghost use Rattle.gsl_lower_holders.specs.Flow.{find_type};
 ghost use Rattle.gsl_lower_types.specs.Finding.{AreFound, AreWhole, IsFound};
 ghost use Rattle.gsl_lower_types.specs.Interfaces.{stage_shape};
 ghost use Rattle.gsl_lower_types.specs.Known.{Known};
@@ -57,4 +58,10 @@ pub fn what_is_put_is_found()
 pub fn what_is_declared_is_found()
     ensures found { (p : Program) (known then_known : Known) (before after : Sections) → program_types p known before ≡ Made (tt, then_known) after → AreFound then_known p }
     ensures whole { (p : Program) (known then_known : Known) (before after : Sections) → program_types p known before ≡ Made (tt, then_known) after → AreWhole known → AreWhole then_known }
+{}
+
+/// The id that is given for an array or a struct is the one under which lowering finds its type.
+pub fn types_are_found_under_their_ids()
+    ensures array { (element : Ty) (count : ℕ) (known then_known : Known) (id : ℕ) (before after : Sections) → value_type (ty.Array element count) known before ≡ Made (id, then_known) after → find_type (ty.Array element count) then_known ≡ Some id }
+    ensures struct_type { (number : ℕ) (known then_known : Known) (id : ℕ) (before after : Sections) → value_type (ty.Struct number) known before ≡ Made (id, then_known) after → find_type (ty.Struct number) then_known ≡ Some id }
 {}
