@@ -1,6 +1,8 @@
 //! The cases of a file, line by line, and what is printed of them.
 
+use crate::computed::put_computed;
 use crate::expressions::expression;
+use crate::layouts::{put_components, put_converts, put_layout, put_leaves, put_same};
 use crate::misread::Misread;
 use crate::types::{direction, read_type};
 use gsl_base::{Bytes, List, Memory};
@@ -54,9 +56,22 @@ fn run_line(
             put_folded(alloc, out, &folded)?;
         }
         "choose" => put_choice(alloc, out, rest)?,
-        _ => return Err(Misread::Form),
+        "word" => put_computed(alloc, out, rest)?,
+        _ => run_type_line(alloc, out, word, rest)?,
     }
     Ok(())
+}
+
+/// A line of types.
+fn run_type_line(alloc: Global, out: &mut Bytes, word: &str, rest: &str) -> Result<(), Misread> {
+    match word {
+        "leaves" => put_leaves(alloc, out, rest),
+        "components" => put_components(alloc, out, rest),
+        "converts" => put_converts(alloc, out, rest),
+        "same" => put_same(alloc, out, rest),
+        "layout" => put_layout(alloc, out, rest),
+        _ => Err(Misread::Form),
+    }
 }
 
 /// What is known of an expression.

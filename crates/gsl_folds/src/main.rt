@@ -3,10 +3,13 @@
 #![tactic(auto)]
 
 mod answers;
+mod computed;
 mod expressions;
+mod layouts;
 mod misread;
 mod names;
 mod stack;
+mod structs;
 mod types;
 
 use crate::answers::run_text;

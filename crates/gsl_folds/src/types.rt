@@ -1,5 +1,9 @@
 //! Types by their names.
 
+ghost use Rattle.std.specs.Prelude.{IfSome, IsTrue, ℕ};
+ghost use Rattle.gsl_types.specs.Known.{IsSound};
+ghost use Rattle.gsl_layout.specs.Extents.{plain};
+
 use crate::misread::Misread;
 use gsl_base::Boxed;
 use gsl_types::{Direction, Scalar, Ty};
@@ -10,20 +14,30 @@ pub fn number(digits: &str) -> Result<u32, Misread> {
     digits.parse::<u32>().map_err(|_| Misread::Form)
 }
 
-/// A type: a scalar or a vector, or an array of them.
+/// A type: void, a scalar or a vector, or an array of them.
 pub fn read_type(alloc: Global, text: &str) -> Result<Ty, Misread> {
+    if text == "void" {
+        return Ok(Ty::Void);
+    }
     match text.split_once('[') {
-        None => plain(text),
-        Some((element, count)) => {
+        None => element(text),
+        Some((name, count)) => {
             let count = number(count.trim_end_matches(']'))?;
-            Ok(Ty::Array(Boxed::new(alloc, plain(element)?)?, count))
+            Ok(Ty::Array(Boxed::new(alloc, element(name)?)?, count))
         }
     }
 }
 
-fn plain(name: &str) -> Result<Ty, Misread> {
+fn element(name: &str) -> Result<Ty, Misread> {
+    plain(name).ok_or(Misread::Form)
+}
+
+/// A scalar or a vector.
+pub fn plain(name: &str) -> Option<Ty>
+    ensures sound { (known : ℕ) → IfSome result (λ t. IsSound known t) }
+    ensures plain { IfSome result (λ t. IsTrue (plain t)) }
+{
     let ty = match name {
-        "void" => Ty::Void,
         "bool" => Ty::One(Scalar::Bool),
         "int" => Ty::One(Scalar::Int),
         "uint" => Ty::One(Scalar::Uint),
@@ -36,9 +50,9 @@ fn plain(name: &str) -> Result<Ty, Misread> {
         "uvec2" => Ty::Vector(Scalar::Uint, 2),
         "uvec3" => Ty::Vector(Scalar::Uint, 3),
         "uvec4" => Ty::Vector(Scalar::Uint, 4),
-        _ => return Err(Misread::Form),
+        _ => return None,
     };
-    Ok(ty)
+    Some(ty)
 }
 
 /// Which way an argument goes.

@@ -1,4 +1,4 @@
-use gsl_base::{Bytes, Memory, Stage, Text, Words};
+use gsl_base::{Memory, Stage, Text, Words};
 use gsl_plan::{Command, plan};
 use std::alloc::Global;
 use std::test::*;
@@ -72,121 +72,114 @@ fn joined(alloc: Global, name: &str, first: &Text, second: &Text) -> Result<Stri
     Ok(text)
 }
 
+/// Whether a line is shown as this text.
+fn is(alloc: Global, line: &str, text: &str) -> Result<bool, Memory> {
+    let shown = shown(alloc, line)?;
+    Ok(shown.as_str() == text)
+}
+
+/// Lines, and the commands that they are.
+const COMMANDS: &[(&str, &str)] = &[
+    ("compile comp o.spv a.comp", "compile comp o.spv a.comp"),
+    (
+        "compile comp o.spv a.comp b.comp -",
+        "compile comp o.spv a.comp b.comp -",
+    ),
+    ("compile vert o.spv a.vert", "compile vert o.spv a.vert"),
+    ("compile frag o.spv a.frag", "compile frag o.spv a.frag"),
+    ("dis m.spv o.txt", "dis m.spv o.txt"),
+    ("asm m.txt -", "asm m.txt -"),
+    ("check m.spv", "check m.spv alone"),
+    ("exec m.spv i.txt", "exec m.spv i.txt"),
+    (
+        "run vert i.txt a.vert b.vert",
+        "run vert i.txt a.vert b.vert",
+    ),
+];
+
 #[test]
 fn each_command_has_its_operands(rt: HostRuntime) -> Result<(), Fail> {
-    let alloc = rt.alloc();
-    assert_eq!(rt;
-        shown(alloc, "compile comp o.spv a.comp")?.as_str(),
-        "compile comp o.spv a.comp"
-    );
-    assert_eq!(rt;
-        shown(alloc, "compile comp o.spv a.comp b.comp -")?.as_str(),
-        "compile comp o.spv a.comp b.comp -"
-    );
-    assert_eq!(rt;
-        shown(alloc, "compile vert o.spv a.vert")?.as_str(),
-        "compile vert o.spv a.vert"
-    );
-    assert_eq!(rt;
-        shown(alloc, "compile frag o.spv a.frag")?.as_str(),
-        "compile frag o.spv a.frag"
-    );
-    assert_eq!(rt;
-        shown(alloc, "dis m.spv o.txt")?.as_str(),
-        "dis m.spv o.txt"
-    );
-    assert_eq!(rt; shown(alloc, "asm m.txt -")?.as_str(), "asm m.txt -");
-    assert_eq!(rt; shown(alloc, "check m.spv")?.as_str(), "check m.spv alone");
-    assert_eq!(rt;
-        shown(alloc, "exec m.spv i.txt")?.as_str(),
-        "exec m.spv i.txt"
-    );
-    assert_eq!(rt;
-        shown(alloc, "run vert i.txt a.vert b.vert")?.as_str(),
-        "run vert i.txt a.vert b.vert"
-    );
+    for (line, text) in COMMANDS {
+        assert!(rt; is(rt.alloc(), line, text)?);
+    }
     Ok(())
 }
+
+/// Lines with options or `--`, and the commands that they are.
+const DASHES: &[(&str, &str)] = &[
+    ("compile -- comp -o -f", "compile comp -o -f"),
+    ("compile comp o.spv -- -f", "compile comp o.spv -f"),
+    ("dis -- -- o.txt", "dis -- o.txt"),
+    ("asm m.txt o.spv --", "asm m.txt o.spv"),
+];
 
 #[test]
 fn two_dashes_end_the_options(rt: HostRuntime) -> Result<(), Fail> {
-    let alloc = rt.alloc();
-    assert_eq!(rt;
-        shown(alloc, "compile -- comp -o -f")?.as_str(),
-        "compile comp -o -f"
-    );
-    assert_eq!(rt;
-        shown(alloc, "compile comp o.spv -- -f")?.as_str(),
-        "compile comp o.spv -f"
-    );
-    assert_eq!(rt; shown(alloc, "dis -- -- o.txt")?.as_str(), "dis -- o.txt");
-    assert_eq!(rt;
-        shown(alloc, "asm m.txt o.spv --")?.as_str(),
-        "asm m.txt o.spv"
-    );
+    for (line, text) in DASHES {
+        assert!(rt; is(rt.alloc(), line, text)?);
+    }
     Ok(())
 }
+
+/// Lines that are no command.
+const OTHERS: &[&str] = &[
+    "compile geom o.spv a.geom",
+    "compile comp o.spv",
+    "compile comp -o a.comp",
+    "compile comp o.spv a.comp -b b.comp",
+    "dis m.spv",
+    "dis m.spv o.txt more",
+    "dis --help o.txt",
+    "asm -x m.txt o.spv",
+    "asm m.txt",
+    "asm -é o.spv",
+    "check",
+    "check m.spv o.spv",
+    "exec m.spv",
+    "exec m.spv i.txt more",
+    "run comp i.txt",
+    "-- dis m.spv o.txt",
+    "Dis m.spv o.txt",
+    "help",
+    "help dis",
+    "--help",
+];
 
 #[test]
 fn other_words_are_no_command(rt: HostRuntime) -> Result<(), Fail> {
-    let alloc = rt.alloc();
-    for line in [
-        "compile geom o.spv a.geom",
-        "compile comp o.spv",
-        "compile comp -o a.comp",
-        "compile comp o.spv a.comp -b b.comp",
-        "dis m.spv",
-        "dis m.spv o.txt more",
-        "dis --help o.txt",
-        "asm -x m.txt o.spv",
-        "asm m.txt",
-        "asm -é o.spv",
-        "check",
-        "check m.spv o.spv",
-        "exec m.spv",
-        "exec m.spv i.txt more",
-        "run comp i.txt",
-        "-- dis m.spv o.txt",
-        "Dis m.spv o.txt",
-        "help",
-        "help dis",
-        "--help",
-    ] {
-        assert_eq!(rt; shown(alloc, line)?.as_str(), "usage");
+    for line in OTHERS {
+        assert!(rt; is(rt.alloc(), line, "usage")?);
     }
     Ok(())
 }
 
-/// The text of words that are no command.
-fn refusal(alloc: Global, line: &str) -> Result<Bytes, Memory> {
+/// Whether words are no command, and are refused with this text.
+fn refuses(alloc: Global, line: &str, text: &[u8]) -> Result<bool, Memory> {
     let words = words_of(alloc, line)?;
     match plan(alloc, &words)? {
-        Command::Usage(text) => Ok(text),
-        _ => Ok(Bytes::new(alloc)),
+        Command::Usage(usage) => Ok(usage.as_slice() == text),
+        _ => Ok(false),
     }
 }
 
-fn refused_option() -> &'static [u8] {
-    b"error: unexpected argument '-x' found\n\n  tip: to pass '-x' as a value, use '-- -x'\n\n\
-      Usage: gsl dis MODULE OUT\n\nFor more information, try '--help'.\n"
-}
+const REFUSALS: &[(&str, &[u8])] = &[
+    ("dis m.spv", b"usage\n"),
+    (
+        "dis -x o.txt",
+        b"error: unexpected argument '-x' found\n\n  tip: to pass '-x' as a value, use '-- -x'\n\n\
+          Usage: gsl dis MODULE OUT\n\nFor more information, try '--help'.\n",
+    ),
+    ("asm --help", HELP_OF_ASM),
+    ("help asm", HELP_OF_ASM),
+];
 
-fn help_of_asm() -> &'static [u8] {
-    b"Makes the module of a text\n\nUsage: gsl asm TEXT OUT\n\nOptions:\n  -h, --help  Print help\n"
-}
+const HELP_OF_ASM: &[u8] =
+    b"Makes the module of a text\n\nUsage: gsl asm TEXT OUT\n\nOptions:\n  -h, --help  Print help\n";
 
 #[test]
 fn a_refusal_has_its_text(rt: HostRuntime) -> Result<(), Fail> {
-    let alloc = rt.alloc();
-    assert_eq!(rt;
-        refusal(alloc, "dis m.spv")?.as_slice(),
-        b"usage\n".as_slice()
-    );
-    assert_eq!(rt;
-        refusal(alloc, "dis -x o.txt")?.as_slice(),
-        refused_option()
-    );
-    assert_eq!(rt; refusal(alloc, "asm --help")?.as_slice(), help_of_asm());
-    assert_eq!(rt; refusal(alloc, "help asm")?.as_slice(), help_of_asm());
+    for (line, text) in REFUSALS {
+        assert!(rt; refuses(rt.alloc(), line, text)?);
+    }
     Ok(())
 }

@@ -1,3 +1,5 @@
+ghost use Rattle.std.specs.Prelude.{◌<◌, ◌^◌};
+
 use gsl_base::Memory;
 use gsl_blocks::nesting;
 use gsl_instr::op;
@@ -93,12 +95,10 @@ fn switching(alloc: Global, targets: &[u32]) -> Result<Instrs, Memory> {
     )
 }
 
-// Selections within each other, so many.
-fn nested(alloc: Global, depth: u32) -> Result<Instrs, Memory> {
-    if depth >= 1 << 24 {
-        return Err(Memory);
-    }
-    let mut instrs = Instrs::new(alloc);
+// The blocks of selections within each other, so many: each opened, and then each closed.
+fn put_nested(instrs: &mut Instrs, depth: u32) -> Result<(), Memory>
+    requires { depth < 2 ^ 24 }
+{
     for k in 0..depth {
         instrs.put(op::LABEL, &[k])?;
         instrs.put(op::SELECTION_MERGE, &[2 * depth - k, 0])?;
@@ -109,7 +109,15 @@ fn nested(alloc: Global, depth: u32) -> Result<Instrs, Memory> {
         instrs.put(op::BRANCH, &[k + 1])?;
     }
     instrs.put(op::LABEL, &[2 * depth])?;
-    instrs.put(op::RETURN, &[])?;
+    instrs.put(op::RETURN, &[])
+}
+
+fn nested(alloc: Global, depth: u32) -> Result<Instrs, Memory> {
+    if depth >= 1 << 24 {
+        return Err(Memory);
+    }
+    let mut instrs = Instrs::new(alloc);
+    put_nested(&mut instrs, depth)?;
     Ok(instrs)
 }
 

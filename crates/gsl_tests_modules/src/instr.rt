@@ -1,9 +1,10 @@
-use gsl_base::List;
+use gsl_base::{List, Memory};
 use gsl_instr::{
-    Enumeration, Form, Instruction, Part, Parts, Rest, Slot, allows, allows_words, fits_text,
-    form_of, has_text, is_text, next_of, op, push_string, read, read_as, rest, slots, text_at,
+    Enumeration, Form, Instruction, Operands, Part, Parts, Rest, Slot, allows, allows_words,
+    fits_text, form_of, has_text, is_text, next_of, op, push_string, read, read_as, rest, slots,
+    text_at,
 };
-use std::test::Fail;
+use std::alloc::Global;
 
 #[test]
 fn opcodes_and_their_forms(rt: HostRuntime) {
@@ -25,97 +26,124 @@ fn opcodes_and_their_forms(rt: HostRuntime) {
 #[test]
 fn counts_that_may_follow(rt: HostRuntime) {
     assert_eq!(rt;
-        (allows(Rest::Nothing, 0), allows(Rest::Nothing, 1)),
-        (true, false)
-    );
-    assert_eq!(rt;
-        (
+        [
+            allows(Rest::Nothing, 0),
             allows(Rest::Maybe(Slot::Id), 1),
-            allows(Rest::Maybe(Slot::Id), 2)
-        ),
-        (true, false)
-    );
-    assert_eq!(rt;
-        (
             allows(Rest::Any(Slot::Id, 1), 9),
-            allows(Rest::Any(Slot::Id, 1), 0)
-        ),
-        (true, false)
+            allows(Rest::NoneOrThree, 3),
+            allows(Rest::Pairs, 4)
+        ],
+        [true; 5]
     );
     assert_eq!(rt;
-        (allows(Rest::NoneOrThree, 3), allows(Rest::NoneOrThree, 2)),
-        (true, false)
-    );
-    assert_eq!(rt;
-        (allows(Rest::Pairs, 4), allows(Rest::Pairs, 3)),
-        (true, false)
+        [
+            allows(Rest::Nothing, 1),
+            allows(Rest::Maybe(Slot::Id), 2),
+            allows(Rest::Any(Slot::Id, 1), 0),
+            allows(Rest::NoneOrThree, 2),
+            allows(Rest::Pairs, 3)
+        ],
+        [false; 5]
     );
     let many = Rest::Many(Slot::Number, 2, 4);
     assert_eq!(rt;
-        (
+        [
             allows(many, 1),
             allows(many, 2),
             allows(many, 4),
             allows(many, 5)
-        ),
-        (false, true, true, false)
+        ],
+        [false, true, true, false]
     );
 }
 
 #[test]
 fn counts_of_words(rt: HostRuntime) {
     assert_eq!(rt;
-        (
+        [
             allows_words(Form::Load, 2),
             allows_words(Form::Load, 3),
-            allows_words(Form::Load, 4)
-        ),
-        (false, true, false)
-    );
-    assert_eq!(rt;
-        (
+            allows_words(Form::Load, 4),
             allows_words(Form::Name, 1),
             allows_words(Form::Name, 2),
             allows_words(Form::Name, 9)
-        ),
-        (false, true, true)
+        ],
+        [false, true, false, false, true, true]
     );
-    assert_eq!(rt; (has_text(Form::Name), has_text(Form::Load)), (true, false));
-    assert_eq!(rt; (is_text(Slot::Text), is_text(Slot::Number)), (true, false));
+    assert_eq!(rt;
+        [
+            has_text(Form::Name),
+            has_text(Form::Load),
+            is_text(Slot::Text),
+            is_text(Slot::Number)
+        ],
+        [true, false, true, false]
+    );
+}
+
+/// Whether these are the words of texts one behind the other.
+fn are_words(alloc: Global, first: &str, second: &str, words: &[u32]) -> Result<bool, Memory> {
+    let mut found = List::new(alloc);
+    push_string(&mut found, first)?;
+    push_string(&mut found, second)?;
+    Ok(found.as_slice() == words)
+}
+
+/// The words of one text.
+fn are_words_of(alloc: Global, text: &str, words: &[u32]) -> Result<bool, Memory> {
+    let mut found = List::new(alloc);
+    push_string(&mut found, text)?;
+    Ok(found.as_slice() == words)
 }
 
 // The words of these texts are worked out by hand: bytes least first, a zero byte at the end.
 #[test]
-fn texts_to_words(rt: HostRuntime) -> Result<(), Fail> {
-    let mut words = List::new(rt.alloc());
-    push_string(&mut words, "main")?;
-    assert_eq!(rt; words.as_slice(), [0x6e69_616d, 0].as_slice());
-    push_string(&mut words, "B\u{e9}")?;
-    assert_eq!(rt; words.as_slice(), [0x6e69_616d, 0, 0x00a9_c342].as_slice());
-    Ok(())
+fn texts_to_words(rt: HostRuntime) {
+    let alloc = rt.alloc();
+    assert_eq!(rt;
+        [
+            are_words_of(alloc, "main", &[0x6e69_616d, 0]),
+            are_words(alloc, "main", "B\u{e9}", &[0x6e69_616d, 0, 0x00a9_c342])
+        ],
+        [Ok(true), Ok(true)]
+    );
+}
+
+/// Whether words begin with a text, and how many are left behind it.
+fn begins(alloc: Global, words: &[u32], text: &[u8]) -> Result<Option<(bool, usize)>, Memory> {
+    let found = text_at(alloc, words)?;
+    Ok(match found {
+        Some((bytes, left)) => Some((bytes.as_slice() == text, left)),
+        None => None,
+    })
 }
 
 #[test]
-fn words_to_texts(rt: HostRuntime) -> Result<(), Fail> {
-    let main = text_at(rt.alloc(), &[0x6e69_616d, 0, 7])?;
-    let Some((text, left)) = main else {
-        return Err(Fail::new("no text"));
-    };
-    assert_eq!(rt; text.as_slice(), b"main".as_slice());
-    assert_eq!(rt; left, 1);
-    assert!(rt; text_at(rt.alloc(), &[0x6e69_616d])?.is_none());
-    assert!(rt; text_at(rt.alloc(), &[0x0061_0062])?.is_none());
-    Ok(())
+fn words_to_texts(rt: HostRuntime) {
+    let alloc = rt.alloc();
+    assert_eq!(rt;
+        [
+            begins(alloc, &[0x6e69_616d, 0, 7], b"main"),
+            begins(alloc, &[0x6e69_616d], b"main"),
+            begins(alloc, &[0x0061_0062], b"b")
+        ],
+        [Ok(Some((true, 1))), Ok(None), Ok(None)]
+    );
 }
 
 #[test]
-fn texts_that_fit(rt: HostRuntime) -> Result<(), Fail> {
-    assert!(rt; !fits_text(rt.alloc(), Form::Name, &[1, 0x0062_6100])?);
-    assert!(rt; fits_text(rt.alloc(), Form::Name, &[1, 0x6261])?);
-    assert!(rt; !fits_text(rt.alloc(), Form::Name, &[1, 0x6261, 0])?);
-    assert!(rt; !fits_text(rt.alloc(), Form::Name, &[1, 0xff])?);
-    assert!(rt; fits_text(rt.alloc(), Form::Return, &[])?);
-    Ok(())
+fn texts_that_fit(rt: HostRuntime) {
+    let alloc = rt.alloc();
+    assert_eq!(rt;
+        [
+            fits_text(alloc, Form::Name, &[1, 0x0062_6100]),
+            fits_text(alloc, Form::Name, &[1, 0x6261]),
+            fits_text(alloc, Form::Name, &[1, 0x6261, 0]),
+            fits_text(alloc, Form::Name, &[1, 0xff]),
+            fits_text(alloc, Form::Return, &[])
+        ],
+        [Ok(false), Ok(true), Ok(false), Ok(false), Ok(true)]
+    );
 }
 
 #[test]
@@ -147,22 +175,23 @@ fn instructions_by_their_roles(rt: HostRuntime) {
     );
 }
 
+/// Whether these words are this one alone.
+fn is_one(words: &Operands, word: u32) -> bool {
+    words.as_slice() == [word].as_slice()
+}
+
 #[test]
 fn operands_one_by_one(rt: HostRuntime) {
     let mut parts = Parts::new(Form::EntryPoint, &[5, 4, 0x6261, 9]);
-    let model = parts.next();
-    assert!(rt;
-        matches!(model, Some(Part { slot: Slot::Named(Enumeration::Model), words }) if words.as_slice() == [5].as_slice())
-    );
-    assert!(rt;
-        matches!(parts.next(), Some(Part { slot: Slot::Forward, words }) if words.as_slice() == [4].as_slice())
-    );
-    assert!(rt;
-        matches!(parts.next(), Some(Part { slot: Slot::Text, words }) if words.as_slice() == [0x6261].as_slice())
-    );
-    assert!(rt;
-        matches!(parts.next(), Some(Part { slot: Slot::Forward, words }) if words.as_slice() == [9].as_slice())
-    );
+    let model =
+        matches!(parts.next(), Some(Part { slot: Slot::Named(Enumeration::Model), words }) if is_one(&words, 5));
+    let main =
+        matches!(parts.next(), Some(Part { slot: Slot::Forward, words }) if is_one(&words, 4));
+    let name =
+        matches!(parts.next(), Some(Part { slot: Slot::Text, words }) if is_one(&words, 0x6261));
+    let interface =
+        matches!(parts.next(), Some(Part { slot: Slot::Forward, words }) if is_one(&words, 9));
+    assert_eq!(rt; [model, main, name, interface], [true; 4]);
     assert!(rt; parts.next().is_none());
 }
 

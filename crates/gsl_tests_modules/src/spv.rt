@@ -43,150 +43,175 @@ fn put_main(builder: &mut Builder) -> Result<u32, BuildRefusal> {
     Ok(main)
 }
 
-// The module of a shader with an empty `main`, whose words are worked out by hand.
-#[test]
-fn the_module_of_an_empty_main(rt: HostRuntime) -> Result<(), Fail> {
-    let mut builder = Builder::new(rt.alloc(), Stage::Compute)?;
+/// Whether the code of a module has these words.
+fn has_words(alloc: Global, module: &Module, words: &[u32]) -> Result<bool, Memory> {
+    let found = words_of(alloc, &module.instrs)?;
+    Ok(found.as_slice() == words)
+}
+
+/// The words of a shader with an empty `main`, worked out by hand.
+const EMPTY_MAIN: [u32; 30] = [
+    0x0002_0011,
+    1,
+    0x0003_000e,
+    0,
+    1,
+    0x0005_000f,
+    5,
+    1,
+    0x6e69_616d,
+    0,
+    0x0006_0010,
+    1,
+    17,
+    1,
+    1,
+    1,
+    0x0002_0013,
+    2,
+    0x0003_0021,
+    3,
+    2,
+    0x0005_0036,
+    2,
+    1,
+    0,
+    3,
+    0x0002_00f8,
+    4,
+    0x0001_00fd,
+    0x0001_0038,
+];
+
+fn module_of_an_empty_main(alloc: Global) -> Result<Module, Fail> {
+    let mut builder = Builder::new(alloc, Stage::Compute)?;
     let main = put_main(&mut builder)?;
     let module = finished(builder, main)?;
-    assert_eq!(rt; module.version, 0x0001_0000);
-    assert_eq!(rt; module.bound, 5);
-    let words = words_of(rt.alloc(), &module.instrs)?;
-    assert_eq!(rt;
-        words.as_slice(),
-        [
-            0x0002_0011,
-            1,
-            0x0003_000e,
-            0,
-            1,
-            0x0005_000f,
-            5,
-            1,
-            0x6e69_616d,
-            0,
-            0x0006_0010,
-            1,
-            17,
-            1,
-            1,
-            1,
-            0x0002_0013,
-            2,
-            0x0003_0021,
-            3,
-            2,
-            0x0005_0036,
-            2,
-            1,
-            0,
-            3,
-            0x0002_00f8,
-            4,
-            0x0001_00fd,
-            0x0001_0038
-        ]
-        .as_slice()
-    );
+    Ok(module)
+}
+
+#[test]
+fn the_module_of_an_empty_main(rt: HostRuntime) -> Result<(), Fail> {
+    let module = module_of_an_empty_main(rt.alloc())?;
+    assert_eq!(rt; (module.version, module.bound), (0x0001_0000, 5));
+    assert!(rt; has_words(rt.alloc(), &module, &EMPTY_MAIN)?);
     Ok(())
 }
 
 #[test]
 fn equal_types_have_one_id(rt: HostRuntime) -> Result<(), Fail> {
     let mut builder = Builder::new(rt.alloc(), Stage::Compute)?;
-    assert_eq!(rt; builder.plain_type(PlainType::Int(true)), Ok(1));
-    assert_eq!(rt; builder.plain_type(PlainType::Int(false)), Ok(2));
-    assert_eq!(rt; builder.plain_type(PlainType::Int(true)), Ok(1));
-    assert_eq!(rt; builder.plain_type(PlainType::Vector(1, 4)), Ok(3));
-    assert_eq!(rt; builder.plain_type(PlainType::Pointer(2, 3)), Ok(4));
-    assert_eq!(rt; builder.plain_type(PlainType::Pointer(3, 3)), Ok(5));
-    assert_eq!(rt; builder.plain_type(PlainType::Vector(1, 4)), Ok(3));
+    let ids = [
+        builder.plain_type(PlainType::Int(true)),
+        builder.plain_type(PlainType::Int(false)),
+        builder.plain_type(PlainType::Int(true)),
+        builder.plain_type(PlainType::Vector(1, 4)),
+        builder.plain_type(PlainType::Pointer(2, 3)),
+        builder.plain_type(PlainType::Pointer(3, 3)),
+        builder.plain_type(PlainType::Vector(1, 4)),
+    ];
+    assert_eq!(rt; ids, [Ok(1), Ok(2), Ok(1), Ok(3), Ok(4), Ok(5), Ok(3)]);
     Ok(())
 }
 
 #[test]
 fn types_of_functions_differ_by_their_parameters(rt: HostRuntime) -> Result<(), Fail> {
     let mut builder = Builder::new(rt.alloc(), Stage::Vertex)?;
-    assert_eq!(rt; builder.function_type(7, &[]), Ok(1));
-    assert_eq!(rt; builder.function_type(7, &[8, 9]), Ok(2));
-    assert_eq!(rt; builder.function_type(7, &[8, 9]), Ok(2));
-    assert_eq!(rt; builder.function_type(7, &[9, 8]), Ok(3));
+    let ids = [
+        builder.function_type(7, &[]),
+        builder.function_type(7, &[8, 9]),
+        builder.function_type(7, &[8, 9]),
+        builder.function_type(7, &[9, 8]),
+    ];
+    assert_eq!(rt; ids, [Ok(1), Ok(2), Ok(2), Ok(3)]);
     Ok(())
 }
 
 #[test]
 fn equal_constants_have_one_id(rt: HostRuntime) -> Result<(), Fail> {
     let mut builder = Builder::new(rt.alloc(), Stage::Compute)?;
-    assert_eq!(rt; builder.constant(PlainConst::True), Ok(2));
-    assert_eq!(rt; builder.constant(PlainConst::False), Ok(3));
-    assert_eq!(rt; builder.constant(PlainConst::Word(8, 0)), Ok(4));
-    assert_eq!(rt; builder.constant(PlainConst::Word(9, 0)), Ok(5));
-    assert_eq!(rt; builder.constant(PlainConst::Word(8, 0)), Ok(4));
-    assert_eq!(rt; builder.constant(PlainConst::Null(8)), Ok(6));
-    assert_eq!(rt; builder.constant(PlainConst::True), Ok(2));
+    let ids = [
+        builder.constant(PlainConst::True),
+        builder.constant(PlainConst::False),
+        builder.constant(PlainConst::Word(8, 0)),
+        builder.constant(PlainConst::Word(9, 0)),
+        builder.constant(PlainConst::Word(8, 0)),
+        builder.constant(PlainConst::Null(8)),
+        builder.constant(PlainConst::True),
+    ];
+    assert_eq!(rt; ids, [Ok(2), Ok(3), Ok(4), Ok(5), Ok(4), Ok(6), Ok(2)]);
     Ok(())
 }
 
 #[test]
 fn equal_composites_have_one_id(rt: HostRuntime) -> Result<(), Fail> {
     let mut builder = Builder::new(rt.alloc(), Stage::Compute)?;
-    assert_eq!(rt; builder.composite(8, &[9, 9]), Ok(1));
-    assert_eq!(rt; builder.composite(8, &[9, 10]), Ok(2));
-    assert_eq!(rt; builder.composite(7, &[9, 10]), Ok(3));
-    assert_eq!(rt; builder.composite(8, &[9, 9]), Ok(1));
+    let ids = [
+        builder.composite(8, &[9, 9]),
+        builder.composite(8, &[9, 10]),
+        builder.composite(7, &[9, 10]),
+        builder.composite(8, &[9, 9]),
+    ];
+    assert_eq!(rt; ids, [Ok(1), Ok(2), Ok(3), Ok(1)]);
     Ok(())
 }
 
 #[test]
 fn arrays_and_structures_are_new_each_time(rt: HostRuntime) -> Result<(), Fail> {
     let mut builder = Builder::new(rt.alloc(), Stage::Compute)?;
-    assert_eq!(rt; builder.array_type(8, 9, Some(16)), Ok(1));
-    assert_eq!(rt; builder.array_type(8, 9, None), Ok(2));
-    assert_eq!(rt; builder.runtime_type(8, 4), Ok(3));
-    assert_eq!(rt; builder.struct_type(&[8, 8]), Ok(4));
-    assert_eq!(rt; builder.struct_type(&[8, 8]), Ok(5));
+    let ids = [
+        builder.array_type(8, 9, Some(16)),
+        builder.array_type(8, 9, None),
+        builder.runtime_type(8, 4),
+        builder.struct_type(&[8, 8]),
+        builder.struct_type(&[8, 8]),
+    ];
+    assert_eq!(rt; ids, [Ok(1), Ok(2), Ok(3), Ok(4), Ok(5)]);
     Ok(())
+}
+
+/// The words of a module with two arrays, worked out by hand.
+const STRIDES: [u32; 25] = [
+    0x0002_0011,
+    1,
+    0x0003_000e,
+    0,
+    1,
+    0x0005_000f,
+    0,
+    7,
+    0x6e69_616d,
+    0,
+    0x0004_0047,
+    1,
+    6,
+    16,
+    0x0004_0047,
+    2,
+    6,
+    4,
+    0x0004_001c,
+    1,
+    8,
+    9,
+    0x0003_001d,
+    2,
+    8,
+];
+
+fn module_of_strides(alloc: Global) -> Result<Module, Fail> {
+    let mut builder = Builder::new_for(alloc, Stage::Vertex, Target::V13)?;
+    builder.array_type(8, 9, Some(16))?;
+    builder.runtime_type(8, 4)?;
+    let module = finished(builder, 7)?;
+    Ok(module)
 }
 
 #[test]
 fn strides_are_decorations(rt: HostRuntime) -> Result<(), Fail> {
-    let mut builder = Builder::new_for(rt.alloc(), Stage::Vertex, Target::V13)?;
-    builder.array_type(8, 9, Some(16))?;
-    builder.runtime_type(8, 4)?;
-    let module = finished(builder, 7)?;
+    let module = module_of_strides(rt.alloc())?;
     assert_eq!(rt; module.version, 0x0001_0300);
-    let words = words_of(rt.alloc(), &module.instrs)?;
-    assert_eq!(rt;
-        words.as_slice(),
-        [
-            0x0002_0011,
-            1,
-            0x0003_000e,
-            0,
-            1,
-            0x0005_000f,
-            0,
-            7,
-            0x6e69_616d,
-            0,
-            0x0004_0047,
-            1,
-            6,
-            16,
-            0x0004_0047,
-            2,
-            6,
-            4,
-            0x0004_001c,
-            1,
-            8,
-            9,
-            0x0003_001d,
-            2,
-            8
-        ]
-        .as_slice()
-    );
+    assert!(rt; has_words(rt.alloc(), &module, &STRIDES)?);
     Ok(())
 }
 
@@ -204,88 +229,98 @@ fn put_out_of_order(alloc: Global, builder: &mut Builder) -> Result<(), BuildRef
     Ok(())
 }
 
+/// The words of a module with each of them in its section, worked out by hand.
+const SECTIONS: [u32; 50] = [
+    0x0002_0011,
+    1,
+    0x0006_000b,
+    3,
+    0x4c53_4c47,
+    0x6474_732e,
+    0x3035_342e,
+    0,
+    0x0003_000e,
+    0,
+    1,
+    0x0007_000f,
+    4,
+    7,
+    0x6e69_616d,
+    0,
+    1,
+    4,
+    0x0003_0010,
+    7,
+    7,
+    0x0003_0005,
+    6,
+    0x61,
+    0x0004_0006,
+    6,
+    1,
+    0x62,
+    0x0003_0047,
+    6,
+    14,
+    0x0005_0048,
+    6,
+    1,
+    35,
+    4,
+    0x0004_003b,
+    8,
+    1,
+    1,
+    0x0005_003b,
+    8,
+    2,
+    6,
+    9,
+    0x0005_003b,
+    8,
+    4,
+    3,
+    9,
+];
+
+fn module_of_sections(alloc: Global) -> Result<Module, Fail> {
+    let mut builder = Builder::new(alloc, Stage::Fragment)?;
+    put_out_of_order(alloc, &mut builder)?;
+    let module = finished(builder, 7)?;
+    Ok(module)
+}
+
 #[test]
 fn each_instruction_stands_in_its_section(rt: HostRuntime) -> Result<(), Fail> {
-    let mut builder = Builder::new(rt.alloc(), Stage::Fragment)?;
-    put_out_of_order(rt.alloc(), &mut builder)?;
-    let module = finished(builder, 7)?;
+    let module = module_of_sections(rt.alloc())?;
     assert_eq!(rt; module.bound, 5);
-    let words = words_of(rt.alloc(), &module.instrs)?;
-    assert_eq!(rt;
-        words.as_slice(),
-        [
-            0x0002_0011,
-            1,
-            0x0006_000b,
-            3,
-            0x4c53_4c47,
-            0x6474_732e,
-            0x3035_342e,
-            0,
-            0x0003_000e,
-            0,
-            1,
-            0x0007_000f,
-            4,
-            7,
-            0x6e69_616d,
-            0,
-            1,
-            4,
-            0x0003_0010,
-            7,
-            7,
-            0x0003_0005,
-            6,
-            0x61,
-            0x0004_0006,
-            6,
-            1,
-            0x62,
-            0x0003_0047,
-            6,
-            14,
-            0x0005_0048,
-            6,
-            1,
-            35,
-            4,
-            0x0004_003b,
-            8,
-            1,
-            1,
-            0x0005_003b,
-            8,
-            2,
-            6,
-            9,
-            0x0005_003b,
-            8,
-            4,
-            3,
-            9
-        ]
-        .as_slice()
-    );
+    assert!(rt; has_words(rt.alloc(), &module, &SECTIONS)?);
     Ok(())
+}
+
+/// Takes all ids that are left behind the first, and gives the last.
+fn take_ids(builder: &mut Builder) -> Result<u32, BuildRefusal> {
+    let mut last = 1;
+    for _ in 1..MOST_IDS {
+        last = builder.id()?;
+    }
+    Ok(last)
 }
 
 #[test]
 fn ids_end(rt: HostRuntime) -> Result<(), Fail> {
     let mut builder = Builder::new(rt.alloc(), Stage::Compute)?;
-    assert_eq!(rt; builder.plain_type(PlainType::Void), Ok(1));
-    let mut last = 1;
-    for _ in 1..MOST_IDS {
-        last = builder.id()?;
-    }
-    assert_eq!(rt; last, 4_194_302);
-    assert_eq!(rt; builder.id(), Err(BuildRefusal::TooManyIds));
-    assert_eq!(rt;
+    let first = builder.plain_type(PlainType::Void);
+    let last = take_ids(&mut builder);
+    assert_eq!(rt; [first, last], [Ok(1), Ok(4_194_302)]);
+    let behind = [
+        builder.id(),
         builder.plain_type(PlainType::Bool),
-        Err(BuildRefusal::TooManyIds)
-    );
-    assert_eq!(rt; builder.glsl_set(), Err(BuildRefusal::TooManyIds));
-    assert_eq!(rt; builder.plain_type(PlainType::Void), Ok(1));
+        builder.glsl_set(),
+        builder.plain_type(PlainType::Void),
+    ];
+    let none = Err(BuildRefusal::TooManyIds);
+    assert_eq!(rt; behind, [none, none, none, Ok(1)]);
     assert_eq!(rt; builder.put(op::RETURN, &[]), Ok(()));
     Ok(())
 }

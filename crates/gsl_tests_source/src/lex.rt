@@ -10,11 +10,16 @@ fn shown(alloc: Global, source: &[u8]) -> Result<Text, Refusal> {
     }
     let raws = lex(alloc, 0, source)?;
     let mut text = Text::new(alloc);
-    for raw in raws.as_slice() {
-        show_space(&mut text, raw)?;
-        show_kind(&mut text, &raw.kind)?;
-    }
+    show(&mut text, raws.as_slice())?;
     Ok(text)
+}
+
+fn show(text: &mut Text, raws: &[Raw]) -> Result<(), Memory> {
+    for raw in raws {
+        show_space(text, raw)?;
+        show_kind(text, &raw.kind)?;
+    }
+    Ok(())
 }
 
 fn show_space(text: &mut Text, raw: &Raw) -> Result<(), Memory> {

@@ -12,20 +12,29 @@ fn table(alloc: Global) -> Result<Table, Memory> {
     Ok(table)
 }
 
-/// The kinds of the tokens that raw tokens give, with so much left of the count.
-fn drawn(alloc: Global, raws: &[Raw], left: u32) -> Result<List<Kind>, Refusal> {
-    let macros = Macros {
+/// The table in which `A` is 3, for the first line.
+fn macros(alloc: Global) -> Result<Macros, Memory> {
+    Ok(Macros {
         table: table(alloc)?,
         shift: Shift {
             after: 0,
             number: 1,
             file: 0,
         },
-    };
+    })
+}
+
+/// The kinds of the tokens that raw tokens give, with so much left of the count.
+fn drawn(alloc: Global, raws: &[Raw], left: u32) -> Result<List<Kind>, Refusal> {
+    let macros = macros(alloc)?;
+    let tokens = replaced(alloc, &macros, raws, left)?;
+    kinds(alloc, tokens.as_slice())
+}
+
+fn replaced(alloc: Global, macros: &Macros, raws: &[Raw], left: u32) -> Result<List<Hid>, Refusal> {
     let mut left = left;
     let mut stream = Stream::new(alloc, Unread::copy_of(alloc, raws)?);
-    let tokens = all(alloc, &macros, 2, &mut stream, &mut left)?;
-    kinds(alloc, tokens.as_slice())
+    all(alloc, macros, 2, &mut stream, &mut left)
 }
 
 /// The kinds of the tokens that a text gives, where `A` is 3, with so much left of the count.
@@ -46,16 +55,25 @@ fn kinds(alloc: Global, tokens: &[Hid]) -> Result<List<Kind>, Refusal> {
     Ok(kinds)
 }
 
+/// Whether these are two literals of 3 and 4.
+fn are_three_and_four(kinds: &List<Kind>) -> bool {
+    matches!(kinds.as_slice(), [Kind::Signed(3), Kind::Signed(4)])
+}
+
 #[test]
 fn a_number_is_put(rt: HostRuntime) -> Result<(), Fail> {
-    let alloc = rt.alloc();
-    let found = given(alloc, "A 4", 4)?;
-    assert!(rt; found.as_slice() == [Kind::Signed(3), Kind::Signed(4)].as_slice());
-    let place = Place { unit: 0, line: 1 };
+    let found = given(rt.alloc(), "A 4", 4)?;
+    assert!(rt; are_three_and_four(&found));
+    Ok(())
+}
+
+#[test]
+fn the_count_may_be_spent(rt: HostRuntime) {
     let fault = Fault {
-        place,
+        place: Place { unit: 0, line: 1 },
         code: Code::E0901,
     };
-    assert!(rt; matches!(given(alloc, "A 4", 3), Err(Refusal::Source(found)) if found == fault));
-    Ok(())
+    assert!(rt;
+        matches!(given(rt.alloc(), "A 4", 3), Err(Refusal::Source(found)) if found == fault)
+    );
 }

@@ -4,8 +4,6 @@
 #[cfg(test)]
 mod compute;
 #[cfg(test)]
-mod fold;
-#[cfg(test)]
 mod layout;
 #[cfg(test)]
 mod link;
@@ -15,7 +13,5 @@ mod meaning;
 mod names;
 #[cfg(test)]
 mod overload;
-#[cfg(test)]
-mod types;
 #[cfg(test)]
 mod values;

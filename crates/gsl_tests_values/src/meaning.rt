@@ -4,10 +4,9 @@ use gsl_tree::{Block, BlockKind, Program};
 use std::alloc::Global;
 use std::test::Fail;
 
-// A compute shader with one storage buffer at set 0 and binding 3, of which it needs 8 bytes.
-fn program(alloc: Global) -> Result<Program, Memory> {
-    let mut blocks = List::new(alloc);
-    blocks.push(Block {
+// A storage buffer at set 0 and binding 3, which needs 8 bytes.
+fn block(alloc: Global) -> Result<Block, Memory> {
+    Ok(Block {
         name: Text::from_str(alloc, "B")?,
         instance: None,
         kind: BlockKind::Buffer,
@@ -17,7 +16,18 @@ fn program(alloc: Global) -> Result<Program, Memory> {
         members: List::new(alloc),
         need: 8,
         place: Place { unit: 0, line: 1 },
-    })?;
+    })
+}
+
+fn blocks(alloc: Global) -> Result<List<Block>, Memory> {
+    let mut blocks = List::new(alloc);
+    blocks.push(block(alloc)?)?;
+    Ok(blocks)
+}
+
+// A compute shader with this block.
+fn program(alloc: Global) -> Result<Program, Memory> {
+    let blocks = blocks(alloc)?;
     Ok(Program {
         stage: Stage::Compute,
         structs: List::new(alloc),

@@ -1,44 +1,21 @@
-ghost use Rattle.std.specs.Prelude.{◌≡◌, []};
-
 use gsl_base::List;
 use gsl_values::{
     BinaryOp, Choices, Lanes, Value, clamp_within, field_put_back, lanes, lanes_in_order,
     quotient_and_rest, reversed_twice, words_and_numbers,
 };
-use std::alloc::Global;
 use std::test::Fail;
-
-mod functions;
-mod operators;
-
-const LEAST: u32 = 0x8000_0000;
-
-const GREATEST: u32 = 0x7fff_ffff;
-
-const ONES: u32 = 0xffff_ffff;
-
-/// No choices.
-fn none(alloc: Global) -> Choices
-    ensures { result ≡ [] }
-{
-    Choices::new(List::new(alloc))
-}
 
 #[test]
 fn choices_are_drawn_in_order(rt: HostRuntime) -> Result<(), Fail> {
     let mut choices = Choices::new(List::from_slice(rt.alloc(), &[5, 8])?);
-    assert_eq!(rt; choices.left(), 2);
-    assert_eq!(rt; choices.next(), 5);
-    assert_eq!(rt; choices.next(), 8);
-    assert_eq!(rt; choices.left(), 0);
-    assert_eq!(rt; choices.next(), 0);
-    assert_eq!(rt; choices.left(), 0);
+    let left = choices.left();
+    let first = [choices.next(), choices.next(), choices.left()];
+    let behind = [choices.next(), choices.left()];
+    assert_eq!(rt; (left, first, behind), (2, [5, 8, 0], [0, 0]));
     Ok(())
 }
 
-#[test]
-fn components_draw_from_the_lowest_on(rt: HostRuntime) -> Result<(), Fail> {
-    let mut choices = Choices::new(List::from_slice(rt.alloc(), &[5, 8])?);
+fn quotients(choices: &mut Choices) -> Lanes {
     let a = Lanes {
         words: [7, 9, 11, 0],
         count: 3,
@@ -47,14 +24,12 @@ fn components_draw_from_the_lowest_on(rt: HostRuntime) -> Result<(), Fail> {
         words: [0, 2, 0, 0],
         count: 3,
     };
-    let quotients = Lanes {
-        words: [5, 4, 8, 0],
-        count: 3,
-    };
-    assert_eq!(rt; lanes(BinaryOp::Div, true, &a, &b, &mut choices), quotients);
-    assert_eq!(rt; choices.left(), 0);
-    // What stands past the last component is not looked at.
-    let shifted = Lanes {
+    lanes(BinaryOp::Div, true, &a, &b, choices)
+}
+
+// What stands past the last component is not looked at.
+fn shifted(choices: &mut Choices) -> Lanes {
+    let a = Lanes {
         words: [7, 3, 3, 3],
         count: 1,
     };
@@ -62,14 +37,20 @@ fn components_draw_from_the_lowest_on(rt: HostRuntime) -> Result<(), Fail> {
         words: [1, 40, 40, 40],
         count: 1,
     };
-    let left = Lanes {
-        words: [14, 0, 0, 0],
-        count: 1,
-    };
+    lanes(BinaryOp::Shl, false, &a, &by, choices)
+}
+
+#[test]
+fn components_draw_from_the_lowest_on(rt: HostRuntime) -> Result<(), Fail> {
+    let mut choices = Choices::new(List::from_slice(rt.alloc(), &[5, 8])?);
+    let quotients = quotients(&mut choices);
+    let left = choices.left();
+    let shifted = shifted(&mut choices);
     assert_eq!(rt;
-        lanes(BinaryOp::Shl, false, &shifted, &by, &mut choices),
-        left
+        (quotients.words, quotients.count, left),
+        ([5, 4, 8, 0], 3, 0)
     );
+    assert_eq!(rt; (shifted.words, shifted.count), ([14, 0, 0, 0], 1));
     Ok(())
 }
 
