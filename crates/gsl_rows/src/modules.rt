@@ -2,10 +2,9 @@
 
 ghost use Rattle.gsl_words.specs.Instructions.{HasFile};
 
-use crate::running::{dump, stream, words};
+use crate::running::{dump, run_line, stream};
 use gsl_asm::{AsmFault, assemble, show};
 use gsl_base::{Bytes, Memory, Text};
-use gsl_cmd::glsl_main;
 use gsl_host::MemHost;
 use gsl_outline::{Done, Outline};
 use gsl_words::{Module, WordFault, decode, encode};
@@ -20,13 +19,17 @@ pub fn assembled(alloc: Global, out: &mut Outline, text: &[u8]) -> Done {
         return Err(Memory);
     }
     match assemble(alloc, text) {
-        Ok(module) => {
-            put_file(alloc, out, &module)?;
-            put_shown(alloc, out, &module, text)
-        }
+        Ok(module) => put_module(alloc, out, &module, text),
         Err(AsmFault::Line(line)) => wrong_line(out, line),
         Err(AsmFault::Memory) => Err(Memory),
     }
+}
+
+fn put_module(alloc: Global, out: &mut Outline, module: &Module, text: &[u8]) -> Done
+    requires { HasFile «module».now }
+{
+    put_file(alloc, out, module)?;
+    put_shown(alloc, out, module, text)
 }
 
 fn put_file(alloc: Global, out: &mut Outline, module: &Module) -> Done
@@ -41,14 +44,17 @@ fn put_shown(alloc: Global, out: &mut Outline, module: &Module, text: &[u8]) -> 
     requires { HasFile «module».now }
 {
     let shown = shown(alloc, module)?;
-    let alike = shown.as_slice() == text;
+    let back = reads_back(alloc, module, shown.as_slice());
+    put_alike(out, shown.as_slice() == text, back)
+}
+
+fn put_alike(out: &mut Outline, alike: bool, back: Result<bool, Memory>) -> Done {
     out.put(if alike {
         "shown as it stands"
     } else {
         "shown otherwise"
     })?;
-    let back = reads_back(alloc, module, shown.as_slice())?;
-    out.put(if back {
+    out.put(if back? {
         ", read back\n"
     } else {
         ", NOT READ BACK\n"
@@ -72,14 +78,26 @@ fn reads_back(alloc: Global, module: &Module, text: &[u8]) -> Result<bool, Memor
         return Err(Memory);
     }
     match assemble(alloc, text) {
-        Ok(again) => {
-            let file = file_of(alloc, module)?;
-            let other = file_of(alloc, &again)?;
-            Ok(file.as_slice() == other.as_slice())
-        }
+        Ok(again) => is_same(alloc, module, &again),
         Err(AsmFault::Line(_)) => Ok(false),
         Err(AsmFault::Memory) => Err(Memory),
     }
+}
+
+/// Whether two modules have the same file.
+fn is_same(alloc: Global, module: &Module, again: &Module) -> Result<bool, Memory>
+    requires first { HasFile «module».now }
+    requires second { HasFile again.now }
+{
+    let file = file_of(alloc, module)?;
+    has_file(alloc, again, file.as_slice())
+}
+
+fn has_file(alloc: Global, module: &Module, bytes: &[u8]) -> Result<bool, Memory>
+    requires { HasFile «module».now }
+{
+    let file = file_of(alloc, module)?;
+    Ok(file.as_slice() == bytes)
 }
 
 fn file_of(alloc: Global, module: &Module) -> Result<Bytes, Memory>
@@ -96,13 +114,23 @@ pub fn decoded(alloc: Global, out: &mut Outline, bytes: &[u8]) -> Done {
         return Err(Memory);
     }
     match decode(alloc, bytes) {
-        Ok(module) => {
-            let text = shown(alloc, &module)?;
-            stream(out, "shown | ", text.as_slice())?;
-            put_shown(alloc, out, &module, text.as_slice())
-        }
+        Ok(module) => put_text(alloc, out, &module),
         Err(fault) => faulty(out, fault),
     }
+}
+
+fn put_text(alloc: Global, out: &mut Outline, module: &Module) -> Done
+    requires { HasFile «module».now }
+{
+    let text = shown(alloc, module)?;
+    put_lines(alloc, out, module, text.as_slice())
+}
+
+fn put_lines(alloc: Global, out: &mut Outline, module: &Module, text: &[u8]) -> Done
+    requires { HasFile «module».now }
+{
+    stream(out, "shown | ", text)?;
+    put_shown(alloc, out, module, text)
 }
 
 /// Prints what `check` tells of the file of a text's module, or the line that is wrong.
@@ -111,19 +139,34 @@ pub fn checked(alloc: Global, out: &mut Outline, text: &[u8]) -> Done {
         return Err(Memory);
     }
     match assemble(alloc, text) {
-        Ok(module) => put_checked(alloc, out, file_of(alloc, &module)?.as_slice()),
+        Ok(module) => check_module(alloc, out, &module),
         Err(AsmFault::Line(line)) => wrong_line(out, line),
         Err(AsmFault::Memory) => Err(Memory),
     }
 }
 
+fn check_module(alloc: Global, out: &mut Outline, module: &Module) -> Done
+    requires { HasFile «module».now }
+{
+    let file = file_of(alloc, module)?;
+    put_checked(alloc, out, file.as_slice())
+}
+
 fn put_checked(alloc: Global, out: &mut Outline, file: &[u8]) -> Done {
     let mut host = MemHost::new(alloc, &[])?;
-    host.put_file(&Text::from_str(alloc, "module")?, file)?;
-    let line = words(alloc, "check module")?;
-    let _status = glsl_main(alloc, &line, &mut host);
+    check_over(alloc, out, file, &mut host)
+}
+
+fn check_over(alloc: Global, out: &mut Outline, file: &[u8], host: &mut MemHost) -> Done {
+    set_module(alloc, host, file)?;
+    let _status = run_line(alloc, "check module", host)?;
     stream(out, "out | ", host.out())?;
     stream(out, "err | ", host.err())
+}
+
+fn set_module(alloc: Global, host: &mut MemHost, file: &[u8]) -> Done {
+    let name = Text::from_str(alloc, "module")?;
+    host.put_file(&name, file)
 }
 
 fn wrong_line(out: &mut Outline, line: u32) -> Done {

@@ -39,27 +39,28 @@ fn first_word(line: &str) -> (&str, &str) {
 /// The cases of a text, in their order.
 pub fn read_cases(alloc: Global, text: &str) -> Result<Vec<Case>, Misread> {
     let mut cases = Vec::new(alloc);
-    let mut open: Option<Case> = None;
     let mut number = 0u32;
     for line in text.lines() {
         number = number.saturating_add(1);
-        let (word, rest) = first_word(line);
-        if word == "case" {
-            let next = Case::new(alloc, number, rest)?;
-            if let Some(done) = open.replace(next) {
-                cases.push(done)?;
-            }
-        } else if !line.is_empty() && !line.starts_with('#') {
-            match &mut open {
-                Some(case) => take(alloc, case, word, rest, number)?,
-                None => return Err(Misread::Line(number)),
-            }
-        }
-    }
-    if let Some(done) = open {
-        cases.push(done)?;
+        read_line(alloc, &mut cases, line, number)?;
     }
     Ok(cases)
+}
+
+/// Reads a line: it begins a case, is one of the last case, or says nothing.
+fn read_line(alloc: Global, cases: &mut Vec<Case>, line: &str, number: u32) -> Result<(), Misread> {
+    let (word, rest) = first_word(line);
+    if word == "case" {
+        cases.push(Case::new(alloc, number, rest)?)?;
+        return Ok(());
+    }
+    if line.is_empty() || line.starts_with('#') {
+        return Ok(());
+    }
+    match cases.last_mut() {
+        Some(case) => take(alloc, case, word, rest, number),
+        None => Err(Misread::Line(number)),
+    }
 }
 
 /// What is done with a case, by the word of its line.
@@ -87,30 +88,48 @@ fn take(
     rest: &str,
     number: u32,
 ) -> Result<(), Misread> {
-    if let Some(kind) = kind_of(word) {
-        case.kind = kind;
-        case.words = String::from_str(alloc, rest)?;
-        return Ok(());
+    match kind_of(word) {
+        Some(kind) => take_kind(alloc, case, kind, rest),
+        None => take_line(alloc, case, word, rest, number),
     }
+}
+
+fn take_kind(alloc: Global, case: &mut Case, kind: Kind, rest: &str) -> Result<(), Misread> {
+    let words = String::from_str(alloc, rest)?;
+    case.kind = kind;
+    case.words = words;
+    Ok(())
+}
+
+fn take_line(
+    alloc: Global,
+    case: &mut Case,
+    word: &str,
+    rest: &str,
+    number: u32,
+) -> Result<(), Misread> {
     match word {
-        "show" => {
-            case.shown.push(String::from_str(alloc, rest)?)?;
-            Ok(())
-        }
-        "each" => {
-            case.each.push(String::from_str(alloc, rest)?)?;
-            Ok(())
-        }
+        "show" => put_text(alloc, &mut case.shown, rest),
+        "each" => put_text(alloc, &mut case.each, rest),
         "fail" => take_fail(case, rest, number),
         "buffer" => take_buffer(alloc, case, rest, number),
         "file" => new_file(alloc, case, rest),
-        "shader" => {
-            new_file(alloc, case, rest)?;
-            let head = "#version 450\nlayout(local_size_x = 1) in;";
-            piece(alloc, case, Piece::Line, head, number)
-        }
+        "shader" => new_shader(alloc, case, rest, number),
         _ => take_piece(alloc, case, word, rest, number),
     }
+}
+
+fn put_text(alloc: Global, texts: &mut Vec<String>, text: &str) -> Result<(), Misread> {
+    let text = String::from_str(alloc, text)?;
+    texts.push(text)?;
+    Ok(())
+}
+
+/// Begins a file with the first two lines of a shader.
+fn new_shader(alloc: Global, case: &mut Case, name: &str, number: u32) -> Result<(), Misread> {
+    new_file(alloc, case, name)?;
+    let head = "#version 450\nlayout(local_size_x = 1) in;";
+    piece(alloc, case, Piece::Line, head, number)
 }
 
 fn take_fail(case: &mut Case, rest: &str, number: u32) -> Result<(), Misread> {
@@ -151,13 +170,29 @@ fn piece(
     text: &str,
     number: u32,
 ) -> Result<(), Misread> {
-    let text = String::from_str(alloc, text)?;
     match case.files.last_mut() {
-        Some(file) => {
-            file.pieces.push((what, text))?;
-            Ok(())
-        }
+        Some(file) => put_piece(alloc, file, what, text),
         None => Err(Misread::Line(number)),
+    }
+}
+
+fn put_piece(alloc: Global, file: &mut File, what: Piece, text: &str) -> Result<(), Misread> {
+    let text = String::from_str(alloc, text)?;
+    file.pieces.push((what, text))?;
+    Ok(())
+}
+
+/// The piece that a line of a file's text is alone, by the line's first word.
+fn piece_of(word: &str) -> Option<Piece> {
+    match word {
+        "|" | "top" => Some(Piece::Line),
+        ">" => Some(Piece::Text),
+        "bytes" => Some(Piece::Bytes),
+        "words" => Some(Piece::Words),
+        "times" => Some(Piece::Times),
+        "count" => Some(Piece::Count),
+        "down" => Some(Piece::Down),
+        _ => None,
     }
 }
 
@@ -169,26 +204,23 @@ fn take_piece(
     rest: &str,
     number: u32,
 ) -> Result<(), Misread> {
+    if let Some(what) = piece_of(word) {
+        return piece(alloc, case, what, rest, number);
+    }
     match word {
-        "|" => piece(alloc, case, Piece::Line, rest, number),
-        ">" => piece(alloc, case, Piece::Text, rest, number),
-        "bytes" => piece(alloc, case, Piece::Bytes, rest, number),
-        "words" => piece(alloc, case, Piece::Words, rest, number),
-        "top" => piece(alloc, case, Piece::Line, rest, number),
         "members" => {
             let block = "layout(set = 0, binding = 0, std430) buffer B { ";
-            piece(alloc, case, Piece::Text, block, number)?;
-            piece(alloc, case, Piece::Text, rest, number)?;
-            piece(alloc, case, Piece::Line, " };", number)
+            around(alloc, case, [block, rest, " };"], number)
         }
-        "statements" => {
-            piece(alloc, case, Piece::Text, "void main() { ", number)?;
-            piece(alloc, case, Piece::Text, rest, number)?;
-            piece(alloc, case, Piece::Line, " }", number)
-        }
-        "times" => piece(alloc, case, Piece::Times, rest, number),
-        "count" => piece(alloc, case, Piece::Count, rest, number),
-        "down" => piece(alloc, case, Piece::Down, rest, number),
+        "statements" => around(alloc, case, ["void main() { ", rest, " }"], number),
         _ => Err(Misread::Line(number)),
     }
+}
+
+/// Puts three texts in one line.
+fn around(alloc: Global, case: &mut Case, texts: [&str; 3], number: u32) -> Result<(), Misread> {
+    let [front, middle, end] = texts;
+    piece(alloc, case, Piece::Text, front, number)?;
+    piece(alloc, case, Piece::Text, middle, number)?;
+    piece(alloc, case, Piece::Line, end, number)
 }

@@ -1,6 +1,6 @@
 //! Running a case, and printing what came.
 
-use crate::case::{Case, Kind};
+use crate::case::{Case, File, Kind};
 use crate::modules::{assembled, checked, decoded};
 use crate::sides::sides;
 use crate::sources::{places, stages, tokens, tree};
@@ -29,20 +29,26 @@ pub fn run_case(alloc: Global, out: &mut Outline, case: &Case) -> Done {
 }
 
 fn run_one(alloc: Global, out: &mut Outline, case: &Case, each: &str) -> Done {
+    if case.kind == Kind::Run {
+        return run_words(alloc, out, case, each);
+    }
+    let text = source(alloc, case, each)?;
+    run_text(alloc, out, case, text.as_slice())
+}
+
+/// Does with the text of the case's first file what the case asks.
+fn run_text(alloc: Global, out: &mut Outline, case: &Case, text: &[u8]) -> Done {
     match case.kind {
-        Kind::Run => run_words(alloc, out, case, each),
-        Kind::Tree => tree(alloc, out, source(alloc, case, each)?.as_slice(), true),
-        Kind::Parsed => tree(alloc, out, source(alloc, case, each)?.as_slice(), false),
-        Kind::Tokens => tokens(alloc, out, source(alloc, case, each)?.as_slice()),
-        Kind::Places => places(alloc, out, source(alloc, case, each)?.as_slice()),
-        Kind::Asm => assembled(alloc, out, source(alloc, case, each)?.as_slice()),
-        Kind::Decode => decoded(alloc, out, source(alloc, case, each)?.as_slice()),
-        Kind::Check => checked(alloc, out, source(alloc, case, each)?.as_slice()),
-        Kind::Stages => stages(alloc, out, source(alloc, case, each)?.as_slice()),
-        Kind::Sides => {
-            let text = source(alloc, case, each)?;
-            sides(alloc, out, text.as_slice(), &case.buffer)
-        }
+        Kind::Run => Ok(()),
+        Kind::Tree => tree(alloc, out, text, true),
+        Kind::Parsed => tree(alloc, out, text, false),
+        Kind::Tokens => tokens(alloc, out, text),
+        Kind::Places => places(alloc, out, text),
+        Kind::Asm => assembled(alloc, out, text),
+        Kind::Decode => decoded(alloc, out, text),
+        Kind::Check => checked(alloc, out, text),
+        Kind::Stages => stages(alloc, out, text),
+        Kind::Sides => sides(alloc, out, text, &case.buffer),
     }
 }
 
@@ -55,7 +61,7 @@ fn source(alloc: Global, case: &Case, each: &str) -> Result<Bytes, Memory> {
 }
 
 /// The words of a command line, the program's name first.
-pub fn words(alloc: Global, line: &str) -> Result<Words, Memory> {
+fn words(alloc: Global, line: &str) -> Result<Words, Memory> {
     let mut all = Words::new(alloc);
     all.push(Text::from_str(alloc, "gsl")?)?;
     for word in line.split_whitespace() {
@@ -67,19 +73,47 @@ pub fn words(alloc: Global, line: &str) -> Result<Words, Memory> {
 /// Runs the words over a host that has the case's files.
 fn run_words(alloc: Global, out: &mut Outline, case: &Case, each: &str) -> Done {
     let mut host = MemHost::new(alloc, case.fail.as_slice())?;
+    run_over(alloc, out, case, each, &mut host)
+}
+
+fn run_over(alloc: Global, out: &mut Outline, case: &Case, each: &str, host: &mut MemHost) -> Done {
     for file in &case.files {
-        let bytes = bytes_of(alloc, file, each)?;
-        host.put_file(
-            &Text::from_str(alloc, file.name.as_str())?,
-            bytes.as_slice(),
-        )?;
+        set(alloc, host, file, each)?;
     }
-    let line = filled(alloc, case.words.as_str(), "<each>", each)?;
-    let words = words(alloc, line.as_str())?;
-    let status = glsl_main(alloc, &words, &mut host);
+    let status = status_of(alloc, case, each, host)?;
     out.put("status ")?;
     out.number(u64::from(status))?;
     out.end_line()?;
+    told(out, host)?;
+    changed(alloc, out, case, each, host)?;
+    shown(alloc, out, case, host)
+}
+
+/// Sets a file of the case.
+fn set(alloc: Global, host: &mut MemHost, file: &File, each: &str) -> Done {
+    let bytes = bytes_of(alloc, file, each)?;
+    put_file(alloc, host, file.name.as_str(), bytes.as_slice())
+}
+
+fn put_file(alloc: Global, host: &mut MemHost, name: &str, bytes: &[u8]) -> Done {
+    let name = Text::from_str(alloc, name)?;
+    host.put_file(&name, bytes)
+}
+
+/// The status of the case's command line.
+fn status_of(alloc: Global, case: &Case, each: &str, host: &mut MemHost) -> Result<u8, Memory> {
+    let line = filled(alloc, case.words.as_str(), "<each>", each)?;
+    run_line(alloc, line.as_str(), host)
+}
+
+/// The status of a command line.
+pub fn run_line(alloc: Global, line: &str, host: &mut MemHost) -> Result<u8, Memory> {
+    let words = words(alloc, line)?;
+    Ok(glsl_main(alloc, &words, host))
+}
+
+/// What was printed, and how many calls failed.
+fn told(out: &mut Outline, host: &MemHost) -> Done {
     stream(out, "out | ", host.out())?;
     stream(out, "err | ", host.err())?;
     if host.faults() > 0 {
@@ -87,8 +121,7 @@ fn run_words(alloc: Global, out: &mut Outline, case: &Case, each: &str) -> Done 
         out.number(host.faults())?;
         out.end_line()?;
     }
-    changed(alloc, out, case, each, &host)?;
-    shown(alloc, out, case, &host)
+    Ok(())
 }
 
 /// The lines of a stream, each behind its name.
@@ -125,9 +158,7 @@ fn stream_byte(out: &mut Outline, byte: u8) -> Done {
 /// Tells of each file of the case that is no longer as it was.
 fn changed(alloc: Global, out: &mut Outline, case: &Case, each: &str, host: &MemHost) -> Done {
     for file in &case.files {
-        let before = bytes_of(alloc, file, each)?;
-        let name = Text::from_str(alloc, file.name.as_str())?;
-        if host.file(&name) != Some(before.as_slice()) {
+        if is_changed(alloc, file, each, host)? {
             out.put("changed ")?;
             out.put(file.name.as_str())?;
             out.end_line()?;
@@ -136,24 +167,38 @@ fn changed(alloc: Global, out: &mut Outline, case: &Case, each: &str, host: &Mem
     Ok(())
 }
 
+fn is_changed(alloc: Global, file: &File, each: &str, host: &MemHost) -> Result<bool, Memory> {
+    let before = bytes_of(alloc, file, each)?;
+    let now = found(alloc, host, file.name.as_str())?;
+    Ok(now != Some(before.as_slice()))
+}
+
+/// The bytes of a file of the host.
+fn found<'a>(alloc: Global, host: &'a MemHost, name: &str) -> Result<Option<&'a [u8]>, Memory> {
+    let name = Text::from_str(alloc, name)?;
+    Ok(host.file(&name))
+}
+
 /// Prints the files that the case names: the lines of a text, and else words and the bytes left over.
 fn shown(alloc: Global, out: &mut Outline, case: &Case, host: &MemHost) -> Done {
     for name in &case.shown {
         out.put("file ")?;
         out.put(name.as_str())?;
-        match host.file(&Text::from_str(alloc, name.as_str())?) {
+        match found(alloc, host, name.as_str())? {
             None => out.put(" none\n")?,
-            Some(bytes) => {
-                out.end_line()?;
-                if bytes.iter().all(is_plain) {
-                    stream(out, "  | ", bytes)?;
-                } else {
-                    dump(out, bytes)?;
-                }
-            }
+            Some(bytes) => show_bytes(out, bytes)?,
         }
     }
     Ok(())
+}
+
+fn show_bytes(out: &mut Outline, bytes: &[u8]) -> Done {
+    out.end_line()?;
+    if bytes.iter().all(is_plain) {
+        stream(out, "  | ", bytes)
+    } else {
+        dump(out, bytes)
+    }
 }
 
 /// Bytes as words, least byte first, eight to a line, and those left over.

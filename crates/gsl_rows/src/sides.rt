@@ -1,6 +1,7 @@
 //! A shader and its module, run side by side by the slow programs.
 
-ghost use Rattle.std.specs.Prelude.{◌≡◌, [], IfOk, IfSome};
+ghost use Rattle.std.specs.Prelude.{◌≡◌, [], IfOk, IfSome, Ok};
+ghost use Rattle.gsl_cmd.specs.Fits.{fits};
 ghost use Rattle.gsl_form.specs.Form.{IsProgram};
 
 use crate::running::dump;
@@ -14,23 +15,30 @@ use gsl_form::{Program, read_unit};
 use gsl_outline::{Done, Outline};
 use gsl_slow::{SlowRun, fits_shader, run_module, run_shader};
 use gsl_tree::TypedUnit;
+use gsl_words::Module;
 use std::alloc::Global;
 
 /// More instructions than any of these shaders' modules takes.
 const STEPS: u32 = 1000;
 
+fn buffers(alloc: Global, buffer: &Option<(u32, Bytes)>) -> Result<Buffers, Memory> {
+    let mut buffers = Buffers::new(alloc);
+    if let Some((binding, bytes)) = buffer {
+        let bytes = Bytes::from_slice(alloc, bytes.as_slice())?;
+        buffers.push(Buffer {
+            set: 0,
+            binding: *binding,
+            bytes,
+        })?;
+    }
+    Ok(buffers)
+}
+
 /// An input with one buffer at set 0.
 fn input(alloc: Global, buffer: &Option<(u32, Bytes)>) -> Result<Input, Memory>
     ensures { IfOk result (λ input. input.choices ≡ []) }
 {
-    let mut buffers = Buffers::new(alloc);
-    if let Some((binding, bytes)) = buffer {
-        buffers.push(Buffer {
-            set: 0,
-            binding: *binding,
-            bytes: Bytes::from_slice(alloc, bytes.as_slice())?,
-        })?;
-    }
+    let buffers = buffers(alloc, buffer)?;
     Ok(Input {
         buffers,
         push: None,
@@ -70,18 +78,36 @@ pub fn sides(
 ) -> Done {
     match program(alloc, source)? {
         None => out.put("no program\n"),
-        Some(program) => {
-            let input = input(alloc, buffer)?;
-            match fits_shader(&program, &input) {
-                Err(refusal) => refused(out, refusal),
-                Ok(()) => {
-                    out.put("shader ")?;
-                    ended(out, &run_shader(alloc, &program, input)?)?;
-                    module_side(alloc, out, &program, buffer)
-                }
-            }
+        Some(program) => both_sides(alloc, out, &program, buffer),
+    }
+}
+
+fn both_sides(
+    alloc: Global,
+    out: &mut Outline,
+    program: &Program,
+    buffer: &Option<(u32, Bytes)>,
+) -> Done
+    requires { IsProgram program.now }
+{
+    let input = input(alloc, buffer)?;
+    match fits_shader(program, &input) {
+        Err(refusal) => refused(out, refusal),
+        Ok(()) => {
+            shader_side(alloc, out, program, input)?;
+            module_side(alloc, out, program, buffer)
         }
     }
+}
+
+fn shader_side(alloc: Global, out: &mut Outline, program: &Program, input: Input) -> Done
+    requires form { IsProgram program.now }
+    requires fits { fits program.now input ≡ Ok tt }
+    requires choices { input.choices ≡ [] }
+{
+    let output = run_shader(alloc, program, input)?;
+    out.put("shader ")?;
+    ended(out, &output)
 }
 
 fn module_side(
@@ -92,11 +118,25 @@ fn module_side(
 ) -> Done
     requires { IsProgram program.now }
 {
-    let input = input(alloc, buffer)?;
     let module = lower(alloc, program)?;
+    run_side(alloc, out, &module, buffer)
+}
+
+fn run_side(
+    alloc: Global,
+    out: &mut Outline,
+    module: &Module,
+    buffer: &Option<(u32, Bytes)>,
+) -> Done {
+    let input = input(alloc, buffer)?;
+    let ran = run_module(alloc, module, input, STEPS)?;
     out.put("module ")?;
-    match run_module(alloc, &module, input, STEPS)? {
-        SlowRun::Ended(output) => ended(out, &output),
+    put_ran(out, &ran)
+}
+
+fn put_ran(out: &mut Outline, ran: &SlowRun) -> Done {
+    match ran {
+        SlowRun::Ended(output) => ended(out, output),
         SlowRun::Going => out.put("going\n"),
         SlowRun::Strayed(_) => out.put("strayed\n"),
         SlowRun::Stuck => out.put("stuck\n"),

@@ -1,6 +1,6 @@
 //! Texts: their live tokens, their trees, and what they compile to.
 
-use gsl_base::{Bytes, Fault, Kind, Memory, Refusal, Sources, Stage, Token, Tokens};
+use gsl_base::{Bytes, Fault, Kind, Memory, Raw, Raws, Refusal, Sources, Stage, Token, Tokens};
 use gsl_cmd::compile;
 use gsl_lex::{cook, lex};
 use gsl_outline::{Done, Outline, key_word, punct, unit};
@@ -17,15 +17,27 @@ fn parsed(alloc: Global, source: &[u8]) -> Result<Unit, Refusal> {
     if source.len() > MAX_BYTES {
         return Err(Refusal::Memory);
     }
-    let mut raws = lex(alloc, 0, source)?.into_vec();
+    let raws = lex(alloc, 0, source)?;
+    let tokens = cooked(alloc, raws)?;
+    parse(alloc, &tokens)
+}
+
+/// Raw tokens, made live one by one.
+fn cooked(alloc: Global, raws: Raws) -> Result<Tokens, Refusal> {
+    let mut raws = raws.into_vec();
     raws.reverse();
     let mut tokens = Tokens::new(alloc);
     for _k in 0..raws.len() {
-        if let Some(raw) = raws.pop() {
-            tokens.push(cook(raw)?)?;
-        }
+        cook_last(&mut raws, &mut tokens)?;
     }
-    parse(alloc, &tokens)
+    Ok(tokens)
+}
+
+fn cook_last(raws: &mut Vec<Raw>, tokens: &mut Tokens) -> Result<(), Refusal> {
+    if let Some(raw) = raws.pop() {
+        tokens.push(cook(raw)?)?;
+    }
+    Ok(())
 }
 
 /// The live tokens of a text.
@@ -123,14 +135,23 @@ pub fn stages(alloc: Global, out: &mut Outline, source: &[u8]) -> Done {
         ("frag ", Stage::Fragment),
         ("comp ", Stage::Compute),
     ] {
-        let mut sources = Sources::new(alloc);
-        sources.push(Bytes::from_slice(alloc, source)?)?;
         out.put(name)?;
-        match compile(alloc, stage, &sources) {
-            Ok(_) => out.put("compiled\n")?,
-            Err(Refusal::Source(fault)) => faulty(out, &fault)?,
-            Err(Refusal::Memory) => return Err(Memory),
-        }
+        put_stage(alloc, out, stage, source)?;
     }
+    Ok(())
+}
+
+fn put_stage(alloc: Global, out: &mut Outline, stage: Stage, source: &[u8]) -> Done {
+    match compiled(alloc, stage, source) {
+        Ok(()) => out.put("compiled\n"),
+        Err(Refusal::Source(fault)) => faulty(out, &fault),
+        Err(Refusal::Memory) => Err(Memory),
+    }
+}
+
+fn compiled(alloc: Global, stage: Stage, source: &[u8]) -> Result<(), Refusal> {
+    let mut sources = Sources::new(alloc);
+    sources.push(Bytes::from_slice(alloc, source)?)?;
+    compile(alloc, stage, &sources)?;
     Ok(())
 }

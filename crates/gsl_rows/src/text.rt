@@ -36,15 +36,9 @@ pub fn hex(alloc: Global, text: &str) -> Result<Bytes, Memory> {
 /// Puts what a piece stands for.
 fn put(alloc: Global, out: &mut Bytes, piece: Piece, text: &str) -> Result<(), Memory> {
     match piece {
-        Piece::Line => {
-            out.extend_from_slice(text.as_bytes())?;
-            out.extend_from_slice(b"\n")
-        }
+        Piece::Line => put_line(out, text),
         Piece::Text => out.extend_from_slice(text.as_bytes()),
-        Piece::Bytes => {
-            let bytes = hex(alloc, text)?;
-            out.extend_from_slice(bytes.as_slice())
-        }
+        Piece::Bytes => put_hex(alloc, out, text),
         Piece::Words => put_words(out, text),
         Piece::Times => put_times(out, text),
         Piece::Count => put_count(alloc, out, text),
@@ -52,10 +46,19 @@ fn put(alloc: Global, out: &mut Bytes, piece: Piece, text: &str) -> Result<(), M
     }
 }
 
+fn put_line(out: &mut Bytes, text: &str) -> Result<(), Memory> {
+    out.extend_from_slice(text.as_bytes())?;
+    out.extend_from_slice(b"\n")
+}
+
+fn put_hex(alloc: Global, out: &mut Bytes, text: &str) -> Result<(), Memory> {
+    let bytes = hex(alloc, text)?;
+    out.extend_from_slice(bytes.as_slice())
+}
+
 fn put_words(out: &mut Bytes, text: &str) -> Result<(), Memory> {
     for word in text.split_whitespace() {
-        out.extend_from_slice(word.as_bytes())?;
-        out.extend_from_slice(b"\n")?;
+        put_line(out, word)?;
     }
     Ok(())
 }
@@ -94,21 +97,43 @@ fn put_down(alloc: Global, out: &mut Bytes, text: &str) -> Result<(), Memory> {
 
 /// Puts the text with this number, the one before it, and line ends.
 fn put_numbered(alloc: Global, out: &mut Bytes, text: &str, n: u32) -> Result<(), Memory> {
+    let text = with_number(alloc, text, "<n>", n)?;
+    put_before(alloc, out, text.as_str(), n.saturating_sub(1))
+}
+
+/// Puts the text with the number before, and line ends.
+fn put_before(alloc: Global, out: &mut Bytes, text: &str, before: u32) -> Result<(), Memory> {
+    let text = with_number(alloc, text, "<before>", before)?;
+    put_ended(alloc, out, text.as_str())
+}
+
+fn put_ended(alloc: Global, out: &mut Bytes, text: &str) -> Result<(), Memory> {
+    let text = filled(alloc, text, "<end>", "\n")?;
+    out.extend_from_slice(text.as_bytes())
+}
+
+/// The text with a number wherever the mark stands.
+fn with_number(alloc: Global, text: &str, mark: &str, n: u32) -> Result<String, Memory> {
     let digits = format!(in alloc; "{n}")?;
-    let numbered = filled(alloc, text, "<n>", digits.as_str())?;
-    let before = n.saturating_sub(1);
-    let digits = format!(in alloc; "{before}")?;
-    let behind = filled(alloc, numbered.as_str(), "<before>", digits.as_str())?;
-    let ended = filled(alloc, behind.as_str(), "<end>", "\n")?;
-    out.extend_from_slice(ended.as_bytes())
+    filled(alloc, text, mark, digits.as_str())
 }
 
 /// The bytes of a file, with this alternative.
 pub fn bytes_of(alloc: Global, file: &File, each: &str) -> Result<Bytes, Memory> {
     let mut out = Bytes::new(alloc);
     for (piece, text) in &file.pieces {
-        let text = filled(alloc, text.as_str(), "<each>", each)?;
-        put(alloc, &mut out, *piece, text.as_str())?;
+        put_filled(alloc, &mut out, *piece, text.as_str(), each)?;
     }
     Ok(out)
+}
+
+fn put_filled(
+    alloc: Global,
+    out: &mut Bytes,
+    piece: Piece,
+    text: &str,
+    each: &str,
+) -> Result<(), Memory> {
+    let text = filled(alloc, text, "<each>", each)?;
+    put(alloc, out, piece, text.as_str())
 }
