@@ -3,4 +3,4 @@
 
 mod laws;
 
-pub use laws::equality_computes;
+pub use laws::{equality_computes, values_are_their_leaves};
