@@ -11,3 +11,4 @@ pub mod Constants
 pub mod Picking
 pub mod Replacing
 pub mod Putting
+pub mod Straying

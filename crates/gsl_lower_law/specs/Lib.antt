@@ -2,3 +2,4 @@ pub mod Stretches
 pub mod Values
 pub mod Computing
 pub mod Operands
+pub mod Straying

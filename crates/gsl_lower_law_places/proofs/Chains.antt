@@ -42,7 +42,7 @@ still_number a b keeps (By s id ∷ parts) (word ∷ words) each = (keeps.same i
 
 module _ (m : Module) (input : Input) where
   -- a chain goes through the words for which its indexes stand
-  along_through : (place : ℕ) (state : State) (from : Pointer) (ids words : List ℕ) (go : Pointer → Outcome) → StandForWords state.ids ids words → along m input place state from ids go ≡ through m input place state from words go
+  pub along_through : (place : ℕ) (state : State) (from : Pointer) (ids words : List ℕ) (go : Pointer → Outcome) → StandForWords state.ids ids words → along m input place state from ids go ≡ through m input place state from words go
   along_through place state from [] [] go stand = refl
   along_through place state from [] (word ∷ words) go stand = absurd stand
   along_through place state from (id ∷ ids) [] go stand = absurd stand
@@ -64,7 +64,7 @@ module _ (m : Module) (input : Input) where
   }
 
   module _ (whole : Sections) where
-    pointer_type_does : (class pointee : ℕ) (state : State) (before : Sections) → Does m input whole (Any m input whole) state.choices state before (pointer_type class pointee)
+    pub pointer_type_does : (class pointee : ℕ) (state : State) (before : Sections) → Does m input whole (Any m input whole) state.choices state before (pointer_type class pointee)
     pointer_type_does class pointee state before = intern_does m input whole (Any m input whole) (d.plain_type (plain.Pointer class pointee)) state before (plain_once (plain.Pointer class pointee)) (λ id stands text lasting. tt)
 
     pub index_grows : (part : Part) (state : State) (before : Sections) → Grows before (index part before)
@@ -87,7 +87,7 @@ module _ (m : Module) (input : Input) where
         grows_then m input whole before (index part before) (λ id. in_order index parts >>= (λ ids. given (id ∷ ids))) (index_grows part state before)
         (λ id between. grows_then m input whole between (in_order index parts between) (λ ids. given (id ∷ ids)) (indexes_grow parts state between) (λ ids later. given_grows (id ∷ ids) state later))
 
-    indexes_do : (parts : List Part) (words : List ℕ) (state : State) (before : Sections) → NumberEach state.ids parts words → Does m input whole (λ given ids. StandForWords ids given words) state.choices state before (indexes parts)
+    pub indexes_do : (parts : List Part) (words : List ℕ) (state : State) (before : Sections) → NumberEach state.ids parts words → Does m input whole (λ given ids. StandForWords ids given words) state.choices state before (indexes parts)
     unfolding in_order
     indexes_do [] [] state before each = given_does m input whole (λ given ids. StandForWords ids given []) [] state before tt
     indexes_do [] (word ∷ words) state before each = absurd each
@@ -102,13 +102,13 @@ module _ (m : Module) (input : Input) where
         (λ more later. given_grows (id ∷ more) state later)
         (λ more later last rest kept. given_does m input whole (λ given ids. StandForWords ids given (word ∷ words)) (id ∷ more) (record state { ids = last }) later (kept.same id _ stands, rest)))
 
-    still_words : (a b : Ids) → Keeps a b → (ids words : List ℕ) → StandForWords a ids words → StandForWords b ids words
+    pub still_words : (a b : Ids) → Keeps a b → (ids words : List ℕ) → StandForWords a ids words → StandForWords b ids words
     still_words a b keeps [] [] stand = tt
     still_words a b keeps [] (word ∷ words) stand = stand
     still_words a b keeps (id ∷ ids) [] stand = stand
     still_words a b keeps (id ∷ ids) (word ∷ words) stand = (keeps.same id _ stand.0, still_words a b keeps ids words stand.1)
 
-    chain_grows : (class pointee : ℕ) (operands : List ℕ) (state : State) (before : Sections) → Grows before ((pointer_type class pointee >>= put_giving op.ACCESS_CHAIN operands) before)
+    pub chain_grows : (class pointee : ℕ) (operands : List ℕ) (state : State) (before : Sections) → Grows before ((pointer_type class pointee >>= put_giving op.ACCESS_CHAIN operands) before)
     chain_grows class pointee operands state before =
         grows_then m input whole before (pointer_type class pointee before) (put_giving op.ACCESS_CHAIN operands) (pointer_type_does class pointee state before).grows (λ type between. giving_grows m input whole op.ACCESS_CHAIN operands type between)
 

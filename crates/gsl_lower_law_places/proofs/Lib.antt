@@ -7,3 +7,4 @@ pub mod Variables
 pub mod Merged
 pub mod Kept
 pub mod Blocks
+pub mod Outside

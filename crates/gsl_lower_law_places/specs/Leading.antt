@@ -5,7 +5,7 @@ use Rattle.gsl_words.specs.declared.module.Module.{Module}
 use Rattle.gsl_values.specs.declared.value.Value.{Value}
 use Rattle.gsl_values.specs.declared.value.Value.TheVariants.{Word}
 use Rattle.gsl_machine.specs.Memory.{into, loading}
-use Rattle.gsl_machine.specs.State.{Ids, Outcome, Pointer, State}
+use Rattle.gsl_machine.specs.State.{Ids, Outcome, Pointer, State, Strayed}
 use Rattle.gsl_lower_places.specs.declared.reached.Part.{Part}
 use Rattle.gsl_lower_places.specs.declared.reached.Part.TheVariants.{Fixed, By}
 use Rattle.gsl_lower_law.specs.Values.{Stands}
@@ -34,3 +34,7 @@ LeadsTo m input state from words to = (place : ℕ) (go : Pointer → Outcome) �
 -- A pointer leads to a value.
 abbrev pub HoldsValue : Module → Input → State → Pointer → Value → Type 0
 HoldsValue m input state to v = (go : Value → Outcome) → loading m input state to go ≡ go v
+
+-- One of the words is not below the count of parts where it stands.
+abbrev pub StraysFrom : Module → Input → State → Pointer → List ℕ → Type 0
+StraysFrom m input state from words = (place : ℕ) (go : Pointer → Outcome) → through m input place state from words go ≡ Strayed place

@@ -20,9 +20,10 @@ ghost use Rattle.gsl_lower_places.specs.declared.reached.Part.{Part};
 ghost use Rattle.gsl_lower_places.specs.declared.reached.Picked.{Picked};
 ghost use Rattle.gsl_lower_law.specs.Computing.{Acts, Computes, Does};
 ghost use Rattle.gsl_lower_law.specs.Operands.{converted_value, replaced_value};
+ghost use Rattle.gsl_lower_law.specs.Straying.{Strays};
 ghost use Rattle.gsl_lower_law.specs.Values.{IsOf, Stands};
 ghost use Rattle.gsl_lower_law_places.specs.Components.{HoldsComponents, Picks, picks_of};
-ghost use Rattle.gsl_lower_law_places.specs.Leading.{HoldsValue, LeadsTo, NumberEach};
+ghost use Rattle.gsl_lower_law_places.specs.Leading.{HoldsValue, LeadsTo, NumberEach, StraysFrom};
 ghost use Rattle.gsl_lower_law_places.specs.Storing.{AreStored, IsVectorType, Stores, buffers_with, goes_to};
 
 /// Where the parts of a variable are in bounds, the id that is given stands for a pointer to where they lead.
@@ -73,4 +74,11 @@ pub fn blocks_hold_components()
 /// A store into the bytes of a block leaves the words there, and the variables as they were.
 pub fn blocks_are_stored()
     ensures { (m : Module) (input : Input) (state : State) (variable offset pointee : ℕ) (bytes : List ℕ) (v : Value) → bytes_of m input state variable ≡ Some bytes → Stores m input state (InBlock variable offset pointee) v state.variables (buffers_with m state variable (put_words offset (components_in v) bytes)) }
+{}
+
+/// Where an index is out of bounds, a pointer, what is loaded from there and what is stored there stray.
+pub fn indexes_out_of_bounds_stray()
+    ensures pointer { (m : Module) (input : Input) (whole : Sections) (id class pointee : ℕ) (parts : List Part) (words : List ℕ) (from : Pointer) (state : State) (before : Sections) → state.ids id ≡ Some (Points from) → NumberEach state.ids parts words → StraysFrom m input state from words → Strays m input whole state before (pointer id class pointee parts) }
+    ensures load { (m : Module) (input : Input) (whole : Sections) (id class : ℕ) (shape : Shape) (parts : List Part) (words : List ℕ) (from : Pointer) (state : State) (before : Sections) → state.ids id ≡ Some (Points from) → NumberEach state.ids parts words → StraysFrom m input state from words → Strays m input whole state before (loaded id class shape parts) }
+    ensures store { (m : Module) (input : Input) (whole : Sections) (id class : ℕ) (shape : Shape) (parts : List Part) (value : ℕ) (words : List ℕ) (from : Pointer) (v : Value) (state : State) (before : Sections) → state.ids id ≡ Some (Points from) → NumberEach state.ids parts words → StraysFrom m input state from words → IsOf shape v → Stands state.ids value v → Strays m input whole state before (put_at id class shape parts value) }
 {}

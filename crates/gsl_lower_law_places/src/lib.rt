@@ -4,7 +4,7 @@
 mod laws;
 
 pub use laws::{
-    blocks_are_stored, blocks_hold_components, extracts_compute, loads_compute, pointers_lead,
-    stores_leave, values_are_read, variables_are_read, variables_are_stored,
-    variables_hold_components,
+    blocks_are_stored, blocks_hold_components, extracts_compute, indexes_out_of_bounds_stray,
+    loads_compute, pointers_lead, stores_leave, values_are_read, variables_are_read,
+    variables_are_stored, variables_hold_components,
 };
