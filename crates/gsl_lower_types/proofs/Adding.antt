@@ -1,11 +1,11 @@
 -- Each step only adds to what a builder holds.
-use Rattle.std.proofs.Common.{◌≡◌, refl, sym, ap, subst, ◌∙◌, ℕ, ◌+◌, Bool, true, false, List, [], ◌∷◌, Option, Some, None, arith}
+use Rattle.std.proofs.Common.{◌≡◌, refl, sym, ap, subst, ◌∙◌, ℕ, ◌+◌, Bool, true, false, List, [], ◌∷◌, map, Option, Some, None, arith}
 use Rattle.std.specs.Prelude.{if◌then◌else◌, nat_le, ◌==◌}
 use Rattle.gsl_instr.specs.declared.enumerant.decoration.TheConstants as decoration
 use Rattle.gsl_instr.specs.declared.enumerant.storage_class.TheConstants as storage_class
 use Rattle.gsl_layout.specs.Layout.{Layout, Leaf, Array, Runtime, Group, Parts, End, Part, members_of}
 use Rattle.gsl_types.specs.declared.ty.Scalar.{Scalar}
-use Rattle.gsl_types.specs.declared.ty.Scalar.TheVariants.{Uint}
+use Rattle.gsl_types.specs.declared.ty.Scalar.TheVariants.{Bool as Boolean, Int, Uint}
 use Rattle.gsl_types.specs.declared.ty.StructType.{StructType}
 use Rattle.gsl_types.specs.declared.ty.Ty.{Ty}
 use Rattle.gsl_types.specs.declared.ty.Member.{Member}
@@ -35,7 +35,7 @@ use Rattle.gsl_spv.proofs.Extending.{extends_same, extends_then}
 use Rattle.gsl_lower_values.specs.Building.{Built, Made, Full, Step, ◌>>=◌, given, id_by}
 use Rattle.gsl_spv.specs.declared.plain.PlainType.TheVariants as plain
 use Rattle.gsl_spv.specs.declared.plain.PlainConst.TheVariants as of
-use Rattle.gsl_lower_values.specs.Types.{plain_scalar, scalar_constant, scalar_type, type_of, vector_type}
+use Rattle.gsl_lower_values.specs.Types.{composed, plain_scalar, truth_of, scalar_constant, scalar_type, type_of, vector_type}
 use Rattle.gsl_lower_places.specs.Reached.{stored_scalar}
 use Rattle.gsl_lower_places.specs.Reading.{pointer_type}
 use Rattle.gsl_lower_holders.specs.Flow.{find_type}
@@ -43,6 +43,13 @@ use Rattle.gsl_lower_types.specs.Blocks.{block_by, block_in, block_laid, block_m
 use Rattle.gsl_lower_types.specs.Declaring.{decorated, named, variable_in}
 use Rattle.gsl_lower_types.specs.Known.{Known, Put, all, aside, each, id_or_lacking, id_or_put, known_type, lacking, once, only, with_type}
 use Rattle.gsl_lower_types.specs.Laid.{array_by, grouped, member_types, offsets, stored_as, strided, struct_by, type_laid, types_laid}
+use Rattle.gsl_values.specs.declared.value.Value.{Value}
+use Rattle.gsl_values.specs.declared.value.Value.TheFolds.{fold-roll-Value, ind-Value, map-Value}
+use Rattle.gsl_values.specs.declared.value.Value.TheOpen.{Value-F}
+use Rattle.gsl_values.specs.declared.value.Value.TheViews.{roll-Value}
+use Rattle.gsl_tree.specs.declared.unit.GlobalVar.{GlobalVar}
+use Rattle.gsl_spv.specs.declared.plain.PlainConst.{PlainConst}
+use Rattle.gsl_lower_types.specs.Globals.{beginning, composed_as, constant_layer, constant_of, global_put, globals_put, of_type, part_type, parts_put, word_of}
 use Rattle.gsl_lower_types.specs.Interfaces.{flat_where, interface_put, interface_variable, interfaces_put, plain_variable}
 use Rattle.gsl_lower_types.specs.Values.{array_of, arrayed, block_member_type, block_types, function_types, global_type, local_type, member_type, parameter_type, program_types, prototype_types, struct_of, struct_type, struct_types, value_type}
 use Rattle.gsl_lower_types.specs.declared.blocks.LaidTypes.{LaidTypes}
@@ -313,3 +320,77 @@ interface_adds i known =
 
 pub interfaces_add : (interfaces : List Interface) → PutAdds (interfaces_put interfaces)
 interfaces_add interfaces = each_adds interface_put interface_adds interfaces
+
+-- ---- constants, and global variables
+
+constant_grows : (c : PlainConst) (s : Sections) → Extends s (call.constant c s).sections
+constant_grows of.True s = let ty_ = call.plain_type plain.Bool s in extends_then (interns (d.plain_type plain.Bool) s) (interns (d.truth true ty_.id) ty_.sections)
+constant_grows of.False s = let ty_ = call.plain_type plain.Bool s in extends_then (interns (d.plain_type plain.Bool) s) (interns (d.truth false ty_.id) ty_.sections)
+constant_grows (of.Word type bits) s = interns (d.word type bits) s
+constant_grows (of.Null type) s = interns (d.null type) s
+
+constant_adds : (x : Scalar) (word : ℕ) → Adds (scalar_constant x word)
+unfolding scalar_constant
+constant_adds Boolean word = asks (call.constant (truth_of word)) (constant_grows (truth_of word))
+constant_adds Int word = then_ (scalar_type Int) _ (scalar_adds Int) (λ type. asks (call.constant (of.Word type word)) (constant_grows (of.Word type word)))
+constant_adds Uint word = then_ (scalar_type Uint) _ (scalar_adds Uint) (λ type. asks (call.constant (of.Word type word)) (constant_grows (of.Word type word)))
+
+word_adds : (y : Ty-F Ty) (word : ℕ) → PutAdds (word_of y word)
+word_adds Ty-F.Void word known = fails
+word_adds (Ty-F.One x) word known = aside_adds (scalar_constant x word) known (constant_adds x word)
+word_adds (Ty-F.Vector x n) word known = fails
+word_adds (Ty-F.Array e n) word known = fails
+word_adds (Ty-F.Runtime e) word known = fails
+word_adds (Ty-F.Struct k) word known = fails
+
+of_type_adds : (o : Option Ty) (put : Ty → Put ℕ) → ((t : Ty) → PutAdds (put t)) → PutAdds (of_type o put)
+of_type_adds None put p known = fails
+of_type_adds (Some t) put p known = p t known
+
+composed_adds : (t : Ty) (parts : List ℕ) → PutAdds (composed_as t parts)
+composed_adds t parts known = then_ (value_type t known) _ (value_adds t known) (λ r. aside_adds (composed parts r.0) r.1 (asks (call.composite r.0 parts) (λ s. interns (d.composite r.0 parts) s)))
+
+module _ (structs : List StructType) where
+  abbrev Whole : Value → Type 0
+  Whole v = (t : Ty) → PutAdds (constant_of structs v t)
+
+  abbrev Part_ : Type 0
+  Part_ = (v : Value) × Whole v
+
+  parts_add : (ps : List Part_) (t : Ty) (n : ℕ) → PutAdds (parts_put structs t n (map (λ (p : Part_). constant_of structs p.0) ps))
+  unfolding parts_put
+  parts_add [] t n known = gives ([], known)
+  parts_add (p ∷ ps) t n known =
+      then_ (of_type (part_type structs t n) (constant_of structs p.0) known) _ (of_type_adds (part_type structs t n) (constant_of structs p.0) p.1 known)
+      (λ r. then_ (parts_put structs t (n + 1) (map (λ (q : Part_). constant_of structs q.0) ps) r.1) _ (parts_add ps t (n + 1) r.1) (λ rs. gives (r.0 ∷ rs.0, rs.1)))
+
+  both_maps : (ps : List Part_) → map (constant_of structs) (map (λ (p : Part_). p.0) ps) ≡ map (λ (p : Part_). constant_of structs p.0) ps
+  both_maps [] = refl
+  both_maps (p ∷ ps) = ap (λ l. constant_of structs p.0 ∷ l) (both_maps ps)
+
+  of_value : (y : Value-F Part_) → Whole (roll-Value (map-Value _ _ (λ e. e.0) y))
+  of_value (Value-F.Word word) t known =
+      by_equation (constant_of structs (roll-Value (Value-F.Word word)) t known) (word_of (out-Ty t) word known)
+      (λ s. ap (λ (f : Ty → Put ℕ). f t known s) (fold-roll-Value (Ty → Put ℕ) (constant_layer structs) (Value-F.Word word))) (word_adds (out-Ty t) word known)
+  of_value (Value-F.Many ps) t known =
+      by_equation (constant_of structs (roll-Value (Value-F.Many (map (λ (p : Part_). p.0) ps))) t known)
+      (constant_layer structs (Value-F.Many (map (λ (p : Part_). constant_of structs p.0) ps)) t known)
+      (λ s. ap (λ (f : Ty → Put ℕ). f t known s) (fold-roll-Value (Ty → Put ℕ) (constant_layer structs) (Value-F.Many (map (λ (p : Part_). p.0) ps)))
+      ∙ ap (λ l. constant_layer structs (Value-F.Many l) t known s) (both_maps ps))
+      (then_ (parts_put structs t 0 (map (λ (p : Part_). constant_of structs p.0) ps) known) _ (parts_add ps t 0 known) (λ r. composed_adds t r.0 r.1))
+
+  value_constant_adds : (v : Value) → Whole v
+  value_constant_adds = ind-Value Whole (λ x y is. subst (λ z. Whole (roll-Value z)) is (of_value y))
+
+  begins_adds : (t : Ty) (type : ℕ) (o : Option Value) → PutAdds (beginning structs t type o)
+  begins_adds t type None known = aside_adds (id_by (call.constant (of.Null type))) known (asks (call.constant (of.Null type)) (constant_grows (of.Null type)))
+  begins_adds t type (Some v) known = value_constant_adds v t known
+
+  global_adds : (g : GlobalVar) → PutAdds (global_put structs g)
+  unfolding global_put
+  global_adds g known =
+      then_ (value_type g.ty known) _ (value_adds g.ty known) (λ r. then_ (beginning structs g.ty r.0 g.value r.1) _ (begins_adds g.ty r.0 g.value r.1) (λ c.
+      aside_adds (variable_in storage_class.PRIVATE r.0 (Some c.0)) c.1 (variable_adds storage_class.PRIVATE r.0 (Some c.0))))
+
+  pub globals_add : (globals : List GlobalVar) → PutAdds (globals_put structs globals)
+  globals_add globals = each_adds (global_put structs) global_adds globals
