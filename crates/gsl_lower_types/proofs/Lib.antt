@@ -7,4 +7,5 @@ pub mod Standing
 pub mod Finding
 pub mod Exact
 pub mod Programs
+pub mod Adding
 mod Example

@@ -12,14 +12,21 @@ ghost use Rattle.gsl_tree.specs.Around.{stage_var_type};
 ghost use Rattle.gsl_tree.specs.Shapes.{of_shape};
 ghost use Rattle.gsl_tree.specs.declared.expr.StageVar.{StageVar};
 ghost use Rattle.gsl_tree.specs.declared.program.Program.{Program};
+ghost use Rattle.gsl_tree.specs.declared.unit.Block.{Block};
+ghost use Rattle.gsl_tree.specs.declared.unit.GlobalVar.{GlobalVar};
+ghost use Rattle.gsl_tree.specs.declared.unit.Interface.{Interface};
+ghost use Rattle.gsl_words.specs.declared.target.Target.{Target};
+ghost use Rattle.gsl_lower_types.specs.Blocks.{blocks_put};
+ghost use Rattle.gsl_lower_types.specs.declared.blocks.LaidTypes.{LaidTypes};
 ghost use Rattle.gsl_spv.specs.Calls as call;
 ghost use Rattle.gsl_spv.specs.Calls.{decorating};
-ghost use Rattle.gsl_spv.specs.Growing.{Begins};
+ghost use Rattle.gsl_spv.specs.Growing.{Begins, Extends};
 ghost use Rattle.gsl_spv.specs.Sections.{Sections};
 ghost use Rattle.gsl_lower_values.specs.Building.{Made, id_by};
 ghost use Rattle.gsl_lower_holders.specs.Flow.{find_type};
 ghost use Rattle.gsl_lower_types.specs.Finding.{AreFound, AreWhole, IsFound};
-ghost use Rattle.gsl_lower_types.specs.Interfaces.{stage_shape};
+ghost use Rattle.gsl_lower_types.specs.Globals.{globals_put};
+ghost use Rattle.gsl_lower_types.specs.Interfaces.{interfaces_put, stage_shape};
 ghost use Rattle.gsl_lower_types.specs.Known.{Known};
 ghost use Rattle.gsl_lower_types.specs.Laid.{array_by, struct_by, type_laid};
 ghost use Rattle.gsl_lower_types.specs.Values.{program_types, value_type};
@@ -64,4 +71,13 @@ pub fn what_is_declared_is_found()
 pub fn types_are_found_under_their_ids()
     ensures array { (element : Ty) (count : ℕ) (known then_known : Known) (id : ℕ) (before after : Sections) → value_type (ty.Array element count) known before ≡ Made (id, then_known) after → find_type (ty.Array element count) then_known ≡ Some id }
     ensures struct_type { (number : ℕ) (known then_known : Known) (id : ℕ) (before after : Sections) → value_type (ty.Struct number) known before ≡ Made (id, then_known) after → find_type (ty.Struct number) then_known ≡ Some id }
+{}
+
+/// The types of a program, its blocks, its global variables, and its inputs and outputs only add to what a builder holds.
+pub fn types_and_variables_only_add()
+    ensures types { (p : Program) (known then_known : Known) (before after : Sections) → program_types p known before ≡ Made (tt, then_known) after → Extends before after }
+    ensures value_type { (t : Ty) (known then_known : Known) (id : ℕ) (before after : Sections) → value_type t known before ≡ Made (id, then_known) after → Extends before after }
+    ensures blocks { (target : Target) (structs : List StructType) (blocks : List Block) (laid then_laid : LaidTypes) (ids : List ℕ) (before after : Sections) → blocks_put target structs blocks laid before ≡ Made (ids, then_laid) after → Extends before after }
+    ensures globals { (structs : List StructType) (globals : List GlobalVar) (known then_known : Known) (ids : List ℕ) (before after : Sections) → globals_put structs globals known before ≡ Made (ids, then_known) after → Extends before after }
+    ensures interfaces { (interfaces : List Interface) (known then_known : Known) (ids : List ℕ) (before after : Sections) → interfaces_put interfaces known before ≡ Made (ids, then_known) after → Extends before after }
 {}

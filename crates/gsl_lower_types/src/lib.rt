@@ -19,7 +19,7 @@ pub use globals::globals_put;
 pub use interfaces::{interfaces_put, stage_put};
 pub use laws::{
     built_in_variables_have_their_types, elements_stand_where_they_lie,
-    members_stand_where_they_lie, truth_values_lie_as_numbers, types_are_found_under_their_ids,
-    what_is_declared_is_found, what_is_put_is_found,
+    members_stand_where_they_lie, truth_values_lie_as_numbers, types_and_variables_only_add,
+    types_are_found_under_their_ids, what_is_declared_is_found, what_is_put_is_found,
 };
 pub use values::{program_types, value_type};
