@@ -1,0 +1,4 @@
+pub mod Stretching
+pub mod Frames
+pub mod Following
+pub mod Giving
