@@ -5,3 +5,6 @@ pub mod Growing
 pub mod Doing
 pub mod Drawn
 pub mod Holding
+pub mod Fetching
+pub mod Jumping
+pub mod Beginning

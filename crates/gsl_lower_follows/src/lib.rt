@@ -3,4 +3,7 @@
 
 mod laws;
 
-pub use laws::{computed_values_are_given, stretches_compose, values_wait_in_holders};
+pub use laws::{
+    branches_lead_to_labels, choices_lead_to_labels, computed_values_are_given, stretches_compose,
+    values_are_fetched, values_wait_in_holders,
+};
