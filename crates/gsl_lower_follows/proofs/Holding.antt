@@ -56,7 +56,7 @@ found_among (x ∷ l) (suc i) less = found_among l i (omega (arith, less))
 
 -- ---- where variables are known
 
-abbrev holder_number : Name → ℕ
+abbrev pub holder_number : Name → ℕ
 holder_number (Global number) = 0
 holder_number (Interface number) = 0
 holder_number (Stage number) = 0

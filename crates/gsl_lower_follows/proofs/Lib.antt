@@ -8,3 +8,4 @@ pub mod Holding
 pub mod Fetching
 pub mod Jumping
 pub mod Beginning
+pub mod Meeting

@@ -59,6 +59,12 @@ module _ (m : Module) (input : Input) (whole : Sections) (f : Frame m input whol
       pub given : IsGiven last.ids id ty v
       pub after : After splits b state later s last
 
+    -- Behind two ways that meet, the first so many holders are as they were, and an id stands for the value.
+    pub record Met (count : ℕ) (v : Value) (state : State) (id : ℕ) (later : Flow) (r : Unit {0}) (s : shader.State) (last : State) : Type 0 where
+      pub good : Good m input whole f p around later s last
+      pub held : Kept m input whole f count state last
+      pub stands : Stands last.ids id v
+
     -- What is lowered computes what the shader does, wherever it stands, and gives the id of its value.
     pub record GivesValue (splits : Bool) (ty : Ty) (emit : Emit ℕ) (run : Run Value) : Type 0 where
       pub adds : Adds emit

@@ -1,6 +1,6 @@
 //! Laws of the definitions: calls that do nothing, whose contracts are the laws.
 
-ghost use Rattle.std.specs.Prelude.{◌≡◌, ℕ, Bool, List, [], ◌∷◌, ◌++◌, ◌==◌, if◌then◌else◌, false, true};
+ghost use Rattle.std.specs.Prelude.{◌≡◌, ◌≤◌, ℕ, Bool, List, [], ◌∷◌, ◌++◌, ◌==◌, if◌then◌else◌, false, true};
 ghost use Rattle.gsl_base.specs.declared.input.Input.{Input};
 ghost use Rattle.gsl_types.specs.declared.ty.Ty.{Ty};
 ghost use Rattle.gsl_instr.specs.declared.op.TheConstants as op;
@@ -25,8 +25,10 @@ ghost use Rattle.gsl_lower_law.specs.Computing.{Computes};
 ghost use Rattle.gsl_lower_law.specs.Values.{Stands};
 ghost use Rattle.gsl_lower_holders.specs.Flow.{Flow, lift};
 ghost use Rattle.gsl_lower_holders.specs.Waiting.{fetch, hold};
-ghost use Rattle.gsl_lower_follows.specs.Frames.{Frame, Good, HeldAs, Inside, body, coming};
-ghost use Rattle.gsl_lower_follows.specs.Giving.{After, Does, GivesValue, none_waits};
+ghost use Rattle.gsl_lower_holders.specs.Ways.{join};
+ghost use Rattle.gsl_lower_holders.specs.declared.blocks.Fork.{Fork};
+ghost use Rattle.gsl_lower_follows.specs.Frames.{Frame, Good, HeldAs, Inside, Kept, Waits, body, coming};
+ghost use Rattle.gsl_lower_follows.specs.Giving.{After, Does, GivesValue, Met, none_waits};
 ghost use Rattle.gsl_lower_follows.specs.Stretching.{Stretch};
 
 /// Two stretches one behind the other are one.
@@ -57,4 +59,9 @@ pub fn branches_lead_to_labels()
 /// A branch of two ways leads behind the label that its condition chooses.
 pub fn choices_lead_to_labels()
     ensures { (m : Module) (input : Input) (whole : Sections) (f : Frame m input whole) (b : Sections) (end x on_true on_false : ℕ) (v : Value) (label : ℕ) (before : Sections) (state : State) (units : ℕ) → (if word_in v == 0 then on_false else on_true) ≡ label → Stands state.ids x v → Inside m input whole f b → Inside m input whole f (put op.LABEL (label ∷ []) before) → Extends (put op.BRANCH_CONDITIONAL (x ∷ on_true ∷ on_false ∷ []) (put op.SELECTION_MERGE (end ∷ 0 ∷ []) b)) before → state.rest ≡ coming m input whole f b → state.body ≡ body m input whole f → state.own ≡ f.own → Stretch m input 0 0 units state units (Going (record state { rest = coming m input whole f (put op.LABEL (label ∷ []) before); ids = f.own })) }
+{}
+
+/// Where two ways meet, the value of the one that was gone is there.
+pub fn ways_meet()
+    ensures { (m : Module) (input : Input) (whole : Sections) (f : Frame m input whole) (p : Program) (around : Around) (count : ℕ) (t : Ty) (ways : Fork) (value : ℕ) (v old : Value) (units : ℕ) (b : Flow) (s : shader.State) (start state : State) → Good m input whole f p around b s state → Kept m input whole f count start state → (waits : Waits m input whole f b.place.used ways.holder old state) → count ≤ waits.holder → Stands state.ids value v → Does m input whole f p 0 units state (Met m input whole f p around count v start) none_waits (Got tt s units) (join t ways value b) }
 {}
