@@ -1,0 +1,6 @@
+//! Do expressions as they are lowered do what they mean?
+#![tactic(auto)]
+
+mod laws;
+
+pub use laws::binary_gives;
