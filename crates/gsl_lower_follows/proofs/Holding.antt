@@ -175,8 +175,8 @@ module _ (m : Module) (input : Input) (whole : Sections) (f : Frame m input whol
     good_using b s state good = record { inside = good.inside; rest = good.rest; within = good.within; own = good.own; waiting = good.waiting; ready = good.ready; seated = seated_moved b.place b.place.label (b.place.used + 1) good.seated; holds = good.holds; typed = good.typed }
 
     -- nothing has changed, and an id is that of a holder in which a value waits
-    abbrev NowWaits : Value → Flow → State → ℕ → Flow → Unit {0} → shader.State → State → Type 0
-    NowWaits v b state h later r t last = After m input whole f p around false b state later t last × Waits m input whole f later.place.used h v last
+    abbrev pub NowWaits : Value → Flow → State → ℕ → Flow → Unit {0} → shader.State → State → Type 0
+    NowWaits v b state h later r t last = After m input whole f p around false b state later t last × ((waits : Waits m input whole f later.place.used h v last) × (b.place.used ≤ waits.holder))
 
     -- nothing has changed
     abbrev pub Unchanged : {A : Type 0} → Flow → State → A → Flow → Unit {0} → shader.State → State → Type 0
@@ -184,7 +184,7 @@ module _ (m : Module) (input : Input) (whole : Sections) (f : Frame m input whol
 
     -- A value waits in the next holder.
     pub does_keep : (value : ℕ) (v : Value) (units : ℕ) (b : Flow) (s : shader.State) (state : State) → Good m input whole f p around b s state → Stands state.ids value v
-        → Does m input whole f p 0 units state (λ h later (r : Unit {0}) t last. After m input whole f p around false b state later t last × Waits m input whole f later.place.used h v last) none_waits (Got tt s units) (keep value b)
+        → Does m input whole f p 0 units state (NowWaits v b state) none_waits (Got tt s units) (keep value b)
     unfolding keep holder
     does_keep value v units b s state good stands = by (slice_get b.place.holders b.place.used) refl
       where
@@ -199,19 +199,22 @@ module _ (m : Module) (input : Input) (whole : Sections) (f : Frame m input whol
                 held = record { same = λ holder number less seat. is.others number (λ same. absurd (let one : Holder holder ≡ Holder b.place.used = f.apart (Holder holder) (Holder b.place.used) number seat (known.1 ∙ ap Some (sym same)) in let n : holder ≡ b.place.used = ap holder_number one in omega (arith, less, n))) };
                 ids = λ none. is.ids;
               },
-              record {
-                holder = b.place.used;
-                number = known.0;
-                among = (let n : later.place.used ≡ b.place.used + 1 = ap (λ (place : FlowPlace). place.used) is.place in omega (arith, n));
-                seat = known.1;
-                points = known.2;
-                value = is.there;
-              },
+              (
+                record {
+                  holder = b.place.used;
+                  number = known.0;
+                  among = (let n : later.place.used ≡ b.place.used + 1 = ap (λ (place : FlowPlace). place.used) is.place in omega (arith, n));
+                  seat = known.1;
+                  points = known.2;
+                  value = is.there;
+                },
+                omega arith,
+              ),
             ))
             (does_store b.place.used known.0 h value v units (using b) s state (good_using b s state good) known.1 known.2 stands)
 
     -- what waits still waits where holders are as they were
-    pub waits_after : (splits : Bool) (b later : Flow) (state last : State) (s : shader.State) (h : ℕ) (v : Value) → Grown b later → After m input whole f p around splits b state later s last → Waits m input whole f b.place.used h v state → Waits m input whole f later.place.used h v last
+    abbrev pub waits_after : (splits : Bool) (b later : Flow) (state last : State) (s : shader.State) (h : ℕ) (v : Value) → Grown b later → After m input whole f p around splits b state later s last → Waits m input whole f b.place.used h v state → Waits m input whole f later.place.used h v last
     waits_after splits b later state last s h v grown after w =
         record { holder = w.holder; number = w.number; among = omega (arith, w.among, grown.used); seat = w.seat; points = w.points; value = after.held.same w.holder w.number w.among w.seat ∙ w.value }
 
@@ -254,4 +257,5 @@ module _ (m : Module) (input : Input) (whole : Sections) (f : Frame m input whol
         → Does m input whole f p 0 units state (λ kept later (r : Unit {0}) t last. After m input whole f p around false b state later t last × HeldAs m input whole f waits kept v later last) none_waits (Got tt s units) (hold waits value b)
     unfolding hold
     does_hold false value v units b s state good stands = λ inside. reaches_here m input units state _ (after_same b s state good, stands)
-    does_hold true value v units b s state good stands = does_keep value v units b s state good stands
+    does_hold true value v units b s state good stands =
+        does_so 0 units state (NowWaits v b state) (λ kept later (r : Unit {0}) t last. After m input whole f p around false b state later t last × Waits m input whole f later.place.used kept v last) (Got tt s units) (keep value b) (λ h later r t last is. (is.0, is.1.0)) (does_keep value v units b s state good stands)

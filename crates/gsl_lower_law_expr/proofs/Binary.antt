@@ -21,6 +21,7 @@ use Rattle.gsl_tree.specs.Values.{is_value_of, same_value}
 use Rattle.gsl_tree.specs.declared.program.Program.{Program}
 use Rattle.gsl_meaning.specs.Expressions.{binary as means_binary}
 use Rattle.gsl_meaning.specs.Running.{Run, drawing}
+use Rattle.gsl_meaning.specs.Running as shader_run
 use Rattle.gsl_meaning.specs.State as shader
 use Rattle.gsl_machine.specs.State.{State}
 use Rattle.gsl_spv.specs.Sections.{Sections}
@@ -135,6 +136,7 @@ module _ (m : Module) (input : Input) (whole : Sections) where
     pub binary_gives : (which : BinaryOp) (a b : Lower) (ty : Ty) (x y : Run Value) → Operates p around which a.ty b.ty ty → GivesValue m input whole f p around a.traits.splits a.ty a.value x → GivesValue m input whole f p around b.traits.splits b.ty b.value y
         → GivesValue m input whole f p around (a.traits.splits || b.traits.splits) ty (binary p.structs which a b) (means_binary ty x y (binary_value which (is_signed a.ty)))
     binary_gives which a b ty x y known first second =
-        two_give m input whole f p around a.traits.splits b.traits.splits a.ty b.ty ty a.value b.value x y (λ i j. lift (binary_of p.structs which a.ty b.ty i j)) (λ v w. drawing (binary_value which (is_signed a.ty) v w)) known.real_left known.real_right first second
+        two_give m input whole f p around a.traits.splits b.traits.splits a.ty b.ty ty a.value b.value x y (λ i j. lift (binary_of p.structs which a.ty b.ty i j)) (λ v w. drawing (binary_value which (is_signed a.ty) v w)) (λ v. shader_run.◌>>=◌ y (λ w. drawing (binary_value which (is_signed a.ty) v w))) known.real_left known.real_right first second
         (λ i j. adds_lift (binary_of p.structs which a.ty b.ty i j) (λ now. always_of p.structs which a.ty b.ty i j now.sections))
         (operated which a.ty b.ty ty known)
+        (λ v s units typed are. refl)

@@ -2,3 +2,5 @@ pub mod Operands
 pub mod Steps
 pub mod Shapes
 pub mod Binary
+pub mod Logic
+pub mod Short

@@ -16,7 +16,7 @@ use Rattle.gsl_spv.specs.Sections.{Sections}
 use Rattle.gsl_lower_law.specs.Values.{Keeps, Stands}
 use Rattle.gsl_lower_holders.specs.Flow.{Emit, Flow, ◌>>=◌}
 use Rattle.gsl_lower_holders.specs.Waiting.{fetch, hold}
-use Rattle.gsl_lower_follows.specs.Frames.{Frame, Good, HeldAs, Inside}
+use Rattle.gsl_lower_follows.specs.Frames.{AreTyped, Frame, Good, HeldAs, Inside}
 use Rattle.gsl_lower_follows.specs.Giving.{Adds, After, Does, GivesValue, Grown, HasGiven, IsGiven, none_waits}
 use Rattle.gsl_lower_follows.proofs.Doing.{does_then}
 use Rattle.gsl_lower_follows.proofs.Fetching.{Again, adds_fetch, adds_hold, does_fetch}
@@ -38,7 +38,7 @@ module _ (m : Module) (input : Input) (whole : Sections) (f : Frame m input whol
   given_behind first second splits ty b between later state mid last s t id v less grown x y =
       record { given = y.given; after = after_less (first || second) splits b later state last t less (after_then m input whole f p around first second b between later state mid last s t grown x y.after) }
 
-  module _ (sa sb : Bool) (ta tb ty : Ty) (a b : Emit ℕ) (x y : Run Value) (go : ℕ → ℕ → Emit ℕ) (apply : Value → Value → Run Value) where
+  module _ (sa sb : Bool) (ta tb ty : Ty) (a b : Emit ℕ) (x y : Run Value) (go : ℕ → ℕ → Emit ℕ) (apply : Value → Value → Run Value) (rest : Value → Run Value) where
     abbrev again_first : ℕ → ℕ → Emit ℕ
     again_first kept j = fetch sb ta kept >>= (λ again. go again j)
 
@@ -56,7 +56,8 @@ module _ (m : Module) (input : Input) (whole : Sections) (f : Frame m input whol
     Finishes = (i j : ℕ) (v w : Value) (b : Flow) (s : shader.State) (units : ℕ) (state : State) → Good m input whole f p around b s state → is_value_of p.structs ta v ≡ true → is_value_of p.structs tb w ≡ true → Stands state.ids i v → Stands state.ids j w
         → Does m input whole f p 0 units state (HasGiven m input whole f p around false ty b state) none_waits (apply v w s units) (go i j b)
 
-    module _ (real_a : ta ≢ Void) (real_b : tb ≢ Void) (first : GivesValue m input whole f p around sa ta a x) (second : GivesValue m input whole f p around sb tb b y) (adds_go : (i j : ℕ) → Adds (go i j)) (finishes : Finishes) where
+    module _ (real_a : ta ≢ Void) (real_b : tb ≢ Void) (first : GivesValue m input whole f p around sa ta a x) (second : GivesValue m input whole f p around sb tb b y) (adds_go : (i j : ℕ) → Adds (go i j)) (finishes : Finishes)
+        (goes : (v : Value) (s : shader.State) (units : ℕ) → is_value_of p.structs ta v ≡ true → AreTyped m input whole f p around s → rest v s units ≡ second_value v s units) where
       adds_again : (kept j : ℕ) → Adds (again_first kept j)
       adds_again kept j = adds_then (fetch sb ta kept) (λ again. go again j) (adds_fetch m input whole sb ta kept) (λ again. adds_go again j)
 
@@ -100,21 +101,47 @@ module _ (m : Module) (input : Input) (whole : Sections) (f : Frame m input whol
           (λ j b3 t left mid inside3 grown3 none less. absurd none)
 
       held_done : (b0 b1 : Flow) (state0 : State) (i : ℕ) (v : Value) (s : shader.State) (units : ℕ) (state : State) → Inside m input whole f b1.sections → Grown b0 b1 → HasGiven m input whole f p around sa ta b0 state0 i b1 v s state
-          → Does m input whole f p 0 units state (HasGiven m input whole f p around (sa || sb) ty b0 state0) none_waits (second_value v s units) (held_first i b1)
+          → Does m input whole f p 0 units state (HasGiven m input whole f p around (sa || sb) ty b0 state0) none_waits (rest v s units) (held_first i b1)
       held_done b0 b1 state0 i v s units state inside grown g =
           let real = given_value state.ids i ta v real_a g.given in
-          does_then m input whole f p 0 units b1 state (λ kept later (r : Unit {0}) t last. After m input whole f p around false b1 state later t last × HeldAs m input whole f sb kept v later last) none_waits (HasGiven m input whole f p around (sa || sb) ty b0 state0) none_waits
+          subst (λ ran. Does m input whole f p 0 units state (HasGiven m input whole f p around (sa || sb) ty b0 state0) none_waits ran (held_first i b1)) (sym (goes v s units real.0 g.after.good.typed))
+          (does_then m input whole f p 0 units b1 state (λ kept later (r : Unit {0}) t last. After m input whole f p around false b1 state later t last × HeldAs m input whole f sb kept v later last) none_waits (HasGiven m input whole f p around (sa || sb) ty b0 state0) none_waits
           (Got tt s units) (λ r t left. second_value v t left) (hold sb i b1) then_second inside (adds_hold sb i b1) adds_second
           (does_hold m input whole f p around sb i v units b1 s state g.after.good real.1)
           (λ kept b2 r t left mid inside2 grown2 is less. second_done b0 b2 state0 kept v t left mid inside2 (grown_then grown grown2) (after_then m input whole f p around sa false b0 b1 b2 state0 state mid s t grown g.after is.0) is.1 real.0)
-          (λ kept b2 t left mid inside2 grown2 none less. absurd none)
+          (λ kept b2 t left mid inside2 grown2 none less. absurd none))
 
-      pub two_give : GivesValue m input whole f p around (sa || sb) ty (a >>= held_first) (shader_run.◌>>=◌ x second_value)
+      pub two_give : GivesValue m input whole f p around (sa || sb) ty (a >>= held_first) (shader_run.◌>>=◌ x rest)
       two_give = record {
         adds = adds_then a held_first first.adds adds_held;
         does = λ b0 s units state good.
-            does_then m input whole f p 0 units b0 state (HasGiven m input whole f p around sa ta b0 state) none_waits (HasGiven m input whole f p around (sa || sb) ty b0 state) none_waits (x s units) second_value (a b0) held_first good.inside (first.adds b0) adds_held
+            does_then m input whole f p 0 units b0 state (HasGiven m input whole f p around sa ta b0 state) none_waits (HasGiven m input whole f p around (sa || sb) ty b0 state) none_waits (x s units) rest (a b0) held_first good.inside (first.adds b0) adds_held
             (first.does b0 s units state good)
             (λ i b1 v t left mid inside grown g less. held_done b0 b1 state i v t left mid inside grown g)
             (λ i b1 t left mid inside grown none less. absurd none);
       }
+
+  -- ---- one operand
+
+  module _ (sa : Bool) (ta ty : Ty) (a : Emit ℕ) (x : Run Value) (go : ℕ → Emit ℕ) (apply : Value → Run Value) where
+    abbrev pub Ends : Type 0
+    Ends = (i : ℕ) (v : Value) (b : Flow) (s : shader.State) (units : ℕ) (state : State) → Good m input whole f p around b s state → is_value_of p.structs ta v ≡ true → Stands state.ids i v
+        → Does m input whole f p 0 units state (HasGiven m input whole f p around false ty b state) none_waits (apply v s units) (go i b)
+
+    none_more : (c : Bool) → c ≡ false → (c || false) ≡ false
+    none_more true e = absurd cc
+    none_more false e = refl
+
+    pub one_give : ta ≢ Void → GivesValue m input whole f p around sa ta a x → ((i : ℕ) → Adds (go i)) → Ends → GivesValue m input whole f p around sa ty (a >>= go) (shader_run.◌>>=◌ x apply)
+    one_give real_a first adds_go ends = record {
+      adds = adds_then a go first.adds adds_go;
+      does = λ b0 s units state good.
+          does_then m input whole f p 0 units b0 state (HasGiven m input whole f p around sa ta b0 state) none_waits (HasGiven m input whole f p around sa ty b0 state) none_waits (x s units) apply (a b0) go good.inside (first.adds b0) adds_go
+          (first.does b0 s units state good)
+          (λ i b1 v t left mid inside grown g less.
+          let real = given_value mid.ids i ta v real_a g.given in
+          does_so m input whole f p around 0 left mid (HasGiven m input whole f p around false ty b1 mid) (HasGiven m input whole f p around sa ty b0 state) (apply v t left) (go i b1)
+          (λ id later z u last h. given_behind sa false sa ty b0 b1 later state mid last t u id z (none_more sa) grown g.after h)
+          (ends i v b1 t left mid g.after.good real.0 real.1))
+          (λ i b1 t left mid inside grown none less. absurd none);
+    }

@@ -1,15 +1,20 @@
 -- What is known of the types of operands.
-use Rattle.std.specs.Prelude.{◌≡◌, ◌≢◌, ℕ, true, List, length}
+use Rattle.std.specs.Prelude.{◌≡◌, ◌≢◌, ℕ, Bool, true, if◌then◌else◌, List, length}
 use Rattle.gsl_types.specs.Known.{AreStructs, IsSound}
 use Rattle.gsl_types.specs.declared.ty.Ty.{Ty}
 use Rattle.gsl_types.specs.declared.ty.Ty.TheVariants.{Void}
 use Rattle.gsl_values.specs.declared.op.BinaryOp.{BinaryOp}
 use Rattle.gsl_values.specs.declared.value.Value.{Value}
+use Rattle.gsl_values.specs.declared.value.Value.TheVariants.{Word}
 use Rattle.gsl_tree.specs.Around.{Around}
 use Rattle.gsl_tree.specs.Expressions.{IsBinary}
-use Rattle.gsl_tree.specs.Operations.{binary_value, is_signed}
-use Rattle.gsl_tree.specs.Values.{is_value_of}
+use Rattle.gsl_tree.specs.Operations.{binary_value, decides, is_signed, logic_word}
+use Rattle.gsl_tree.specs.Values.{is_value_of, word_in}
+use Rattle.gsl_tree.specs.declared.expr.LogicOp.{LogicOp}
+use Rattle.gsl_tree.specs.declared.expr.LogicOp.TheVariants as logic
 use Rattle.gsl_tree.specs.declared.program.Program.{Program}
+use Rattle.gsl_meaning.specs.Running.{Got, Run, given, ◌>>=◌}
+use Rattle.gsl_meaning.specs.State.{State}
 
 -- An operator fits two types, and gives values of another.
 pub record Operates (p : Program) (around : Around) (which : BinaryOp) (left right ty : Ty) : Type 0 where
@@ -20,3 +25,21 @@ pub record Operates (p : Program) (around : Around) (which : BinaryOp) (left rig
   pub real_right : right ≢ Void
   pub operands : IsBinary around which left right ty
   pub gives : (v w : Value) (choices : List ℕ) → is_value_of p.structs left v ≡ true → is_value_of p.structs right w ≡ true → is_value_of p.structs ty (binary_value which (is_signed left) v w choices).0 ≡ true
+
+-- What an operand gives is there at once, in whatever typed state, and nothing else is done: it may be evaluated where it does not count.
+pub record IsQuiet (AreTyped : State → Type 0) (is_typed : Value → Bool) (run : Run Value) : Type 0 where
+  pub gives : (s : State) (units : ℕ) → AreTyped s → (v : Value) × (run s units ≡ Got v s units) × (is_typed v ≡ true)
+
+-- what a logical operator goes on with behind its first operand
+abbrev pub logic_value : LogicOp → Run Value → Value → Run Value
+logic_value which second v = if decides which (word_in v) then given v else second >>= (λ w. given (Word (logic_word which (word_in v) (word_in w))))
+
+-- what a logical operator does
+abbrev pub logic_means : LogicOp → Run Value → Run Value → Run Value
+logic_means which first second = first >>= logic_value which second
+
+-- `&&` and `||` may have blocks.
+abbrev pub IsShort : LogicOp → Type 0
+IsShort logic.And = Unit {0}
+IsShort logic.Or = Unit {0}
+IsShort logic.Xor = ⊥

@@ -1,6 +1,6 @@
 //! Laws of the definitions: calls that do nothing, whose contracts are the laws.
 
-ghost use Rattle.std.specs.Prelude.{◌≡◌, ◌≢◌, ◌||◌, ℕ, Bool, List, Some, false, true};
+ghost use Rattle.std.specs.Prelude.{◌≡◌, ◌≢◌, ◌||◌, ◌⊎◌, ℕ, Bool, List, Some, false, true};
 ghost use Rattle.gsl_base.specs.declared.input.Input.{Input};
 ghost use Rattle.gsl_types.specs.declared.ty.StructType.{StructType};
 ghost use Rattle.gsl_types.specs.declared.ty.Ty.{Ty};
@@ -9,18 +9,30 @@ ghost use Rattle.gsl_words.specs.declared.module.Module.{Module};
 ghost use Rattle.gsl_values.specs.declared.value.Value.{Value};
 ghost use Rattle.gsl_values.specs.declared.op.BinaryOp.{BinaryOp};
 ghost use Rattle.gsl_tree.specs.Around.{Around};
-ghost use Rattle.gsl_tree.specs.Operations.{binary_value, is_signed};
+ghost use Rattle.gsl_tree.specs.Expressions.{boolean};
+ghost use Rattle.gsl_tree.specs.Operations.{binary_value, decides, is_signed};
 ghost use Rattle.gsl_tree.specs.Values.{is_value_of};
+ghost use Rattle.gsl_tree.specs.declared.expr.LogicOp.{LogicOp};
 ghost use Rattle.gsl_tree.specs.declared.program.Program.{Program};
 ghost use Rattle.gsl_meaning.specs.Expressions.{binary as means_binary};
 ghost use Rattle.gsl_meaning.specs.Running.{Run};
 ghost use Rattle.gsl_spv.specs.Sections.{Sections};
-ghost use Rattle.gsl_lower_expr.specs.Parts.{Lower, binary};
-ghost use Rattle.gsl_lower_follows.specs.Frames.{Frame};
+ghost use Rattle.gsl_lower_expr.specs.Parts.{Lower, binary, both, short};
+ghost use Rattle.gsl_lower_follows.specs.Frames.{AreTyped, Frame};
 ghost use Rattle.gsl_lower_follows.specs.Giving.{GivesValue};
-ghost use Rattle.gsl_lower_law_expr.specs.Known.{Operates};
+ghost use Rattle.gsl_lower_law_expr.specs.Known.{IsQuiet, IsShort, Operates, logic_means};
 
 /// An operator on the values of two expressions.
 pub fn binary_gives()
     ensures { (m : Module) (input : Input) (whole : Sections) (f : Frame m input whole) (p : Program) (around : Around) (which : BinaryOp) (a b : Lower) (ty : Ty) (x y : Run Value) → Operates p around which a.ty b.ty ty → GivesValue m input whole f p around a.traits.splits a.ty a.value x → GivesValue m input whole f p around b.traits.splits b.ty b.value y → GivesValue m input whole f p around (a.traits.splits || b.traits.splits) ty (binary p.structs which a b) (means_binary ty x y (binary_value which (is_signed a.ty))) }
+{}
+
+/// A logical operator whose second operand may be evaluated whether it counts or not: both are, and no block ends.
+pub fn both_give()
+    ensures { (m : Module) (input : Input) (whole : Sections) (f : Frame m input whole) (p : Program) (around : Around) (which : LogicOp) (a b : Lower) (x y : Run Value) → a.ty ≡ boolean → b.ty ≡ boolean → ((word : ℕ) → (decides which word ≡ false) ⊎ IsQuiet (AreTyped m input whole f p around) (is_value_of p.structs boolean) y) → GivesValue m input whole f p around a.traits.splits a.ty a.value x → GivesValue m input whole f p around b.traits.splits b.ty b.value y → GivesValue m input whole f p around (a.traits.splits || b.traits.splits) boolean (both which a b) (logic_means which x y) }
+{}
+
+/// `&&` and `||` whose second operand has a block of its own, which is entered where the first does not decide.
+pub fn short_gives()
+    ensures { (m : Module) (input : Input) (whole : Sections) (f : Frame m input whole) (p : Program) (around : Around) (which : LogicOp) (a b : Lower) (x y : Run Value) → IsShort which → a.ty ≡ boolean → b.ty ≡ boolean → GivesValue m input whole f p around a.traits.splits a.ty a.value x → GivesValue m input whole f p around b.traits.splits b.ty b.value y → GivesValue m input whole f p around true boolean (short which a b) (logic_means which x y) }
 {}

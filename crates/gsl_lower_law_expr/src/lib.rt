@@ -3,4 +3,4 @@
 
 mod laws;
 
-pub use laws::binary_gives;
+pub use laws::{binary_gives, both_give, short_gives};
