@@ -168,10 +168,10 @@ module _ (m : Module) (input : Input) (whole : Sections) (f : Frame m input whol
         })
 
     -- the next holder is used
-    abbrev using : Flow → Flow
+    abbrev pub using : Flow → Flow
     using b = record b { place = record b.place { used = b.place.used + 1 } }
 
-    good_using : (b : Flow) (s : shader.State) (state : State) → Good m input whole f p around b s state → Good m input whole f p around (using b) s state
+    pub good_using : (b : Flow) (s : shader.State) (state : State) → Good m input whole f p around b s state → Good m input whole f p around (using b) s state
     good_using b s state good = record { inside = good.inside; rest = good.rest; within = good.within; own = good.own; waiting = good.waiting; ready = good.ready; seated = seated_moved b.place b.place.label (b.place.used + 1) good.seated; holds = good.holds; typed = good.typed }
 
     -- nothing has changed, and an id is that of a holder in which a value waits

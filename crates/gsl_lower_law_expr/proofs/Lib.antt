@@ -4,3 +4,4 @@ pub mod Shapes
 pub mod Binary
 pub mod Logic
 pub mod Short
+pub mod Forking

@@ -57,7 +57,7 @@ grown_chosen end operands first b = record {
   place = refl;
 }
 
-behind_assoc : {A B C : Type 0} (l : Lowered A) (first : A → Emit B) (next : B → Emit C) → behind (behind l first) next ≡ behind l (λ a. first a >>= next)
+pub behind_assoc : {A B C : Type 0} (l : Lowered A) (first : A → Emit B) (next : B → Emit C) → behind (behind l first) next ≡ behind l (λ a. first a >>= next)
 behind_assoc Lacks first next = refl
 behind_assoc (Gives a later) first next = refl
 
@@ -118,10 +118,10 @@ grown_entered : (which : LogicOp) (x right end : ℕ) (b : Flow) → Grown b (en
 grown_entered which x right end b = grown_chosen end (x ∷ on_true which right end ∷ on_false which right end ∷ []) right b
 
 -- the flow where both ways meet
-abbrev stored_end : ℕ → ℕ → ℕ → Flow → Flow
+abbrev pub stored_end : ℕ → ℕ → ℕ → Flow → Flow
 stored_end h id end b = branched end end (record b { sections = put op.STORE (h ∷ id ∷ []) b.sections })
 
-grown_stored_end : (h id end : ℕ) (b : Flow) → Grown b (stored_end h id end b)
+pub grown_stored_end : (h id end : ℕ) (b : Flow) → Grown b (stored_end h id end b)
 grown_stored_end h id end b = grown_then (adds_put op.STORE (h ∷ id ∷ []) b) (grown_branched end end (record b { sections = put op.STORE (h ∷ id ∷ []) b.sections }))
 
 module _ (m : Module) (input : Input) (whole : Sections) (f : Frame m input whole) (p : Program) (around : Around) where
@@ -131,7 +131,7 @@ module _ (m : Module) (input : Input) (whole : Sections) (f : Frame m input whol
   does_change units left state First Is r t s Lacks so does = tt
   does_change units left state First Is r t s (Gives a later) so does = λ inside. let q = does inside in record { later = q.later; is = so a later q.later q.is; less = q.less; stretch = q.stretch }
 
-  met_given : (b0 : Flow) (state0 : State) (id : ℕ) (later : Flow) (v : Value) (s : shader.State) (last : State) (t : Ty) → is_value_of p.structs t v ≡ true → Met m input whole f p around b0.place.used v state0 id later tt s last → HasGiven m input whole f p around true t b0 state0 id later v s last
+  pub met_given : (b0 : Flow) (state0 : State) (id : ℕ) (later : Flow) (v : Value) (s : shader.State) (last : State) (t : Ty) → is_value_of p.structs t v ≡ true → Met m input whole f p around b0.place.used v state0 id later tt s last → HasGiven m input whole f p around true t b0 state0 id later v s last
   met_given b0 state0 id later v s last t typed met = record { given = inr (typed, met.stands); after = record { good = met.good; held = met.held; ids = λ e. absurd (let z : true ≡ false = e in cc) } }
 
   -- What is known where two ways begin: from the start of the whole on, holders are as they were, and a value waits in one that came later.
@@ -141,6 +141,16 @@ module _ (m : Module) (input : Input) (whole : Sections) (f : Frame m input whol
     pub held : Kept m input whole f b0.place.used state0 state
     pub waits : Waits m input whole f b.place.used h v state
     pub first : b0.place.used ≤ waits.holder
+
+  -- an id was taken
+  pub before_later : (b0 b later : Flow) (state0 mid last : State) (s t : shader.State) (h : ℕ) (v : Value) → Before b0 state0 h v b s mid → Grown b later → After m input whole f p around false b mid later t last → Before b0 state0 h v later t last
+  before_later b0 b later state0 mid last s t h v before grown after = record {
+    good = after.good;
+    grown = grown_then before.grown grown;
+    held = record { same = λ holder number less seat. after.held.same holder number (omega (arith, less, before.grown.used)) seat ∙ before.held.same holder number less seat };
+    waits = waits_after m input whole f p around false b later mid last t h v grown after before.waits;
+    first = before.first;
+  }
 
   module _ (which : LogicOp) (is : IsShort which) (sb : Bool) (second : Emit ℕ) (y : Run Value) (does_second : GivesValue m input whole f p around sb boolean second y) where
     abbrev meet : Fork → Emit ℕ
@@ -224,16 +234,6 @@ module _ (m : Module) (input : Input) (whole : Sections) (f : Frame m input whol
             → Does m input whole f p 0 units mid3 (HasGiven m input whole f p around true boolean b0 state0) none_waits ((if d then shader_given v else shader_run.◌>>=◌ y (λ w. shader_given (Word (logic_word which (word_in v) (word_in w))))) s units) (meet (fork h right end) (entered_at which x right end b3))
         by true e = skips b0 b3 state0 mid3 s units x h right end v before stands typed e
         by false e = enters b0 b3 state0 mid3 s units x h right end v before stands e
-
-    -- an id was taken
-    before_later : (b0 b later : Flow) (state0 mid last : State) (s t : shader.State) (h : ℕ) (v : Value) → Before b0 state0 h v b s mid → Grown b later → After m input whole f p around false b mid later t last → Before b0 state0 h v later t last
-    before_later b0 b later state0 mid last s t h v before grown after = record {
-      good = after.good;
-      grown = grown_then before.grown grown;
-      held = record { same = λ holder number less seat. after.held.same holder number (omega (arith, less, before.grown.used)) seat ∙ before.held.same holder number less seat };
-      waits = waits_after m input whole f p around false b later mid last t h v grown after before.waits;
-      first = before.first;
-    }
 
     adds_choice : (x h right end : ℕ) → Adds (choose_end which x h right end >>= meet)
     adds_choice x h right end = adds_then (choose_end which x h right end) meet (adds_choose which x h right end) adds_meet

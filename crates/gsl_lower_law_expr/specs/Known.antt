@@ -1,5 +1,5 @@
 -- What is known of the types of operands.
-use Rattle.std.specs.Prelude.{◌≡◌, ◌≢◌, ℕ, Bool, true, if◌then◌else◌, List, length}
+use Rattle.std.specs.Prelude.{◌≡◌, ◌≢◌, ◌==◌, ℕ, Bool, true, if◌then◌else◌, List, length}
 use Rattle.gsl_types.specs.Known.{AreStructs, IsSound}
 use Rattle.gsl_types.specs.declared.ty.Ty.{Ty}
 use Rattle.gsl_types.specs.declared.ty.Ty.TheVariants.{Void}
@@ -43,3 +43,11 @@ abbrev pub IsShort : LogicOp → Type 0
 IsShort logic.And = Unit {0}
 IsShort logic.Or = Unit {0}
 IsShort logic.Xor = ⊥
+
+-- what `?:` goes on with behind its condition
+abbrev pub choice_value : Run Value → Run Value → Value → Run Value
+choice_value first second v = if word_in v == 0 then second else first
+
+-- what `?:` does
+abbrev pub choice_means : Run Value → Run Value → Run Value → Run Value
+choice_means test first second = test >>= choice_value first second

@@ -17,10 +17,10 @@ ghost use Rattle.gsl_tree.specs.declared.program.Program.{Program};
 ghost use Rattle.gsl_meaning.specs.Expressions.{binary as means_binary};
 ghost use Rattle.gsl_meaning.specs.Running.{Run};
 ghost use Rattle.gsl_spv.specs.Sections.{Sections};
-ghost use Rattle.gsl_lower_expr.specs.Parts.{Lower, binary, both, short};
+ghost use Rattle.gsl_lower_expr.specs.Parts.{Lower, binary, both, forked, short};
 ghost use Rattle.gsl_lower_follows.specs.Frames.{AreTyped, Frame};
 ghost use Rattle.gsl_lower_follows.specs.Giving.{GivesValue};
-ghost use Rattle.gsl_lower_law_expr.specs.Known.{IsQuiet, IsShort, Operates, logic_means};
+ghost use Rattle.gsl_lower_law_expr.specs.Known.{IsQuiet, IsShort, Operates, choice_means, logic_means};
 
 /// An operator on the values of two expressions.
 pub fn binary_gives()
@@ -35,4 +35,9 @@ pub fn both_give()
 /// `&&` and `||` whose second operand has a block of its own, which is entered where the first does not decide.
 pub fn short_gives()
     ensures { (m : Module) (input : Input) (whole : Sections) (f : Frame m input whole) (p : Program) (around : Around) (which : LogicOp) (a b : Lower) (x y : Run Value) → IsShort which → a.ty ≡ boolean → b.ty ≡ boolean → GivesValue m input whole f p around a.traits.splits a.ty a.value x → GivesValue m input whole f p around b.traits.splits b.ty b.value y → GivesValue m input whole f p around true boolean (short which a b) (logic_means which x y) }
+{}
+
+/// `?:` whose values have a block each, of which the one that counts is entered.
+pub fn forked_gives()
+    ensures { (m : Module) (input : Input) (whole : Sections) (f : Frame m input whole) (p : Program) (around : Around) (t : Ty) (test a b : Lower) (c x y : Run Value) → t ≢ Void → test.ty ≡ boolean → a.ty ≡ t → b.ty ≡ t → GivesValue m input whole f p around test.traits.splits test.ty test.value c → GivesValue m input whole f p around a.traits.splits a.ty a.value x → GivesValue m input whole f p around b.traits.splits b.ty b.value y → GivesValue m input whole f p around true t (forked t test a b) (choice_means c x y) }
 {}

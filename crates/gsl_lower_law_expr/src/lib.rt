@@ -3,4 +3,4 @@
 
 mod laws;
 
-pub use laws::{binary_gives, both_give, short_gives};
+pub use laws::{binary_gives, both_give, forked_gives, short_gives};
