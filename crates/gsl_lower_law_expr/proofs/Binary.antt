@@ -57,7 +57,7 @@ use Rattle.gsl_lower_law_expr.proofs.Steps.{Always, always_binary, always_given,
 true_is : (b : Bool) → IsTrue b → b ≡ true
 true_is b e = e
 
-shape_is : (t : Ty) (shape : Shape) → shape_of t ≡ Some shape → shape_or t ≡ shape
+pub shape_is : (t : Ty) (shape : Shape) → shape_of t ≡ Some shape → shape_or t ≡ shape
 shape_is t shape is = ap (λ (o : Option Shape). unwrap_or o (Int, 1)) is
 
 module _ (m : Module) (input : Input) (whole : Sections) where

@@ -44,7 +44,7 @@ use Rattle.gsl_lower_law_expr.proofs.Logic.{real_boolean}
 use Rattle.gsl_lower_law_expr.proofs.Operands.{given_value}
 use Rattle.gsl_lower_law_expr.proofs.Short.{Before, before_later, behind_assoc, chosen_at, does_change, grown_chosen, grown_stored_end, met_given, stored_end}
 
-behind_given : (r : Ran Value) → shader_run.behind r shader_given ≡ r
+pub behind_given : (r : Ran Value) → shader_run.behind r shader_given ≡ r
 behind_given (Got v s left) = refl
 behind_given (shader_run.Ends s) = refl
 behind_given shader_run.Strays = refl

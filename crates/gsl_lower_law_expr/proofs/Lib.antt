@@ -5,3 +5,4 @@ pub mod Binary
 pub mod Logic
 pub mod Short
 pub mod Forking
+pub mod Single

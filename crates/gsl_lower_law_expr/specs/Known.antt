@@ -4,11 +4,12 @@ use Rattle.gsl_types.specs.Known.{AreStructs, IsSound}
 use Rattle.gsl_types.specs.declared.ty.Ty.{Ty}
 use Rattle.gsl_types.specs.declared.ty.Ty.TheVariants.{Void}
 use Rattle.gsl_values.specs.declared.op.BinaryOp.{BinaryOp}
+use Rattle.gsl_values.specs.declared.op.UnaryOp.{UnaryOp}
 use Rattle.gsl_values.specs.declared.value.Value.{Value}
 use Rattle.gsl_values.specs.declared.value.Value.TheVariants.{Word}
 use Rattle.gsl_tree.specs.Around.{Around}
 use Rattle.gsl_tree.specs.Expressions.{IsBinary}
-use Rattle.gsl_tree.specs.Operations.{binary_value, decides, is_signed, logic_word}
+use Rattle.gsl_tree.specs.Operations.{binary_value, decides, is_signed, logic_word, unary_value}
 use Rattle.gsl_tree.specs.Values.{is_value_of, word_in}
 use Rattle.gsl_tree.specs.declared.expr.LogicOp.{LogicOp}
 use Rattle.gsl_tree.specs.declared.expr.LogicOp.TheVariants as logic
@@ -51,3 +52,7 @@ choice_value first second v = if word_in v == 0 then second else first
 -- what `?:` does
 abbrev pub choice_means : Run Value → Run Value → Run Value → Run Value
 choice_means test first second = test >>= choice_value first second
+
+-- what an operator on one value does
+abbrev pub unary_means : UnaryOp → Run Value → Run Value
+unary_means which run = run >>= (λ v. given (unary_value which v))

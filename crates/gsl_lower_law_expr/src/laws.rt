@@ -1,16 +1,19 @@
 //! Laws of the definitions: calls that do nothing, whose contracts are the laws.
 
-ghost use Rattle.std.specs.Prelude.{◌≡◌, ◌≢◌, ◌||◌, ◌⊎◌, ℕ, Bool, List, Some, false, true};
+ghost use Rattle.std.specs.Prelude.{◌≡◌, ◌≢◌, ◌||◌, ◌⊎◌, ℕ, List, Some, length, true};
 ghost use Rattle.gsl_base.specs.declared.input.Input.{Input};
-ghost use Rattle.gsl_types.specs.declared.ty.StructType.{StructType};
+ghost use Rattle.gsl_types.specs.Known.{AreStructs, IsSound};
+ghost use Rattle.gsl_types.specs.declared.ty.Scalar.{Scalar};
 ghost use Rattle.gsl_types.specs.declared.ty.Ty.{Ty};
 ghost use Rattle.gsl_types.specs.declared.ty.Ty.TheVariants.{Void};
 ghost use Rattle.gsl_words.specs.declared.module.Module.{Module};
 ghost use Rattle.gsl_values.specs.declared.value.Value.{Value};
 ghost use Rattle.gsl_values.specs.declared.op.BinaryOp.{BinaryOp};
+ghost use Rattle.gsl_values.specs.declared.op.UnaryOp.{UnaryOp};
 ghost use Rattle.gsl_tree.specs.Around.{Around};
 ghost use Rattle.gsl_tree.specs.Expressions.{boolean};
-ghost use Rattle.gsl_tree.specs.Operations.{binary_value, decides, is_signed};
+ghost use Rattle.gsl_tree.specs.Operations.{binary_value, decides, is_signed, unary_value};
+ghost use Rattle.gsl_tree.specs.Shapes.{Shape, is_integer, shape_of};
 ghost use Rattle.gsl_tree.specs.Values.{is_value_of};
 ghost use Rattle.gsl_tree.specs.declared.expr.LogicOp.{LogicOp};
 ghost use Rattle.gsl_tree.specs.declared.program.Program.{Program};
@@ -20,7 +23,8 @@ ghost use Rattle.gsl_spv.specs.Sections.{Sections};
 ghost use Rattle.gsl_lower_expr.specs.Parts.{Lower, binary, both, forked, short};
 ghost use Rattle.gsl_lower_follows.specs.Frames.{AreTyped, Frame};
 ghost use Rattle.gsl_lower_follows.specs.Giving.{GivesValue};
-ghost use Rattle.gsl_lower_law_expr.specs.Known.{IsQuiet, IsShort, Operates, choice_means, logic_means};
+ghost use Rattle.gsl_lower_law_expr.specs.Coded.{converted_code, unary_code};
+ghost use Rattle.gsl_lower_law_expr.specs.Known.{IsQuiet, IsShort, Operates, choice_means, logic_means, unary_means};
 
 /// An operator on the values of two expressions.
 pub fn binary_gives()
@@ -40,4 +44,14 @@ pub fn short_gives()
 /// `?:` whose values have a block each, of which the one that counts is entered.
 pub fn forked_gives()
     ensures { (m : Module) (input : Input) (whole : Sections) (f : Frame m input whole) (p : Program) (around : Around) (t : Ty) (test a b : Lower) (c x y : Run Value) → t ≢ Void → test.ty ≡ boolean → a.ty ≡ t → b.ty ≡ t → GivesValue m input whole f p around test.traits.splits test.ty test.value c → GivesValue m input whole f p around a.traits.splits a.ty a.value x → GivesValue m input whole f p around b.traits.splits b.ty b.value y → GivesValue m input whole f p around true t (forked t test a b) (choice_means c x y) }
+{}
+
+/// An operator on the value of one expression.
+pub fn unary_gives()
+    ensures { (m : Module) (input : Input) (whole : Sections) (f : Frame m input whole) (p : Program) (around : Around) (which : UnaryOp) (a : Lower) (ty : Ty) (x : Run Value) → a.ty ≢ Void → ((v : Value) → is_value_of p.structs a.ty v ≡ true → is_value_of p.structs ty (unary_value which v) ≡ true) → GivesValue m input whole f p around a.traits.splits a.ty a.value x → GivesValue m input whole f p around a.traits.splits ty (unary_code which a) (unary_means which x) }
+{}
+
+/// A conversion of integers: an `int` and a `uint` have the same words.
+pub fn conversion_gives()
+    ensures { (m : Module) (input : Input) (whole : Sections) (f : Frame m input whole) (p : Program) (around : Around) (to : Scalar) (shape : Shape) (a : Lower) (ty : Ty) (x : Run Value) → AreStructs p.structs → IsSound (length p.structs) a.ty → a.ty ≢ Void → shape_of a.ty ≡ Some shape → is_integer to ≡ true → ((v : Value) → is_value_of p.structs a.ty v ≡ true → is_value_of p.structs ty v ≡ true) → GivesValue m input whole f p around a.traits.splits a.ty a.value x → GivesValue m input whole f p around a.traits.splits ty (converted_code to a) x }
 {}

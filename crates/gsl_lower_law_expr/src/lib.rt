@@ -3,4 +3,6 @@
 
 mod laws;
 
-pub use laws::{binary_gives, both_give, forked_gives, short_gives};
+pub use laws::{
+    binary_gives, both_give, conversion_gives, forked_gives, short_gives, unary_gives,
+};
