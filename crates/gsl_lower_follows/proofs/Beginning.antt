@@ -1,9 +1,8 @@
 -- Blocks that begin behind a branch.
-use Rattle.std.proofs.Common.{◌≡◌, refl, sym, ap, ◌∙◌, subst, ℕ, suc, ◌+◌, ◌<◌, ◌≤◌, Bool, true, false, List, [], ◌∷◌, ◌++◌, length, append_assoc, Option, Some, None, arith, if◌then◌else◌, ◌==◌}
+use Rattle.std.proofs.Common.{◌≡◌, refl, sym, ap, ◌∙◌, subst, ℕ, suc, Bool, true, false, [], ◌∷◌, length, append_assoc, arith, if◌then◌else◌, ◌==◌}
 use Rattle.gsl_base.specs.declared.input.Input.{Input}
 use Rattle.gsl_instr.specs.Forms.{form_of}
 use Rattle.gsl_instr.specs.declared.op.TheConstants as op
-use Rattle.gsl_types.specs.declared.ty.Ty.{Ty}
 use Rattle.gsl_words.specs.declared.module.Instr.{Instr}
 use Rattle.gsl_words.specs.declared.module.Module.{Module}
 use Rattle.gsl_values.specs.declared.value.Value.{Value}
@@ -12,11 +11,9 @@ use Rattle.gsl_tree.specs.Values.{word_in}
 use Rattle.gsl_tree.specs.declared.program.Program.{Program}
 use Rattle.gsl_meaning.specs.Running.{Got, Ran}
 use Rattle.gsl_meaning.specs.State as shader
-use Rattle.gsl_valid.specs.Placed.{Placed}
-use Rattle.gsl_valid.specs.Instruction.{read}
 use Rattle.gsl_machine.specs.Machine.{step}
 use Rattle.gsl_machine.specs.State.{Going, Ids, State, on_whole}
-use Rattle.gsl_machine.specs.Steps.{act, branching}
+use Rattle.gsl_machine.specs.Steps.{branching}
 use Rattle.gsl_spv.specs.Calls.{put, take}
 use Rattle.gsl_spv.specs.Declarations.{instr}
 use Rattle.gsl_spv.specs.Growing.{Extends}
@@ -25,17 +22,14 @@ use Rattle.gsl_spv.proofs.Extending.{extends_take, extends_then}
 use Rattle.gsl_lower_values.specs.Building.{Step, id_by}
 use Rattle.gsl_lower_law.specs.Computing as law
 use Rattle.gsl_lower_law.specs.Computing.{drawing, leaving}
-use Rattle.gsl_lower_law.specs.Values.{Keeps, Ready, Stands}
+use Rattle.gsl_lower_law.specs.Values.{Stands}
 use Rattle.gsl_lower_law.proofs.Adding.{extends_put}
 use Rattle.gsl_lower_law.proofs.Joining.{keeps_same}
 use Rattle.gsl_lower_law.proofs.Plain.{asking_does}
-use Rattle.gsl_lower_holders.specs.Flow.{Emit, Flow, Gives, Lacks, Lowered, behind, flow_of, fresh, lift, type_id, ◌>>=◌}
-use Rattle.gsl_lower_holders.specs.Waiting.{take_back}
-use Rattle.gsl_lower_holders.specs.declared.place.FlowPlace.{FlowPlace}
-use Rattle.gsl_lower_follows.specs.Following.{Follows}
-use Rattle.gsl_lower_follows.specs.Frames.{Frame, Good, Holds, Inside, Kept, Seated, Waits, body, coming}
+use Rattle.gsl_lower_holders.specs.Flow.{Flow, Gives, Lacks, Lowered, flow_of, fresh, lift}
+use Rattle.gsl_lower_follows.specs.Frames.{Frame, Good, Inside, Seated, body, coming}
 use Rattle.gsl_lower_follows.specs.Giving.{After, Does, Grown, GrownTo, none_waits}
-use Rattle.gsl_lower_follows.specs.Stretching.{Stretch, room}
+use Rattle.gsl_lower_follows.specs.Stretching.{Stretch}
 use Rattle.gsl_lower_follows.proofs.Behind.{follows_behind}
 use Rattle.gsl_lower_follows.proofs.Doing.{does_lift}
 use Rattle.gsl_lower_follows.proofs.Drawn.{after_drawn, left_with}
@@ -69,7 +63,7 @@ module _ (m : Module) (input : Input) (whole : Sections) (f : Frame m input whol
     does_aside Is units b s state step good does =
         does_lift m input whole f p around units b s state Is (drawing state state.choices) (Unchanged m input whole f p around b state) none_waits tt s step good does
         (λ a later l inside extends. subst (λ t. After m input whole f p around false b state (flow_of later b.place) t (record (leaving state (drawing state state.choices) l.ids) { rest = coming m input whole f later })) (ap (left_with s) good.holds.choices)
-          (after_drawn m input whole f p around b s state l.ids state.choices later good inside l.ready l.keeps))
+        (after_drawn m input whole f p around b s state l.ids state.choices later good inside l.ready l.keeps))
 
     pub does_fresh : (units : ℕ) (b : Flow) (s : shader.State) (state : State) → Good m input whole f p around b s state → Does m input whole f p 0 units state (Unchanged m input whole f p around b state) none_waits (Got tt s units) (fresh b)
     does_fresh units b s state good = does_aside (λ id ids. Unit {0}) units b s state (id_by take) good (asking_does m input whole (λ id ids. Unit {0}) take state b.sections (extends_take b.sections) refl (λ inside text keeps. tt))
@@ -90,8 +84,8 @@ module _ (m : Module) (input : Input) (whole : Sections) (f : Frame m input whol
     unfolding form_of
     chooses v label before state units which stands here last grown rest_is within own =
         stretch_then m input 0 0 0 units units units state mid _ first (jumps m input whole f branch label merged before mid units inside_merged inside_before last refl within own grown.functions.more
-            (grown.functions.is ∙ append_assoc merged.functions (branch ∷ []) grown.functions.more)
-            (λ at more. ap (λ o. on_whole o (λ c. if word_in c == 0 then branching (record mid { rest = more }) on_false else branching (record mid { rest = more }) on_true)) stands ∙ by_word (word_in v == 0) (record mid { rest = more }) which))
+        (grown.functions.is ∙ append_assoc merged.functions (branch ∷ []) grown.functions.more)
+        (λ at more. ap (λ o. on_whole o (λ c. if word_in c == 0 then branching (record mid { rest = more }) on_false else branching (record mid { rest = more }) on_true)) stands ∙ by_word (word_in v == 0) (record mid { rest = more }) which))
       where
         branch : Instr
         branch = instr op.BRANCH_CONDITIONAL (x ∷ on_true ∷ on_false ∷ [])

@@ -1,12 +1,12 @@
 -- What follows a part of the shader, behind a stretch or behind another part.
-use Rattle.std.proofs.Common.{◌≡◌, refl, ℕ, ◌≤◌, arith}
+use Rattle.std.proofs.Common.{ℕ, ◌≤◌, arith}
 use Rattle.gsl_base.specs.declared.input.Input.{Input}
 use Rattle.gsl_words.specs.declared.module.Module.{Module}
 use Rattle.gsl_tree.specs.declared.program.Program.{Program}
 use Rattle.gsl_meaning.specs.Running.{Ran, Run, Got, Ends, Strays, Goes, behind}
 use Rattle.gsl_meaning.specs.State as shader
 use Rattle.gsl_machine.specs.State.{Going, State}
-use Rattle.gsl_lower_follows.specs.Following.{Astray, Faults, Follows, Kills, Lasts, Reaches}
+use Rattle.gsl_lower_follows.specs.Following.{Astray, Faults, Follows, Kills, Reaches}
 use Rattle.gsl_lower_follows.specs.Following.Astray.{now, later}
 use Rattle.gsl_lower_follows.specs.Stretching.{Stretch}
 use Rattle.gsl_lower_follows.proofs.Stretches.{lasts_behind, lent_through, loan_unused, stretch_none, stretch_then}

@@ -1,5 +1,5 @@
 -- One part behind another, and steps of the builder.
-use Rattle.std.proofs.Common.{◌≡◌, refl, sym, ap, ◌∙◌, subst, ℕ, ◌+◌, ◌≤◌, Bool, true, false, List, [], ◌∷◌, ◌++◌, length, arith}
+use Rattle.std.proofs.Common.{◌≡◌, sym, ap, ◌∙◌, subst, ℕ, ◌+◌, ◌≤◌, ◌++◌, length, arith}
 use Rattle.std.proofs.lemmas.List.{length-append}
 use Rattle.gsl_base.specs.declared.input.Input.{Input}
 use Rattle.gsl_words.specs.declared.module.Module.{Module}
@@ -8,22 +8,21 @@ use Rattle.gsl_tree.specs.declared.program.Program.{Program}
 use Rattle.gsl_meaning.specs.Running.{Ran, Run, Got, Strays}
 use Rattle.gsl_meaning.specs.Running as shader_run
 use Rattle.gsl_meaning.specs.State as shader
-use Rattle.gsl_valid.specs.Placed.{Code, placed_from}
+use Rattle.gsl_valid.specs.Placed.{placed_from}
 use Rattle.gsl_machine.specs.Machine.{run}
 use Rattle.gsl_machine.specs.State.{Going, Ids, State, Strayed}
 use Rattle.gsl_spv.specs.Growing.{Extends}
 use Rattle.gsl_spv.specs.Sections.{Sections}
 use Rattle.gsl_lower_values.specs.Building.{Built, Made, Full, Step}
 use Rattle.gsl_lower_law.specs.Computing.{Acts, Comes, Grows, Left, Reaches, leaving}
-use Rattle.gsl_lower_law.specs.Straying.{GoesOut, Puts, Strays as StepStrays}
+use Rattle.gsl_lower_law.specs.Straying.{GoesOut, Strays as StepStrays}
 use Rattle.gsl_lower_law.specs.Values.{Keeps, Ready, Text}
 use Rattle.gsl_lower_holders.specs.Flow.{Emit, Flow, Gives, Lacks, Lowered, behind, built_in, flow_of, lift}
-use Rattle.gsl_lower_follows.specs.Following.{Astray, Faults, Follows}
 use Rattle.gsl_lower_follows.specs.Following.Astray.{now}
 use Rattle.gsl_lower_follows.specs.Frames.{Frame, Good, Inside, coming}
 use Rattle.gsl_lower_follows.specs.Giving.{Adds, Does, Grown, GrownTo}
-use Rattle.gsl_lower_follows.specs.Stretching.{Stretch, room, room_of}
-use Rattle.gsl_lower_follows.proofs.Behind.{follows_behind, follows_then}
+use Rattle.gsl_lower_follows.specs.Stretching.{Stretch}
+use Rattle.gsl_lower_follows.proofs.Behind.{follows_then}
 use Rattle.gsl_lower_follows.proofs.Placing.{coming_before, inside_between, placed_length}
 use Rattle.gsl_lower_follows.proofs.Stretches.{stretch_of}
 

@@ -1,6 +1,5 @@
 -- Steps that compute a value, and draw choices at most.
-use Rattle.std.proofs.Common.{◌≡◌, refl, sym, ap, ◌∙◌, subst, inr, ℕ, ◌<◌, ◌≤◌, Bool, true, false, List, Option, Some, arith}
-use Rattle.std.specs.Prelude.{slice_get}
+use Rattle.std.proofs.Common.{◌≡◌, refl, sym, ◌∙◌, subst, inr, ℕ, true, false, List}
 use Rattle.gsl_base.specs.declared.input.Input.{Input}
 use Rattle.gsl_types.specs.declared.ty.Ty.{Ty}
 use Rattle.gsl_words.specs.declared.module.Module.{Module}
@@ -9,19 +8,17 @@ use Rattle.gsl_tree.specs.Around.{Around}
 use Rattle.gsl_tree.specs.Operations.{Given}
 use Rattle.gsl_tree.specs.Values.{is_value_of}
 use Rattle.gsl_tree.specs.declared.program.Program.{Program}
-use Rattle.gsl_meaning.specs.Running.{Got, Run, drawing as shader_drawing}
+use Rattle.gsl_meaning.specs.Running.{drawing as shader_drawing}
 use Rattle.gsl_meaning.specs.State as shader
 use Rattle.gsl_machine.specs.State.{Ids, State}
-use Rattle.gsl_spv.specs.Growing.{Extends}
 use Rattle.gsl_spv.specs.Sections.{Sections}
 use Rattle.gsl_lower_values.specs.Building.{Step}
 use Rattle.gsl_lower_law.specs.Computing.{Computes, Grows, drawing, leaving}
 use Rattle.gsl_lower_law.specs.Values.{Keeps, Ready, Stands}
-use Rattle.gsl_lower_holders.specs.Flow.{Flow, Gives, flow_of, lift}
-use Rattle.gsl_lower_follows.specs.Frames.{AreTyped, Frame, Global, Good, HasType, Holder, Holds, Inside, Interface, Kept, Local, Name, Param, Stage, coming, type_named, value_of}
-use Rattle.gsl_lower_follows.specs.Giving.{After, Does, GivesValue, HasGiven, IsGiven, none_waits}
-use Rattle.gsl_lower_follows.proofs.Doing.{Lifted, does_lift}
-use Rattle.gsl_lower_follows.proofs.Growing.{adds_lift}
+use Rattle.gsl_lower_holders.specs.Flow.{Flow, flow_of, lift}
+use Rattle.gsl_lower_follows.specs.Frames.{AreTyped, Frame, Global, Good, HasType, Holder, Inside, Interface, Local, Name, Param, Stage, coming, type_named, value_of}
+use Rattle.gsl_lower_follows.specs.Giving.{After, Does, HasGiven, none_waits}
+use Rattle.gsl_lower_follows.proofs.Doing.{does_lift}
 
 -- a state of the shader with these choices left
 abbrev pub left_with : shader.State → List ℕ → shader.State

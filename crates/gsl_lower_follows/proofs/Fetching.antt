@@ -1,5 +1,5 @@
 -- What is held, fetched again; and that holding and fetching only add.
-use Rattle.std.proofs.Common.{◌≡◌, refl, ℕ, ◌+◌, ◌≤◌, Bool, true, false, List, [], ◌∷◌, Option, Some, None, arith}
+use Rattle.std.proofs.Common.{refl, ℕ, ◌+◌, Bool, true, false, List, [], ◌∷◌, Option, Some, None, arith}
 use Rattle.gsl_base.specs.declared.input.Input.{Input}
 use Rattle.gsl_instr.specs.declared.op.TheConstants as op
 use Rattle.gsl_types.specs.declared.ty.Ty.{Ty}
@@ -13,7 +13,7 @@ use Rattle.gsl_meaning.specs.State as shader
 use Rattle.gsl_machine.specs.State.{State}
 use Rattle.gsl_spv.specs.Sections.{Sections}
 use Rattle.gsl_spv.proofs.Extending.{extends_same, extends_take}
-use Rattle.gsl_lower_values.specs.Building.{giving, putting, Built, Made, Full, id_by}
+use Rattle.gsl_lower_values.specs.Building.{giving, Made, Full, id_by}
 use Rattle.gsl_spv.specs.Calls.{take}
 use Rattle.gsl_spv.specs.declared.refusal.TheConstants.{MOST_IDS}
 use Rattle.std.specs.Prelude.{nat_le, if◌then◌else◌, slice_get}
@@ -23,13 +23,13 @@ use Rattle.gsl_lower_law.specs.Values.{Stands}
 use Rattle.gsl_lower_law.proofs.Adding.{extends_put}
 use Rattle.gsl_lower_law.proofs.Giving.{giving_grows}
 use Rattle.gsl_lower_law.proofs.Plain.{type_does}
-use Rattle.gsl_lower_holders.specs.Flow.{Emit, Flow, Gives, Lacks, Lowered, find_type, fresh, given, giving_here, id_at, opening, putting_here, type_by, type_id, ◌>>=◌}
+use Rattle.gsl_lower_holders.specs.Flow.{Flow, Lowered, find_type, fresh, given, giving_here, id_at, opening, putting_here, type_by, type_id, ◌>>=◌}
 use Rattle.gsl_lower_holders.specs.Waiting.{fetch, hold, holder, holder_at, keep, take_back}
 use Rattle.gsl_lower_follows.specs.Frames.{Frame, Good, HeldAs, Waits}
 use Rattle.gsl_lower_follows.specs.Giving.{Adds, After, Does, Grown, GrownTo, none_waits}
 use Rattle.gsl_lower_follows.proofs.Behind.{reaches_here}
 use Rattle.gsl_lower_follows.proofs.Doing.{does_then}
-use Rattle.gsl_lower_follows.proofs.Growing.{adds_given, adds_lift, adds_then, grown_same}
+use Rattle.gsl_lower_follows.proofs.Growing.{adds_given, adds_lift, adds_then}
 use Rattle.gsl_lower_follows.proofs.Holding.{Unchanged, after_same, after_then, does_so, does_take_back, does_type_id, waits_after}
 
 -- a state in which nothing stands for anything

@@ -1,6 +1,5 @@
 -- What is lowered only adds.
-use Rattle.std.proofs.Common.{◌≡◌, refl, sym, ap, ◌∙◌, subst, ℕ, ◌≤◌, arith}
-use Rattle.gsl_spv.specs.Growing.{Extends}
+use Rattle.std.proofs.Common.{refl, ap, ◌∙◌, arith}
 use Rattle.gsl_spv.proofs.Extending.{extends_same, extends_then}
 use Rattle.gsl_lower_values.specs.Building.{Built, Made, Full, Step}
 use Rattle.gsl_lower_law.specs.Computing.{Grows}

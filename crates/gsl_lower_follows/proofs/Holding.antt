@@ -26,10 +26,10 @@ use Rattle.gsl_lower_law.proofs.Plain.{IsType, type_does}
 use Rattle.gsl_lower_law_places.specs.Storing.{Stores}
 use Rattle.gsl_lower_law_places.proofs.Loads.{loads}
 use Rattle.gsl_lower_law_places.proofs.Stored.{store_acts, stored_left}
-use Rattle.gsl_lower_holders.specs.Flow.{Emit, Flow, Gives, Lacks, Lowered, behind, find_type, flow_of, given, id_at, putting_here, type_by, type_id, ◌>>=◌}
-use Rattle.gsl_lower_holders.specs.Waiting.{fetch, hold, holder, holder_at, keep, take_back}
+use Rattle.gsl_lower_holders.specs.Flow.{Flow, Gives, Lacks, Lowered, behind, find_type, flow_of, given, id_at, putting_here, type_by, type_id, ◌>>=◌}
+use Rattle.gsl_lower_holders.specs.Waiting.{hold, holder, holder_at, keep, take_back}
 use Rattle.gsl_lower_holders.specs.declared.place.FlowPlace.{FlowPlace}
-use Rattle.gsl_lower_follows.specs.Frames.{Frame, Global, Good, HeldAs, Holder, Holds, Inside, Interface, Kept, Local, Name, Param, Seated, Stage, Waits, coming, id_of, value_of}
+use Rattle.gsl_lower_follows.specs.Frames.{Frame, Global, Good, HeldAs, Holder, Holds, Interface, Local, Name, Param, Seated, Stage, Waits, coming, id_of, value_of}
 use Rattle.gsl_lower_follows.specs.Giving.{After, Does, Grown, none_waits}
 use Rattle.gsl_lower_follows.proofs.Behind.{follows_so, reaches_here}
 use Rattle.gsl_lower_follows.proofs.Doing.{does_lift}
@@ -245,7 +245,7 @@ module _ (m : Module) (input : Input) (whole : Sections) (f : Frame m input whol
         by (Some shape) =
             does_lift m input whole f p around units b s state (IsType m input whole shape) (drawing state state.choices) (Unchanged b state) none_waits tt s (type_of shape) good (type_does m input whole shape state b.sections)
             (λ type later l inside extends. subst (λ t. After m input whole f p around false b state (flow_of later b.place) t (record (leaving state (drawing state state.choices) l.ids) { rest = coming m input whole f later })) (ap (left_with s) good.holds.choices)
-              (after_drawn m input whole f p around b s state l.ids state.choices later good inside l.ready l.keeps))
+            (after_drawn m input whole f p around b s state l.ids state.choices later good inside l.ready l.keeps))
 
     -- ---- values that may have to wait
 

@@ -1,5 +1,5 @@
 -- Branches to labels.
-use Rattle.std.proofs.Common.{◌≡◌, refl, sym, ap, ◌∙◌, subst, ℕ, zero, suc, ◌+◌, ◌<◌, ◌≤◌, Bool, true, false, List, [], ◌∷◌, ◌++◌, length, append_assoc, Option, Some, None, arith, if◌then◌else◌, ◌==◌}
+use Rattle.std.proofs.Common.{◌≡◌, refl, sym, ap, ◌∙◌, ℕ, suc, ◌+◌, List, [], ◌∷◌, ◌++◌, length, append_assoc, Some, arith}
 use Rattle.std.proofs.lemmas.List.{append_cancel_left, length-append}
 use Rattle.gsl_base.specs.declared.input.Input.{Input}
 use Rattle.gsl_instr.specs.Forms.{form_of}
@@ -7,28 +7,18 @@ use Rattle.gsl_instr.specs.declared.op.TheConstants as op
 use Rattle.gsl_words.specs.Instructions.{word_count}
 use Rattle.gsl_words.specs.declared.module.Instr.{Instr}
 use Rattle.gsl_words.specs.declared.module.Module.{Module}
-use Rattle.gsl_values.specs.declared.value.Value.{Value}
-use Rattle.gsl_tree.specs.Around.{Around}
-use Rattle.gsl_tree.specs.Values.{word_in}
-use Rattle.gsl_tree.specs.declared.program.Program.{Program}
-use Rattle.gsl_meaning.specs.State as shader
 use Rattle.gsl_valid.specs.Instruction.{read}
 use Rattle.gsl_valid.specs.Placed.{Code, Placed, placed_from, words_from}
 use Rattle.gsl_machine.specs.Functions.{from_label}
 use Rattle.gsl_machine.specs.Machine.{behind as going_on, run, step}
-use Rattle.gsl_machine.specs.State.{Going, State, on, on_whole}
+use Rattle.gsl_machine.specs.State.{Going, State, on}
 use Rattle.gsl_machine.specs.Steps.{act, branching, in_new_block}
 use Rattle.gsl_spv.specs.Calls.{put}
 use Rattle.gsl_spv.specs.Declarations.{instr}
-use Rattle.gsl_spv.specs.Growing.{Extends}
 use Rattle.gsl_spv.specs.Sections.{Sections}
-use Rattle.gsl_spv.proofs.Extending.{extends_then}
-use Rattle.gsl_lower_law.specs.Values.{Keeps, Ready, Stands}
-use Rattle.gsl_lower_law.proofs.Adding.{extends_put}
-use Rattle.gsl_lower_law.proofs.Joining.{keeps_same}
-use Rattle.gsl_lower_follows.specs.Frames.{Frame, Good, Inside, body, coming}
-use Rattle.gsl_lower_follows.specs.Stretching.{Stretch, room}
-use Rattle.gsl_lower_follows.proofs.Placing.{coming_before, coming_is, inside_between, placed_length}
+use Rattle.gsl_lower_follows.specs.Frames.{Frame, Inside, body, coming}
+use Rattle.gsl_lower_follows.specs.Stretching.{Stretch}
+use Rattle.gsl_lower_follows.proofs.Placing.{coming_before, coming_is, placed_length}
 use Rattle.gsl_lower_follows.proofs.Stretches.{stretch_of}
 
 module _ (m : Module) (input : Input) (whole : Sections) (f : Frame m input whole) where

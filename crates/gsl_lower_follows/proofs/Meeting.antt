@@ -1,32 +1,29 @@
 -- Two ways that meet again, with a value in a holder.
-use Rattle.std.proofs.Common.{◌≡◌, ◌≢◌, refl, sym, ap, ◌∙◌, subst, ℕ, ◌+◌, ◌<◌, ◌≤◌, Bool, true, false, List, [], ◌∷◌, ◌++◌, Option, Some, None, arith}
+use Rattle.std.proofs.Common.{◌≡◌, ◌≢◌, refl, sym, ap, ◌∙◌, ℕ, ◌<◌, ◌≤◌, [], ◌∷◌, Some, arith}
 use Rattle.gsl_base.specs.declared.input.Input.{Input}
 use Rattle.gsl_instr.specs.Forms.{form_of}
 use Rattle.gsl_instr.specs.declared.op.TheConstants as op
 use Rattle.gsl_types.specs.declared.ty.Ty.{Ty}
-use Rattle.gsl_words.specs.declared.module.Instr.{Instr}
 use Rattle.gsl_words.specs.declared.module.Module.{Module}
 use Rattle.gsl_values.specs.declared.value.Value.{Value}
 use Rattle.gsl_tree.specs.Around.{Around}
 use Rattle.gsl_tree.specs.declared.program.Program.{Program}
 use Rattle.gsl_meaning.specs.Running.{Got}
 use Rattle.gsl_meaning.specs.State as shader
-use Rattle.gsl_machine.specs.State.{Going, InVariable, Points, State}
+use Rattle.gsl_machine.specs.State.{State}
 use Rattle.gsl_spv.specs.Calls.{put}
 use Rattle.gsl_spv.specs.Declarations.{instr}
-use Rattle.gsl_spv.specs.Growing.{Extends}
 use Rattle.gsl_spv.specs.Sections.{Sections}
 use Rattle.gsl_spv.proofs.Extending.{extends_then}
-use Rattle.gsl_lower_law.specs.Values.{Keeps, Stands}
+use Rattle.gsl_lower_law.specs.Values.{Stands}
 use Rattle.gsl_lower_law.proofs.Adding.{extends_put}
 use Rattle.gsl_lower_holders.specs.Flow.{Emit, Flow, Gives, Lacks, Lowered, opening, putting_here, type_id, ◌>>=◌}
 use Rattle.gsl_lower_holders.specs.Waiting.{take_back}
-use Rattle.gsl_lower_holders.specs.Ways.{fork, join, leaving as leave}
+use Rattle.gsl_lower_holders.specs.Ways.{join, leaving as leave}
 use Rattle.gsl_lower_holders.specs.declared.blocks.Fork.{Fork}
 use Rattle.gsl_lower_holders.specs.declared.place.FlowPlace.{FlowPlace}
-use Rattle.gsl_lower_follows.specs.Frames.{Frame, Good, Holder, Inside, Kept, Waits, coming}
+use Rattle.gsl_lower_follows.specs.Frames.{Frame, Good, Holder, Inside, Kept, Waits}
 use Rattle.gsl_lower_follows.specs.Giving.{Adds, Does, Grown, GrownTo, Met, none_waits}
-use Rattle.gsl_lower_follows.specs.Stretching.{Stretch}
 use Rattle.gsl_lower_follows.proofs.Beginning.{does_behind, good_begun}
 use Rattle.gsl_lower_follows.proofs.Doing.{does_then}
 use Rattle.gsl_lower_follows.proofs.Fetching.{Again, adds_opening, adds_put, adds_take_back, adds_type_id, does_waited}
@@ -97,12 +94,12 @@ module _ (m : Module) (input : Input) (whole : Sections) where
             does_behind m input whole f p left between (branched ways.end ways.end between) mid (begun_at m input whole f mid (branched ways.end ways.end between).sections) (Met m input whole f p around count v start) (Got tt u left) (met_at t ways.holder ways.end tt between) inside
             (grown_branched ways.end ways.end between) (adds_then (type_id t) (take_back ways.holder) (adds_type_id m input whole t) (λ type. adds_take_back m input whole ways.holder type) (branched ways.end ways.end between))
             (λ there. jumps m input whole f (instr op.BRANCH (ways.end ∷ [])) ways.end between.sections (put op.BRANCH (ways.end ∷ []) between.sections) mid left inside
-                (inside_between m input whole f between.sections (put op.BRANCH (ways.end ∷ []) between.sections) (branched ways.end ways.end between).sections inside there (extends_put op.BRANCH (ways.end ∷ []) between.sections) (extends_put op.LABEL (ways.end ∷ []) (put op.BRANCH (ways.end ∷ []) between.sections)))
-                there is.good.rest is.good.within is.good.own [] refl (λ at more. refl))
+            (inside_between m input whole f between.sections (put op.BRANCH (ways.end ∷ []) between.sections) (branched ways.end ways.end between).sections inside there (extends_put op.BRANCH (ways.end ∷ []) between.sections) (extends_put op.LABEL (ways.end ∷ []) (put op.BRANCH (ways.end ∷ []) between.sections)))
+            there is.good.rest is.good.within is.good.own [] refl (λ at more. refl))
             (λ there. does_met count t ways.holder v left (branched ways.end ways.end between) u start (begun_at m input whole f mid (branched ways.end ways.end between).sections) (omega (arith, few, used, waits.among))
-                (good_begun m input whole f p around between (branched ways.end ways.end between) u mid is.good (grown_branched ways.end ways.end between) there)
-                (record { same = λ holder number less seat. is.others number (λ same. apart holder number less seat same) ∙ kept.same holder number less seat })
-                (record { holder = waits.holder; number = waits.number; among = omega (arith, used, waits.among); seat = waits.seat; points = waits.points; value = is.there }))
+            (good_begun m input whole f p around between (branched ways.end ways.end between) u mid is.good (grown_branched ways.end ways.end between) there)
+            (record { same = λ holder number less seat. is.others number (λ same. apart holder number less seat same) ∙ kept.same holder number less seat })
+            (record { holder = waits.holder; number = waits.number; among = omega (arith, used, waits.among); seat = waits.seat; points = waits.points; value = is.there }))
           where
             apart : (holder number : ℕ) → holder < count → f.seat (Holder holder) ≡ Some number → number ≢ waits.number
             apart holder number less seat same = absurd (let one : holder ≡ waits.holder = ap holder_number (f.apart (Holder holder) (Holder waits.holder) number seat (waits.seat ∙ ap Some (sym same))) in omega (arith, less, few, one))

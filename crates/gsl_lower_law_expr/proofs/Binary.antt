@@ -1,21 +1,18 @@
 -- Operators on two values.
-use Rattle.std.proofs.Common.{◌≡◌, ◌≢◌, refl, sym, ap, ◌∙◌, subst, inl, inr, ℕ, ◌≤◌, ◌⊎◌, Bool, true, false, ◌||◌, List, [], ◌∷◌, length, Option, Some, None, IsTrue}
+use Rattle.std.proofs.Common.{◌≡◌, refl, sym, ap, ◌∙◌, subst, inl, inr, ℕ, Bool, true, false, ◌||◌, List, [], ◌∷◌, Option, Some, None, IsTrue}
 use Rattle.std.specs.Prelude.{unwrap_or}
 use Rattle.gsl_base.specs.declared.input.Input.{Input}
-use Rattle.gsl_types.specs.Known.{AreStructs, IsSound}
 use Rattle.gsl_types.specs.declared.ty.Scalar.TheVariants.{Int}
 use Rattle.gsl_types.specs.declared.ty.StructType.{StructType}
 use Rattle.gsl_types.specs.declared.ty.Ty.{Ty}
-use Rattle.gsl_types.specs.declared.ty.Ty.TheVariants.{Void}
 use Rattle.gsl_words.specs.declared.module.Module.{Module}
-use Rattle.gsl_values.specs.Word.{word_of_bool}
 use Rattle.gsl_values.specs.declared.op.BinaryOp.{BinaryOp}
 use Rattle.gsl_values.specs.declared.op.BinaryOp.TheVariants.{Equal, Unequal}
 use Rattle.gsl_values.specs.declared.value.Value.{Value}
 use Rattle.gsl_values.specs.declared.value.Value.TheVariants.{Word}
 use Rattle.gsl_tree.specs.Around.{Around}
 use Rattle.gsl_tree.specs.Expressions.{IsBinary}
-use Rattle.gsl_tree.specs.Operations.{Given, binary_value, is_signed, is_signed_scalar}
+use Rattle.gsl_tree.specs.Operations.{binary_value, is_signed, is_signed_scalar}
 use Rattle.gsl_tree.specs.Shapes.{Shape, is_equality, shape_of}
 use Rattle.gsl_tree.specs.Values.{is_value_of, same_value}
 use Rattle.gsl_tree.specs.declared.program.Program.{Program}
@@ -31,7 +28,7 @@ use Rattle.gsl_lower_leaves.specs.Copies.{all_compared, compared, compared_whole
 use Rattle.gsl_lower_leaves.specs.Leaves.{leaves_of}
 use Rattle.gsl_lower_leaves.specs.declared.leaf.Leaf.{Leaf}
 use Rattle.gsl_lower_values.specs.Operators.{binary as binary_step, logical}
-use Rattle.gsl_lower_values.specs.Types.{scalar_constant, type_of}
+use Rattle.gsl_lower_values.specs.Types.{type_of}
 use Rattle.gsl_lower_places.specs.Reading.{extracted}
 use Rattle.gsl_lower_law.specs.Computing.{Computes}
 use Rattle.gsl_lower_law.specs.Operands.{Fit}
@@ -45,7 +42,7 @@ use Rattle.gsl_lower_law_places.proofs.Loads.{extracted_grows}
 use Rattle.gsl_lower_holders.specs.Flow.{Flow, lift}
 use Rattle.gsl_lower_expr.specs.Parts.{Lower, binary, binary_by, binary_of, shape_or}
 use Rattle.gsl_lower_follows.specs.Frames.{Frame, Good}
-use Rattle.gsl_lower_follows.specs.Giving.{Adds, Does, GivesValue, HasGiven, none_waits}
+use Rattle.gsl_lower_follows.specs.Giving.{Does, GivesValue, HasGiven, none_waits}
 use Rattle.gsl_lower_follows.proofs.Drawn.{computed_given}
 use Rattle.gsl_lower_follows.proofs.Fetching.{no_state}
 use Rattle.gsl_lower_follows.proofs.Growing.{adds_lift}

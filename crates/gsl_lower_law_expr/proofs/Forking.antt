@@ -1,5 +1,5 @@
 -- `?:` with a block for each of its values.
-use Rattle.std.proofs.Common.{◌≡◌, ◌≢◌, refl, sym, ap, ◌∙◌, subst, inl, inr, ℕ, ◌+◌, ◌<◌, ◌≤◌, Bool, true, false, ◌||◌, ◌==◌, List, [], ◌∷◌, ◌++◌, append_assoc, Option, Some, None, arith, if◌then◌else◌}
+use Rattle.std.proofs.Common.{◌≡◌, ◌≢◌, refl, sym, ap, ◌∙◌, subst, ℕ, ◌+◌, ◌<◌, Bool, true, false, ◌==◌, [], ◌∷◌, append_assoc, Option, Some, None, arith, if◌then◌else◌}
 use Rattle.std.specs.Prelude.{slice_get}
 use Rattle.gsl_base.specs.declared.input.Input.{Input}
 use Rattle.gsl_instr.specs.Forms.{form_of}
@@ -15,13 +15,12 @@ use Rattle.gsl_tree.specs.declared.program.Program.{Program}
 use Rattle.gsl_meaning.specs.Running.{Got, Ran, Run, given as shader_given}
 use Rattle.gsl_meaning.specs.Running as shader_run
 use Rattle.gsl_meaning.specs.State as shader
-use Rattle.gsl_machine.specs.State.{InVariable, Points, State}
+use Rattle.gsl_machine.specs.State.{State}
 use Rattle.gsl_spv.specs.Calls.{put}
 use Rattle.gsl_spv.specs.Declarations.{instr}
-use Rattle.gsl_spv.specs.Growing.{Extends}
 use Rattle.gsl_spv.specs.Sections.{Sections}
 use Rattle.gsl_spv.proofs.Extending.{extends_same, extends_then}
-use Rattle.gsl_lower_law.specs.Values.{Keeps, Stands}
+use Rattle.gsl_lower_law.specs.Values.{Stands}
 use Rattle.gsl_lower_law.proofs.Adding.{extends_put}
 use Rattle.gsl_lower_holders.specs.Flow.{Emit, Flow, Gives, Lacks, Lowered, behind, fresh, given, opening, putting_here, type_id, ◌>>=◌}
 use Rattle.gsl_lower_holders.specs.Waiting.{holder, holder_at, take_back}
@@ -29,13 +28,13 @@ use Rattle.gsl_lower_holders.specs.Ways.{begin_choice, choosing, fork, join, oth
 use Rattle.gsl_lower_holders.specs.declared.blocks.Fork.{Fork}
 use Rattle.gsl_lower_holders.specs.declared.place.FlowPlace.{FlowPlace}
 use Rattle.gsl_lower_expr.specs.Parts.{Lower, forked}
-use Rattle.gsl_lower_follows.specs.Frames.{Frame, Good, Holder, Inside, Kept, Waits}
-use Rattle.gsl_lower_follows.specs.Giving.{Adds, After, Does, GivesValue, Grown, GrownTo, HasGiven, Met, none_waits}
+use Rattle.gsl_lower_follows.specs.Frames.{Frame, Holder, Inside, Waits}
+use Rattle.gsl_lower_follows.specs.Giving.{Adds, Does, GivesValue, Grown, GrownTo, HasGiven, Met, none_waits}
 use Rattle.gsl_lower_follows.proofs.Beginning.{chooses, does_behind, does_fresh, good_begun}
 use Rattle.gsl_lower_follows.proofs.Doing.{does_then}
 use Rattle.gsl_lower_follows.proofs.Fetching.{adds_fresh, adds_holder, adds_opening, adds_put, adds_take_back, adds_type_id}
 use Rattle.gsl_lower_follows.proofs.Growing.{adds_given, adds_then, grown_then}
-use Rattle.gsl_lower_follows.proofs.Holding.{IsStored, Unchanged, after_same, does_store, found_among, good_using, holder_number, using, waits_after}
+use Rattle.gsl_lower_follows.proofs.Holding.{IsStored, Unchanged, does_store, found_among, good_using, holder_number, using, waits_after}
 use Rattle.gsl_lower_follows.proofs.Jumping.{begun_at, jumps}
 use Rattle.gsl_lower_follows.proofs.Meeting.{adds_join, adds_leave, branched, does_join, does_met, grown_branched, grown_through}
 use Rattle.gsl_lower_follows.proofs.Placing.{inside_between}
@@ -116,14 +115,14 @@ module _ (m : Module) (input : Input) (whole : Sections) (f : Frame m input whol
             does_behind m input whole f p units b5 (stored_end h id end b7) mid5 (begun_at m input whole f mid5 (stored_end h id end b7).sections) (HasGiven m input whole f p around true t b0 state0) (Got v s units) ((type_id t >>= take_back h) (stored_end h id end b7))
             before.good.inside grown58 (adds_then (type_id t) (take_back h) (adds_type_id m input whole t) (λ type. adds_take_back m input whole h type) (stored_end h id end b7))
             (λ inside8. jumps m input whole f (instr op.BRANCH (end ∷ [])) end b5.sections (put op.BRANCH (end ∷ []) (put op.STORE (h ∷ id ∷ []) b7.sections)) mid5 units before.good.inside
-                (inside_between m input whole f b5.sections (put op.BRANCH (end ∷ []) (put op.STORE (h ∷ id ∷ []) b7.sections)) (stored_end h id end b7).sections before.good.inside inside8 (extends_then (extends_put op.BRANCH (end ∷ []) b5.sections) jumped) label_on)
-                inside8 before.good.rest before.good.within before.good.own jumped.functions.more (jumped.functions.is ∙ append_assoc b5.sections.functions (instr op.BRANCH (end ∷ []) ∷ []) jumped.functions.more) (λ at more. refl))
+            (inside_between m input whole f b5.sections (put op.BRANCH (end ∷ []) (put op.STORE (h ∷ id ∷ []) b7.sections)) (stored_end h id end b7).sections before.good.inside inside8 (extends_then (extends_put op.BRANCH (end ∷ []) b5.sections) jumped) label_on)
+            inside8 before.good.rest before.good.within before.good.own jumped.functions.more (jumped.functions.is ∙ append_assoc b5.sections.functions (instr op.BRANCH (end ∷ []) ∷ []) jumped.functions.more) (λ at more. refl))
             (λ inside8. does_change m input whole f p around units units (begun_at m input whole f mid5 (stored_end h id end b7).sections) (Met m input whole f p around b0.place.used v state0) (HasGiven m input whole f p around true t b0 state0) tt v s ((type_id t >>= take_back h) (stored_end h id end b7))
-                (λ got later last met. met_given m input whole f p around b0 state0 got later v s last t typed met)
-                (does_met m input whole f p around b0.place.used t h v units (stored_end h id end b7) s state0 (begun_at m input whole f mid5 (stored_end h id end b7).sections) (omega (arith, before.grown.used, grown58.used))
-                    (good_begun m input whole f p around b5 (stored_end h id end b7) s mid5 before.good grown58 inside8)
-                    (record { same = λ holder number less seat. before.held.same holder number less seat })
-                    (record { holder = waits.holder; number = waits.number; among = omega (arith, waits.among, grown58.used); seat = waits.seat; points = waits.points; value = waits.value })))
+            (λ got later last met. met_given m input whole f p around b0 state0 got later v s last t typed met)
+            (does_met m input whole f p around b0.place.used t h v units (stored_end h id end b7) s state0 (begun_at m input whole f mid5 (stored_end h id end b7).sections) (omega (arith, before.grown.used, grown58.used))
+            (good_begun m input whole f p around b5 (stored_end h id end b7) s mid5 before.good grown58 inside8)
+            (record { same = λ holder number less seat. before.held.same holder number less seat })
+            (record { holder = waits.holder; number = waits.number; among = omega (arith, waits.among, grown58.used); seat = waits.seat; points = waits.points; value = waits.value })))
 
     -- the first value is there
     store_first : (b0 b5 : Flow) (state0 mid5 : State) (s : shader.State) (units h no_ end id : ℕ) (v old : Value) → Before m input whole f p around b0 state0 h old b5 s mid5 → is_value_of p.structs t v ≡ true → Stands mid5.ids id v
@@ -164,19 +163,19 @@ module _ (m : Module) (input : Input) (whole : Sections) (f : Frame m input whol
         subst (λ ran. Does m input whole f p 0 units (begun_at m input whole f mid3 (first_at i yes_ no_ end b3).sections) (HasGiven m input whole f p around true t b0 state0) none_waits ran (both_ways (fork h no_ end) (first_at i yes_ no_ end b3))) (behind_given (x s units))
         (subst (Does m input whole f p 0 units (begun_at m input whole f mid3 (first_at i yes_ no_ end b3).sections) (HasGiven m input whole f p around true t b0 state0) none_waits (shader_run.behind (x s units) shader_given)) (sym (behind_assoc (first (first_at i yes_ no_ end b3)) (other_way (fork h no_ end)) (other (fork h no_ end))))
         (does_then m input whole f p 0 units (first_at i yes_ no_ end b3) (begun_at m input whole f mid3 (first_at i yes_ no_ end b3).sections) (HasGiven m input whole f p around sa t (first_at i yes_ no_ end b3) (begun_at m input whole f mid3 (first_at i yes_ no_ end b3).sections)) none_waits (HasGiven m input whole f p around true t b0 state0) none_waits
-            (x s units) shader_given (first (first_at i yes_ no_ end b3)) (λ id. other_way (fork h no_ end) id >>= other (fork h no_ end)) inside4 (does_first.adds (first_at i yes_ no_ end b3)) (λ id. adds_then (other_way (fork h no_ end) id) (other (fork h no_ end)) (adds_other (fork h no_ end) id) (λ done. adds_meet (fork h no_ end)))
-            (does_first.does (first_at i yes_ no_ end b3) s units (begun_at m input whole f mid3 (first_at i yes_ no_ end b3).sections) (good_begun m input whole f p around b3 (first_at i yes_ no_ end b3) s mid3 before.good (grown_chosen end (i ∷ yes_ ∷ no_ ∷ []) yes_ b3) inside4))
-            (λ id b5 v u left mid5 inside5 grown45 g less.
-            let real = given_value m input whole f p around mid5.ids id t v real_t g.given in
-            store_first b0 b5 state0 mid5 u left h no_ end id v old (record {
-              good = g.after.good;
-              grown = grown_then before.grown (grown_then (grown_chosen end (i ∷ yes_ ∷ no_ ∷ []) yes_ b3) grown45);
-              held = record { same = λ holder number few seat. (let wide = before.grown.used in g.after.held.same holder number (omega (arith, few, wide)) seat) ∙ before.held.same holder number few seat };
-              waits = waits_after m input whole f p around sa (first_at i yes_ no_ end b3) b5 (begun_at m input whole f mid3 (first_at i yes_ no_ end b3).sections) mid5 u h old grown45 g.after
-                  (record { holder = before.waits.holder; number = before.waits.number; among = before.waits.among; seat = before.waits.seat; points = before.waits.points; value = before.waits.value });
-              first = before.first;
-            }) real.0 real.1)
-            (λ id b5 u left mid5 inside5 grown45 none less. absurd none))))
+        (x s units) shader_given (first (first_at i yes_ no_ end b3)) (λ id. other_way (fork h no_ end) id >>= other (fork h no_ end)) inside4 (does_first.adds (first_at i yes_ no_ end b3)) (λ id. adds_then (other_way (fork h no_ end) id) (other (fork h no_ end)) (adds_other (fork h no_ end) id) (λ done. adds_meet (fork h no_ end)))
+        (does_first.does (first_at i yes_ no_ end b3) s units (begun_at m input whole f mid3 (first_at i yes_ no_ end b3).sections) (good_begun m input whole f p around b3 (first_at i yes_ no_ end b3) s mid3 before.good (grown_chosen end (i ∷ yes_ ∷ no_ ∷ []) yes_ b3) inside4))
+        (λ id b5 v u left mid5 inside5 grown45 g less.
+        let real = given_value m input whole f p around mid5.ids id t v real_t g.given in
+        store_first b0 b5 state0 mid5 u left h no_ end id v old (record {
+          good = g.after.good;
+          grown = grown_then before.grown (grown_then (grown_chosen end (i ∷ yes_ ∷ no_ ∷ []) yes_ b3) grown45);
+          held = record { same = λ holder number few seat. (let wide = before.grown.used in g.after.held.same holder number (omega (arith, few, wide)) seat) ∙ before.held.same holder number few seat };
+          waits = waits_after m input whole f p around sa (first_at i yes_ no_ end b3) b5 (begun_at m input whole f mid3 (first_at i yes_ no_ end b3).sections) mid5 u h old grown45 g.after
+              (record { holder = before.waits.holder; number = before.waits.number; among = before.waits.among; seat = before.waits.seat; points = before.waits.points; value = before.waits.value });
+          first = before.first;
+        }) real.0 real.1)
+        (λ id b5 u left mid5 inside5 grown45 none less. absurd none))))
 
     -- the second way is gone
     goes_second : (b0 b3 : Flow) (state0 mid3 : State) (s : shader.State) (units i h yes_ no_ end : ℕ) (w old : Value) → Before m input whole f p around b0 state0 h old b3 s mid3 → Stands mid3.ids i w → (word_in w == 0) ≡ true
@@ -192,25 +191,25 @@ module _ (m : Module) (input : Input) (whole : Sections) (f : Frame m input whol
             let grown36 = grown_then (grown_chosen end (i ∷ yes_ ∷ no_ ∷ []) yes_ b3) (grown_then grown grown56) in
             does_behind m input whole f p units b3 b6 mid3 (begun_at m input whole f mid3 b6.sections) (HasGiven m input whole f p around true t b0 state0) (y s units) (meet (fork h no_ end) b6) before.good.inside grown36 (adds_meet (fork h no_ end) b6)
             (λ inside6. chooses m input whole f b3.sections end i yes_ no_ w no_ (put op.BRANCH (end ∷ []) (put op.STORE (h ∷ id ∷ []) b5.sections)) mid3 units (ap (λ b. if b then no_ else yes_) so) stands before.good.inside inside6
-                (extends_then (extends_put op.LABEL (yes_ ∷ []) (put op.BRANCH_CONDITIONAL (i ∷ yes_ ∷ no_ ∷ []) (put op.SELECTION_MERGE (end ∷ 0 ∷ []) b3.sections)))
-                    (extends_then grown.extends (extends_then (extends_put op.STORE (h ∷ id ∷ []) b5.sections) (extends_put op.BRANCH (end ∷ []) (put op.STORE (h ∷ id ∷ []) b5.sections)))))
-                before.good.rest before.good.within before.good.own)
+            (extends_then (extends_put op.LABEL (yes_ ∷ []) (put op.BRANCH_CONDITIONAL (i ∷ yes_ ∷ no_ ∷ []) (put op.SELECTION_MERGE (end ∷ 0 ∷ []) b3.sections)))
+            (extends_then grown.extends (extends_then (extends_put op.STORE (h ∷ id ∷ []) b5.sections) (extends_put op.BRANCH (end ∷ []) (put op.STORE (h ∷ id ∷ []) b5.sections)))))
+            before.good.rest before.good.within before.good.own)
             (λ inside6.
             subst (λ ran. Does m input whole f p 0 units (begun_at m input whole f mid3 b6.sections) (HasGiven m input whole f p around true t b0 state0) none_waits ran (meet (fork h no_ end) b6)) (behind_given (y s units))
             (does_then m input whole f p 0 units b6 (begun_at m input whole f mid3 b6.sections) (HasGiven m input whole f p around sb t b6 (begun_at m input whole f mid3 b6.sections)) none_waits (HasGiven m input whole f p around true t b0 state0) none_waits (y s units) shader_given (second b6) (join t (fork h no_ end)) inside6
-                (does_second.adds b6) (λ id. adds_join m input whole t (fork h no_ end) id)
-                (does_second.does b6 s units (begun_at m input whole f mid3 b6.sections) (good_begun m input whole f p around b3 b6 s mid3 before.good grown36 inside6))
-                (λ j b7 v u left mid7 inside7 grown67 g less.
-                let real = given_value m input whole f p around mid7.ids j t v real_t g.given in
-                let wide = before.grown.used in
-                let wider = grown36.used in
-                let there : Waits m input whole f b6.place.used h old (begun_at m input whole f mid3 b6.sections) = record { holder = before.waits.holder; number = before.waits.number; among = (let among = before.waits.among in omega (arith, among, wider)); seat = before.waits.seat; points = before.waits.points; value = before.waits.value } in
-                does_change m input whole f p around left left mid7 (Met m input whole f p around b0.place.used v state0) (HasGiven m input whole f p around true t b0 state0) tt v u (join t (fork h no_ end) j b7)
-                (λ got later last met. met_given m input whole f p around b0 state0 got later v u last t real.0 met)
-                (does_join m input whole f p around b0.place.used t (fork h no_ end) j v old left b7 u state0 mid7 g.after.good
-                    (record { same = λ holder number few seat. g.after.held.same holder number (omega (arith, few, wide, wider)) seat ∙ before.held.same holder number few seat })
-                    (waits_after m input whole f p around sb b6 b7 (begun_at m input whole f mid3 b6.sections) mid7 u h old grown67 g.after there) before.first real.1))
-                (λ j b7 u left mid7 inside7 grown67 none less. absurd none)))
+            (does_second.adds b6) (λ id. adds_join m input whole t (fork h no_ end) id)
+            (does_second.does b6 s units (begun_at m input whole f mid3 b6.sections) (good_begun m input whole f p around b3 b6 s mid3 before.good grown36 inside6))
+            (λ j b7 v u left mid7 inside7 grown67 g less.
+            let real = given_value m input whole f p around mid7.ids j t v real_t g.given in
+            let wide = before.grown.used in
+            let wider = grown36.used in
+            let there : Waits m input whole f b6.place.used h old (begun_at m input whole f mid3 b6.sections) = record { holder = before.waits.holder; number = before.waits.number; among = (let among = before.waits.among in omega (arith, among, wider)); seat = before.waits.seat; points = before.waits.points; value = before.waits.value } in
+            does_change m input whole f p around left left mid7 (Met m input whole f p around b0.place.used v state0) (HasGiven m input whole f p around true t b0 state0) tt v u (join t (fork h no_ end) j b7)
+            (λ got later last met. met_given m input whole f p around b0 state0 got later v u last t real.0 met)
+            (does_join m input whole f p around b0.place.used t (fork h no_ end) j v old left b7 u state0 mid7 g.after.good
+            (record { same = λ holder number few seat. g.after.held.same holder number (omega (arith, few, wide, wider)) seat ∙ before.held.same holder number few seat })
+            (waits_after m input whole f p around sb b6 b7 (begun_at m input whole f mid3 b6.sections) mid7 u h old grown67 g.after there) before.first real.1))
+            (λ j b7 u left mid7 inside7 grown67 none less. absurd none)))
 
     -- ---- from the condition on
 

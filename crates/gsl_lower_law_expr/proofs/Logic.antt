@@ -1,13 +1,10 @@
 -- `&&`, `||` and `^^`.
-use Rattle.std.proofs.Common.{◌≡◌, ◌≢◌, refl, sym, ap, ap₂, ◌∙◌, subst, inl, inr, ℕ, ◌+◌, ◌<◌, ◌≤◌, ◌⊎◌, Bool, true, false, not, ◌||◌, ◌==◌, List, [], ◌∷◌, Option, Some, None, arith, if◌then◌else◌}
+use Rattle.std.proofs.Common.{◌≡◌, ◌≢◌, refl, sym, ap, ◌∙◌, subst, inl, inr, ℕ, ◌<◌, ◌⊎◌, Bool, true, false, not, ◌||◌, ◌==◌, List, arith, if◌then◌else◌}
 use Rattle.std.proofs.lemmas.Bool.{false≢true, ltb-true}
 use Rattle.std.specs.Prelude.{nat_lt}
 use Rattle.gsl_base.specs.declared.input.Input.{Input}
-use Rattle.gsl_instr.specs.declared.op.TheConstants as op
 use Rattle.gsl_types.specs.declared.ty.Scalar.TheVariants.{Bool as Boolean}
 use Rattle.gsl_types.specs.declared.ty.StructType.{StructType}
-use Rattle.gsl_types.specs.declared.ty.Ty.{Ty}
-use Rattle.gsl_types.specs.declared.ty.Ty.TheVariants as ty
 use Rattle.gsl_types.specs.declared.ty.Ty.TheVariants.{Void, outs-One, outs-Void}
 use Rattle.gsl_types.specs.declared.ty.Ty.TheOpen.{Ty-F}
 use Rattle.gsl_types.specs.declared.ty.Ty.TheViews.{out-Ty}
@@ -34,7 +31,7 @@ use Rattle.gsl_lower_values.specs.Operators.{logical}
 use Rattle.gsl_lower_law.specs.Operands.{logic_answer}
 use Rattle.gsl_lower_law.specs.Values.{Stands}
 use Rattle.gsl_lower_law_operators.proofs.Straights.{logical_computes}
-use Rattle.gsl_lower_holders.specs.Flow.{Emit, Flow, lift}
+use Rattle.gsl_lower_holders.specs.Flow.{Flow, lift}
 use Rattle.gsl_lower_expr.specs.Parts.{Lower, both}
 use Rattle.gsl_lower_follows.specs.Frames.{AreTyped, Frame, Good}
 use Rattle.gsl_lower_follows.specs.Giving.{Does, GivesValue, HasGiven, none_waits}

@@ -1,5 +1,5 @@
 -- Operands, the first of which waits where the second has labels.
-use Rattle.std.proofs.Common.{◌≡◌, ◌≢◌, refl, sym, ap, ◌∙◌, subst, inl, inr, ℕ, ◌≤◌, Bool, true, false, ◌||◌, List, [], ◌∷◌, arith}
+use Rattle.std.proofs.Common.{◌≡◌, ◌≢◌, refl, sym, subst, inl, inr, ℕ, Bool, true, false, ◌||◌}
 use Rattle.gsl_base.specs.declared.input.Input.{Input}
 use Rattle.gsl_types.specs.declared.ty.Ty.{Ty}
 use Rattle.gsl_types.specs.declared.ty.Ty.TheVariants.{Void}
@@ -13,7 +13,7 @@ use Rattle.gsl_meaning.specs.Running as shader_run
 use Rattle.gsl_meaning.specs.State as shader
 use Rattle.gsl_machine.specs.State.{Ids, State}
 use Rattle.gsl_spv.specs.Sections.{Sections}
-use Rattle.gsl_lower_law.specs.Values.{Keeps, Stands}
+use Rattle.gsl_lower_law.specs.Values.{Stands}
 use Rattle.gsl_lower_holders.specs.Flow.{Emit, Flow, ◌>>=◌}
 use Rattle.gsl_lower_holders.specs.Waiting.{fetch, hold}
 use Rattle.gsl_lower_follows.specs.Frames.{AreTyped, Frame, Good, HeldAs, Inside}
@@ -84,7 +84,7 @@ module _ (m : Module) (input : Input) (whole : Sections) (f : Frame m input whol
           (λ again b4 r t left mid inside4 grown4 is less.
           does_so m input whole f p around 0 left mid (HasGiven m input whole f p around false ty b4 mid) (HasGiven m input whole f p around (sa || sb) ty b0 state0) (apply v w t left) (go again j b4)
           (λ id later z u last g. given_behind (((sa || false) || sb) || false) false (sa || sb) ty b0 b4 later state0 mid last t u id z (none_split sa sb) (grown_then grown grown4)
-              (after_then m input whole f p around ((sa || false) || sb) false b0 b3 b4 state0 state mid s t grown acc is.0) g)
+          (after_then m input whole f p around ((sa || false) || sb) false b0 b3 b4 state0 state mid s t grown acc is.0) g)
           (finishes again j v w b4 t left mid is.0.good typed_v typed_w is.1 ((is.0.ids refl).same j _ stands)))
           (λ again b4 t left mid inside4 grown4 none less. absurd none)
 

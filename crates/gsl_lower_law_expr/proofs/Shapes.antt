@@ -1,15 +1,13 @@
 -- Values of types that are scalars or vectors.
-use Rattle.std.proofs.Common.{◌≡◌, refl, sym, ap, ◌∙◌, subst, inl, inr, ℕ, ◌≤◌, ◌⊎◌, Bool, true, false, ◌&&◌, ◌||◌, List, [], ◌∷◌, length, Option, Some, None, IsTrue, if◌then◌else◌}
+use Rattle.std.proofs.Common.{◌≡◌, refl, sym, ap, ◌∙◌, subst, inl, inr, ℕ, ◌≤◌, ◌⊎◌, Bool, true, false, ◌&&◌, ◌||◌, List, [], ◌∷◌, length, Some}
 use Rattle.std.specs.Prelude.{max, nat_eq}
 use Rattle.std.proofs.lemmas.Bool.{and_parts, eqb-true}
 use Rattle.gsl_types.specs.Known.{AreStructs, IsSound}
 use Rattle.gsl_types.specs.Structs.{numbered}
-use Rattle.gsl_types.specs.declared.ty.Scalar.{Scalar}
 use Rattle.gsl_types.specs.declared.ty.StructType.{StructType}
 use Rattle.gsl_types.specs.declared.ty.Ty.{Ty}
 use Rattle.gsl_types.specs.declared.ty.Ty.TheOpen.{Ty-F}
-use Rattle.gsl_types.specs.declared.ty.Ty.TheVariants as ty
-use Rattle.gsl_types.specs.declared.ty.Ty.TheVariants.{outs-One, outs-Vector, rolls-One, rolls-Vector}
+use Rattle.gsl_types.specs.declared.ty.Ty.TheVariants.{rolls-One, rolls-Vector}
 use Rattle.gsl_types.specs.declared.ty.Ty.TheViews.{out-Ty, roll-Ty, roll-out-Ty}
 use Rattle.gsl_types.proofs.Layers.{over_one, over_vector}
 use Rattle.gsl_values.specs.declared.op.BinaryOp.{BinaryOp}
@@ -19,7 +17,6 @@ use Rattle.gsl_tree.specs.Operations.{is_signed, is_signed_kind, is_signed_scala
 use Rattle.gsl_tree.specs.Shapes.{Shape, arithmetic_shape, binary_shape, flag, is_integer, relation_shape, same_scalar, serves_beside, shape_kind, shape_of, shift_shape, when}
 use Rattle.gsl_tree.specs.Values.{is_value_of}
 use Rattle.gsl_lower_leaves.specs.Leaves.{leaves_meaning, leaves_of}
-use Rattle.gsl_lower_leaves.specs.declared.leaf.Leaf.{Leaf}
 use Rattle.gsl_lower_law.specs.Operands.{Beside, Fit}
 use Rattle.gsl_lower_law.specs.Values.{IsOf}
 use Rattle.gsl_lower_law_leaves.specs.Equal.{HasLeaves}

@@ -1,10 +1,10 @@
 -- `&&` and `||` with blocks: the second operand is entered where the first does not decide.
-use Rattle.std.proofs.Common.{◌≡◌, ◌≢◌, refl, sym, ap, ◌∙◌, subst, inl, inr, ℕ, ◌+◌, ◌<◌, ◌≤◌, ◌⊎◌, Bool, true, false, not, ◌||◌, ◌==◌, List, [], ◌∷◌, Option, Some, None, arith, if◌then◌else◌}
+use Rattle.std.proofs.Common.{◌≡◌, refl, sym, ap, ◌∙◌, subst, inr, ℕ, ◌≤◌, Bool, true, false, not, ◌==◌, List, [], ◌∷◌, arith, if◌then◌else◌}
 use Rattle.gsl_base.specs.declared.input.Input.{Input}
 use Rattle.gsl_instr.specs.declared.op.TheConstants as op
 use Rattle.gsl_types.specs.declared.ty.Scalar.TheVariants.{Bool as Boolean}
 use Rattle.gsl_types.specs.declared.ty.Ty.{Ty}
-use Rattle.gsl_types.specs.declared.ty.Ty.TheVariants.{One, Void}
+use Rattle.gsl_types.specs.declared.ty.Ty.TheVariants.{One}
 use Rattle.gsl_words.specs.declared.module.Module.{Module}
 use Rattle.gsl_values.specs.declared.value.Value.{Value}
 use Rattle.gsl_values.specs.declared.value.Value.TheVariants.{Word}
@@ -20,28 +20,27 @@ use Rattle.gsl_meaning.specs.Running as shader_run
 use Rattle.gsl_meaning.specs.State as shader
 use Rattle.gsl_machine.specs.State.{State}
 use Rattle.gsl_spv.specs.Calls.{put}
-use Rattle.gsl_spv.specs.Growing.{Extends}
 use Rattle.gsl_spv.specs.Sections.{Sections}
 use Rattle.gsl_spv.proofs.Extending.{extends_same, extends_then}
-use Rattle.gsl_lower_law.specs.Values.{Keeps, Stands}
+use Rattle.gsl_lower_law.specs.Values.{Stands}
 use Rattle.gsl_lower_law.proofs.Adding.{extends_put}
 use Rattle.gsl_lower_holders.specs.Flow.{Emit, Flow, Gives, Lacks, Lowered, behind, fresh, given, opening, putting_here, type_id, ◌>>=◌}
 use Rattle.gsl_lower_holders.specs.Waiting.{keep, take_back}
-use Rattle.gsl_lower_holders.specs.Ways.{begin_short, choosing, fork, join, leaving as leave, targets}
+use Rattle.gsl_lower_holders.specs.Ways.{begin_short, choosing, fork, join, targets}
 use Rattle.gsl_lower_holders.specs.declared.blocks.Fork.{Fork}
 use Rattle.gsl_lower_expr.specs.Parts.{Lower, short}
-use Rattle.gsl_lower_follows.specs.Frames.{AreTyped, Frame, Good, Inside, Kept, Waits}
+use Rattle.gsl_lower_follows.specs.Frames.{Frame, Good, Inside, Kept, Waits}
 use Rattle.gsl_lower_follows.specs.Giving.{Adds, After, Does, GivesValue, Grown, GrownTo, HasGiven, Met, none_waits}
 use Rattle.gsl_lower_follows.proofs.Beginning.{chooses, does_behind, does_fresh, good_begun}
 use Rattle.gsl_lower_follows.proofs.Doing.{does_then}
 use Rattle.gsl_lower_follows.proofs.Fetching.{adds_fresh, adds_keep, adds_opening, adds_put, adds_take_back, adds_type_id}
-use Rattle.gsl_lower_follows.proofs.Growing.{adds_given, adds_then, grown_same, grown_then}
-use Rattle.gsl_lower_follows.proofs.Holding.{NowWaits, Unchanged, after_then, does_keep, does_so, waits_after}
+use Rattle.gsl_lower_follows.proofs.Growing.{adds_given, adds_then, grown_then}
+use Rattle.gsl_lower_follows.proofs.Holding.{NowWaits, Unchanged, does_keep, waits_after}
 use Rattle.gsl_lower_follows.proofs.Jumping.{begun_at}
-use Rattle.gsl_lower_follows.proofs.Meeting.{adds_join, branched, does_join, does_met, grown_branched, grown_through, met_at}
+use Rattle.gsl_lower_follows.proofs.Meeting.{adds_join, branched, does_join, does_met, grown_branched}
 use Rattle.gsl_lower_law_expr.specs.Known.{IsShort, logic_means, logic_value}
-use Rattle.gsl_lower_law_expr.proofs.Logic.{IsTruth, real_boolean, truth_of, truth_typed}
-use Rattle.gsl_lower_law_expr.proofs.Operands.{given_behind, given_value}
+use Rattle.gsl_lower_law_expr.proofs.Logic.{real_boolean, truth_of}
+use Rattle.gsl_lower_law_expr.proofs.Operands.{given_value}
 
 -- the flow behind a choice between two blocks, the first of which begins
 abbrev pub chosen_at : ℕ → List ℕ → ℕ → Flow → Flow
@@ -171,8 +170,8 @@ module _ (m : Module) (input : Input) (whole : Sections) (f : Frame m input whol
         (does_change left left mid5 (Met m input whole f p around b0.place.used w state0) (HasGiven m input whole f p around true boolean b0 state0) tt w t (join (One Boolean) (fork h right end) id b5)
         (λ got later last met. met_given b0 state0 got later w t last boolean real.0 met)
         (does_join m input whole f p around b0.place.used (One Boolean) (fork h right end) id w v left b5 t state0 mid5 g.after.good
-            (record { same = λ holder number less seat. g.after.held.same holder number (omega (arith, less, grown04.used)) seat ∙ held04.same holder number less seat })
-            (waits_after m input whole f p around sb b4 b5 state4 mid5 t h v grown45 g.after waits) few real.1))
+        (record { same = λ holder number less seat. g.after.held.same holder number (omega (arith, less, grown04.used)) seat ∙ held04.same holder number less seat })
+        (waits_after m input whole f p around sb b4 b5 state4 mid5 t h v grown45 g.after waits) few real.1))
 
     -- the second operand is entered
     enters : (b0 b3 : Flow) (state0 mid3 : State) (s : shader.State) (units x h right end : ℕ) (v : Value) → Before b0 state0 h v b3 s mid3 → Stands mid3.ids x v → decides which (word_in v) ≡ false
@@ -182,19 +181,19 @@ module _ (m : Module) (input : Input) (whole : Sections) (f : Frame m input whol
         (shader_run.◌>>=◌ y (λ w. shader_given (Word (logic_word which (word_in v) (word_in w)))) s units) (meet (fork h right end) (entered_at which x right end b3))
         before.good.inside (grown_entered which x right end b3) (adds_meet (fork h right end) (entered_at which x right end b3))
         (λ inside4. chooses m input whole f b3.sections end x (on_true which right end) (on_false which right end) v right (put op.BRANCH_CONDITIONAL (x ∷ on_true which right end ∷ on_false which right end ∷ []) (put op.SELECTION_MERGE (end ∷ 0 ∷ []) b3.sections)) mid3 units
-            (goes_to which is (word_in v) right end false no_) stands before.good.inside inside4 (extends_same _) before.good.rest before.good.within before.good.own)
+        (goes_to which is (word_in v) right end false no_) stands before.good.inside inside4 (extends_same _) before.good.rest before.good.within before.good.own)
         (λ inside4.
         does_then m input whole f p 0 units (entered_at which x right end b3) (begun_at m input whole f mid3 (entered_at which x right end b3).sections) (HasGiven m input whole f p around sb boolean (entered_at which x right end b3) (begun_at m input whole f mid3 (entered_at which x right end b3).sections)) none_waits
-            (HasGiven m input whole f p around true boolean b0 state0) none_waits (y s units) (λ w. shader_given (Word (logic_word which (word_in v) (word_in w)))) (second (entered_at which x right end b3)) (join (One Boolean) (fork h right end)) inside4
-            (does_second.adds (entered_at which x right end b3)) (λ id. adds_join m input whole (One Boolean) (fork h right end) id)
-            (does_second.does (entered_at which x right end b3) s units (begun_at m input whole f mid3 (entered_at which x right end b3).sections)
-                (good_begun m input whole f p around b3 (entered_at which x right end b3) s mid3 before.good (grown_entered which x right end b3) inside4))
-            (λ id b5 w t left mid5 inside5 grown45 g less. met_second b0 (entered_at which x right end b3) b5 state0 (begun_at m input whole f mid3 (entered_at which x right end b3).sections) mid5 h right end id v w (word_in v) t left inside5
-                (grown_then before.grown (grown_entered which x right end b3)) grown45
-                (record { same = λ holder number less seat. before.held.same holder number less seat })
-                (record { holder = before.waits.holder; number = before.waits.number; among = before.waits.among; seat = before.waits.seat; points = before.waits.points; value = before.waits.value })
-                before.first g)
-            (λ id b5 t left mid5 inside5 grown45 none less. absurd none))
+        (HasGiven m input whole f p around true boolean b0 state0) none_waits (y s units) (λ w. shader_given (Word (logic_word which (word_in v) (word_in w)))) (second (entered_at which x right end b3)) (join (One Boolean) (fork h right end)) inside4
+        (does_second.adds (entered_at which x right end b3)) (λ id. adds_join m input whole (One Boolean) (fork h right end) id)
+        (does_second.does (entered_at which x right end b3) s units (begun_at m input whole f mid3 (entered_at which x right end b3).sections)
+        (good_begun m input whole f p around b3 (entered_at which x right end b3) s mid3 before.good (grown_entered which x right end b3) inside4))
+        (λ id b5 w t left mid5 inside5 grown45 g less. met_second b0 (entered_at which x right end b3) b5 state0 (begun_at m input whole f mid3 (entered_at which x right end b3).sections) mid5 h right end id v w (word_in v) t left inside5
+        (grown_then before.grown (grown_entered which x right end b3)) grown45
+        (record { same = λ holder number less seat. before.held.same holder number less seat })
+        (record { holder = before.waits.holder; number = before.waits.number; among = before.waits.among; seat = before.waits.seat; points = before.waits.points; value = before.waits.value })
+        before.first g)
+        (λ id b5 t left mid5 inside5 grown45 none less. absurd none))
 
     -- the second operand is not entered, and the value is that of the first
     skips : (b0 b3 : Flow) (state0 mid3 : State) (s : shader.State) (units x h right end : ℕ) (v : Value) → Before b0 state0 h v b3 s mid3 → Stands mid3.ids x v → is_value_of p.structs boolean v ≡ true → decides which (word_in v) ≡ true
@@ -209,16 +208,16 @@ module _ (m : Module) (input : Input) (whole : Sections) (f : Frame m input whol
             does_behind m input whole f p units b3 (stored_end h id end b5) mid3 (begun_at m input whole f mid3 (stored_end h id end b5).sections) (HasGiven m input whole f p around true boolean b0 state0) (Got v s units) ((type_id (One Boolean) >>= take_back h) (stored_end h id end b5))
             before.good.inside grown36 (adds_then (type_id (One Boolean)) (take_back h) (adds_type_id m input whole (One Boolean)) (λ type. adds_take_back m input whole h type) (stored_end h id end b5))
             (λ inside6. chooses m input whole f b3.sections end x (on_true which right end) (on_false which right end) v end (put op.BRANCH (end ∷ []) (put op.STORE (h ∷ id ∷ []) b5.sections)) mid3 units
-                (goes_to which is (word_in v) right end true yes_) stands before.good.inside inside6
-                (extends_then (extends_put op.LABEL (right ∷ []) (put op.BRANCH_CONDITIONAL (x ∷ on_true which right end ∷ on_false which right end ∷ []) (put op.SELECTION_MERGE (end ∷ 0 ∷ []) b3.sections)))
-                    (extends_then grown.extends (extends_then (extends_put op.STORE (h ∷ id ∷ []) b5.sections) (extends_put op.BRANCH (end ∷ []) (put op.STORE (h ∷ id ∷ []) b5.sections)))))
-                before.good.rest before.good.within before.good.own)
+            (goes_to which is (word_in v) right end true yes_) stands before.good.inside inside6
+            (extends_then (extends_put op.LABEL (right ∷ []) (put op.BRANCH_CONDITIONAL (x ∷ on_true which right end ∷ on_false which right end ∷ []) (put op.SELECTION_MERGE (end ∷ 0 ∷ []) b3.sections)))
+            (extends_then grown.extends (extends_then (extends_put op.STORE (h ∷ id ∷ []) b5.sections) (extends_put op.BRANCH (end ∷ []) (put op.STORE (h ∷ id ∷ []) b5.sections)))))
+            before.good.rest before.good.within before.good.own)
             (λ inside6. does_change units units (begun_at m input whole f mid3 (stored_end h id end b5).sections) (Met m input whole f p around b0.place.used v state0) (HasGiven m input whole f p around true boolean b0 state0) tt v s ((type_id (One Boolean) >>= take_back h) (stored_end h id end b5))
-                (λ got later last met. met_given b0 state0 got later v s last boolean typed met)
-                (does_met m input whole f p around b0.place.used (One Boolean) h v units (stored_end h id end b5) s state0 (begun_at m input whole f mid3 (stored_end h id end b5).sections) (omega (arith, before.grown.used, grown36.used))
-                    (good_begun m input whole f p around b3 (stored_end h id end b5) s mid3 before.good grown36 inside6)
-                    (record { same = λ holder number less seat. before.held.same holder number less seat })
-                    (record { holder = before.waits.holder; number = before.waits.number; among = omega (arith, before.waits.among, grown36.used); seat = before.waits.seat; points = before.waits.points; value = before.waits.value })))
+            (λ got later last met. met_given b0 state0 got later v s last boolean typed met)
+            (does_met m input whole f p around b0.place.used (One Boolean) h v units (stored_end h id end b5) s state0 (begun_at m input whole f mid3 (stored_end h id end b5).sections) (omega (arith, before.grown.used, grown36.used))
+            (good_begun m input whole f p around b3 (stored_end h id end b5) s mid3 before.good grown36 inside6)
+            (record { same = λ holder number less seat. before.held.same holder number less seat })
+            (record { holder = before.waits.holder; number = before.waits.number; among = omega (arith, before.waits.among, grown36.used); seat = before.waits.seat; points = before.waits.points; value = before.waits.value })))
 
     -- ---- from the first operand on
 

@@ -1,7 +1,6 @@
 -- Constants, operators on one value, and conversions.
-use Rattle.std.proofs.Common.{◌≡◌, ◌≢◌, refl, sym, ap, ◌∙◌, subst, ℕ, ◌<◌, ◌≤◌, Bool, true, false, not, ◌==◌, List, [], ◌∷◌, map, length, Option, Some, None, arith, if◌then◌else◌}
-use Rattle.std.specs.Prelude.{nat_lt}
-use Rattle.std.proofs.lemmas.Bool.{false≢true, ltb-true}
+use Rattle.std.proofs.Common.{◌≡◌, ◌≢◌, refl, sym, ap, ◌∙◌, subst, ℕ, Bool, true, List, [], ◌∷◌, map, length, Some}
+use Rattle.std.proofs.lemmas.Bool.{false≢true}
 use Rattle.gsl_base.specs.declared.input.Input.{Input}
 use Rattle.gsl_types.specs.Known.{AreStructs, IsSound}
 use Rattle.gsl_types.specs.declared.ty.Scalar.{Scalar}
@@ -11,7 +10,6 @@ use Rattle.gsl_types.specs.declared.ty.Ty.TheVariants.{Void}
 use Rattle.gsl_words.specs.declared.module.Module.{Module}
 use Rattle.gsl_values.specs.declared.op.UnaryOp.{UnaryOp}
 use Rattle.gsl_values.specs.declared.value.Value.{Value}
-use Rattle.gsl_values.specs.declared.value.Value.TheVariants.{Word, Many}
 use Rattle.gsl_tree.specs.Around.{Around}
 use Rattle.gsl_tree.specs.Operations.{unary_value}
 use Rattle.gsl_tree.specs.Operations as operation
@@ -21,19 +19,17 @@ use Rattle.gsl_tree.specs.declared.program.Program.{Program}
 use Rattle.gsl_meaning.specs.Running.{Run, given as shader_given}
 use Rattle.gsl_meaning.specs.Running as shader_run
 use Rattle.gsl_meaning.specs.State as shader
-use Rattle.gsl_machine.specs.State.{State}
 use Rattle.gsl_spv.specs.Sections.{Sections}
-use Rattle.gsl_lower_values.specs.Constructors.{operand}
 use Rattle.gsl_lower_values.specs.Operators.{converted, unary}
 use Rattle.gsl_lower_law.specs.Computing.{Computes}
 use Rattle.gsl_lower_law.specs.Operands.{converted_value}
-use Rattle.gsl_lower_law.specs.Values.{IsOf, Stands}
+use Rattle.gsl_lower_law.specs.Values.{IsOf}
 use Rattle.gsl_lower_law.proofs.Unaries.{unary_computes}
 use Rattle.gsl_lower_law_constructors.proofs.Shares.{words_in}
 use Rattle.gsl_lower_law_operators.proofs.Conversions.{converted_computes}
 use Rattle.gsl_lower_holders.specs.Flow.{Emit, lift, ◌>>=◌}
-use Rattle.gsl_lower_expr.specs.Parts.{Lower, of_type, shape_or}
-use Rattle.gsl_lower_follows.specs.Frames.{Frame, Good}
+use Rattle.gsl_lower_expr.specs.Parts.{Lower, of_type}
+use Rattle.gsl_lower_follows.specs.Frames.{Frame}
 use Rattle.gsl_lower_follows.specs.Giving.{Does, GivesValue, HasGiven, none_waits}
 use Rattle.gsl_lower_follows.proofs.Drawn.{computed_given}
 use Rattle.gsl_lower_follows.proofs.Growing.{adds_lift}

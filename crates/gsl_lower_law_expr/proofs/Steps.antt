@@ -1,5 +1,5 @@
 -- Steps of operators only add, whatever their operands are.
-use Rattle.std.proofs.Common.{refl, ℕ, Bool, true, false, List, [], ◌∷◌, if◌then◌else◌}
+use Rattle.std.proofs.Common.{ℕ, Bool, true, false, List, [], ◌∷◌, if◌then◌else◌}
 use Rattle.std.specs.Prelude.{max, replicate, ◌==◌}
 use Rattle.gsl_base.specs.declared.input.Input.{Input}
 use Rattle.gsl_instr.specs.declared.op.TheConstants as op
@@ -15,7 +15,7 @@ use Rattle.gsl_tree.specs.declared.expr.StepOp.{StepOp}
 use Rattle.gsl_spv.specs.Sections.{Sections}
 use Rattle.gsl_spv.proofs.Extending.{extends_same}
 use Rattle.gsl_lower_values.specs.Building.{Step, given, giving, ◌>>=◌}
-use Rattle.gsl_lower_values.specs.Operators.{binary, binary_code, converted, converted_from, each, given_scalar, joined, joining, logic_code, logical, numbered, recast, selected, spread, step_code, stepped, tested, unary, unary_code}
+use Rattle.gsl_lower_values.specs.Operators.{binary, binary_code, converted, converted_from, each, given_scalar, joined, joining, logic_code, logical, numbered, selected, spread, step_code, stepped, tested, unary, unary_code}
 use Rattle.gsl_lower_values.specs.Types.{filled_constant, type_of}
 use Rattle.gsl_lower_values.specs.declared.operand.Operand.{Operand}
 use Rattle.gsl_lower_law.specs.Computing.{Grows}

@@ -3,6 +3,4 @@
 
 mod laws;
 
-pub use laws::{
-    binary_gives, both_give, conversion_gives, forked_gives, short_gives, unary_gives,
-};
+pub use laws::{binary_gives, both_give, conversion_gives, forked_gives, short_gives, unary_gives};
