@@ -6,3 +6,4 @@ pub mod Logic
 pub mod Short
 pub mod Forking
 pub mod Single
+pub mod Constant

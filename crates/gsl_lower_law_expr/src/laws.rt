@@ -1,6 +1,6 @@
 //! Laws of the definitions: calls that do nothing, whose contracts are the laws.
 
-ghost use Rattle.std.specs.Prelude.{◌≡◌, ◌≢◌, ◌||◌, ◌⊎◌, ℕ, List, Some, false, length, true};
+ghost use Rattle.std.specs.Prelude.{◌≡◌, ◌≢◌, ◌≤◌, ◌||◌, ◌⊎◌, ℕ, List, Some, false, length, true};
 ghost use Rattle.gsl_base.specs.declared.input.Input.{Input};
 ghost use Rattle.gsl_types.specs.Known.{AreStructs, IsSound};
 ghost use Rattle.gsl_types.specs.declared.ty.Scalar.{Scalar};
@@ -18,9 +18,11 @@ ghost use Rattle.gsl_tree.specs.Values.{is_value_of};
 ghost use Rattle.gsl_tree.specs.declared.expr.LogicOp.{LogicOp};
 ghost use Rattle.gsl_tree.specs.declared.program.Program.{Program};
 ghost use Rattle.gsl_meaning.specs.Expressions.{binary as means_binary};
-ghost use Rattle.gsl_meaning.specs.Running.{Run};
+ghost use Rattle.gsl_meaning.specs.Running.{Run, given};
 ghost use Rattle.gsl_spv.specs.Sections.{Sections};
-ghost use Rattle.gsl_lower_expr.specs.Parts.{Lower, binary, both, forked, short};
+ghost use Rattle.gsl_lower_law.specs.Values.{IsOf};
+ghost use Rattle.gsl_lower_holders.specs.Flow.{lift};
+ghost use Rattle.gsl_lower_expr.specs.Parts.{Lower, binary, both, constant_by, forked, short};
 ghost use Rattle.gsl_lower_follows.specs.Frames.{AreTyped, Frame};
 ghost use Rattle.gsl_lower_follows.specs.Giving.{GivesValue};
 ghost use Rattle.gsl_lower_law_expr.specs.Coded.{converted_code, unary_code};
@@ -54,4 +56,9 @@ pub fn unary_gives()
 /// A conversion of integers: an `int` and a `uint` have the same words.
 pub fn conversion_gives()
     ensures { (m : Module) (input : Input) (whole : Sections) (f : Frame m input whole) (p : Program) (around : Around) (to : Scalar) (shape : Shape) (a : Lower) (ty : Ty) (x : Run Value) → AreStructs p.structs → IsSound (length p.structs) a.ty → a.ty ≢ Void → shape_of a.ty ≡ Some shape → is_integer to ≡ true → ((v : Value) → is_value_of p.structs a.ty v ≡ true → is_value_of p.structs ty v ≡ true) → GivesValue m input whole f p around a.traits.splits a.ty a.value x → GivesValue m input whole f p around a.traits.splits ty (converted_code to a) x }
+{}
+
+/// A constant of a scalar or vector type.
+pub fn constant_gives()
+    ensures { (m : Module) (input : Input) (whole : Sections) (f : Frame m input whole) (p : Program) (around : Around) (shape : Shape) (ty : Ty) (v : Value) → 1 ≤ shape.1 → IsOf shape v → is_value_of p.structs ty v ≡ true → GivesValue m input whole f p around false ty (lift (constant_by shape v)) (given v) }
 {}

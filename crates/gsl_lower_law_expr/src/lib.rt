@@ -3,4 +3,7 @@
 
 mod laws;
 
-pub use laws::{binary_gives, both_give, conversion_gives, forked_gives, short_gives, unary_gives};
+pub use laws::{
+    binary_gives, both_give, constant_gives, conversion_gives, forked_gives, short_gives,
+    unary_gives,
+};
