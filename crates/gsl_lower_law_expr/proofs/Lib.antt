@@ -7,3 +7,4 @@ pub mod Short
 pub mod Forking
 pub mod Single
 pub mod Constant
+pub mod Lists

@@ -1,5 +1,5 @@
 -- What is known of the types of operands.
-use Rattle.std.specs.Prelude.{◌≡◌, ◌≢◌, ◌==◌, ℕ, Bool, true, if◌then◌else◌, List, length}
+use Rattle.std.specs.Prelude.{◌≡◌, ◌≢◌, ◌==◌, ℕ, Bool, true, if◌then◌else◌, List, [], ◌∷◌, length}
 use Rattle.gsl_types.specs.Known.{AreStructs, IsSound}
 use Rattle.gsl_types.specs.declared.ty.Ty.{Ty}
 use Rattle.gsl_types.specs.declared.ty.Ty.TheVariants.{Void}
@@ -14,8 +14,11 @@ use Rattle.gsl_tree.specs.Values.{is_value_of, word_in}
 use Rattle.gsl_tree.specs.declared.expr.LogicOp.{LogicOp}
 use Rattle.gsl_tree.specs.declared.expr.LogicOp.TheVariants as logic
 use Rattle.gsl_tree.specs.declared.program.Program.{Program}
+use Rattle.gsl_meaning.specs.Expressions.{Meant}
 use Rattle.gsl_meaning.specs.Running.{Got, Run, given, ◌>>=◌}
 use Rattle.gsl_meaning.specs.State.{State}
+use Rattle.gsl_lower_holders.specs.Flow.{Emit}
+use Rattle.gsl_lower_expr.specs.Parts.{Lower}
 
 -- An operator fits two types, and gives values of another.
 pub record Operates (p : Program) (around : Around) (which : BinaryOp) (left right ty : Ty) : Type 0 where
@@ -56,3 +59,21 @@ choice_means test first second = test >>= choice_value first second
 -- what an operator on one value does
 abbrev pub unary_means : UnaryOp → Run Value → Run Value
 unary_means which run = run >>= (λ v. given (unary_value which v))
+
+-- what it is for what a part is lowered to, to give the value of the part
+abbrev pub Giving : Type 1
+Giving = Bool → Ty → Emit ℕ → Run Value → Type 0
+
+-- Each of some parts has a value, and gives it.
+abbrev pub AllGive : Giving → List Lower → List Meant → Type 0
+AllGive Gives [] [] = Unit {0}
+AllGive Gives [] (x ∷ xs) = ⊥
+AllGive Gives (e ∷ es) [] = ⊥
+AllGive Gives (e ∷ es) (x ∷ xs) = ((e.ty ≢ Void) × Gives e.traits.splits e.ty e.value x.value) × AllGive Gives es xs
+
+-- Values are of the types of parts.
+abbrev pub AllTyped : Program → List Lower → List Value → Type 0
+AllTyped p [] [] = Unit {0}
+AllTyped p [] (v ∷ vs) = ⊥
+AllTyped p (e ∷ es) [] = ⊥
+AllTyped p (e ∷ es) (v ∷ vs) = (is_value_of p.structs e.ty v ≡ true) × AllTyped p es vs

@@ -17,16 +17,19 @@ ghost use Rattle.gsl_tree.specs.Shapes.{Shape, is_integer, shape_of};
 ghost use Rattle.gsl_tree.specs.Values.{is_value_of};
 ghost use Rattle.gsl_tree.specs.declared.expr.LogicOp.{LogicOp};
 ghost use Rattle.gsl_tree.specs.declared.program.Program.{Program};
-ghost use Rattle.gsl_meaning.specs.Expressions.{binary as means_binary};
+ghost use Rattle.gsl_meaning.specs.Expressions.{Meant, binary as means_binary, in_order};
+ghost use Rattle.gsl_meaning.specs.State as shader;
 ghost use Rattle.gsl_meaning.specs.Running.{Run, given};
+ghost use Rattle.gsl_machine.specs.State.{State};
 ghost use Rattle.gsl_spv.specs.Sections.{Sections};
 ghost use Rattle.gsl_lower_law.specs.Values.{IsOf};
-ghost use Rattle.gsl_lower_holders.specs.Flow.{lift};
-ghost use Rattle.gsl_lower_expr.specs.Parts.{Lower, binary, both, constant_by, forked, short};
-ghost use Rattle.gsl_lower_follows.specs.Frames.{AreTyped, Frame};
-ghost use Rattle.gsl_lower_follows.specs.Giving.{GivesValue};
+ghost use Rattle.gsl_lower_holders.specs.Flow.{Flow, lift};
+ghost use Rattle.gsl_lower_expr.specs.Parts.{Lower, binary, both, constant_by, forked, operands, short};
+ghost use Rattle.gsl_lower_follows.specs.Frames.{AreTyped, Frame, Good};
+ghost use Rattle.gsl_lower_follows.specs.Giving.{Does, GivesValue, none_waits};
 ghost use Rattle.gsl_lower_law_expr.specs.Coded.{converted_code, unary_code};
-ghost use Rattle.gsl_lower_law_expr.specs.Known.{IsQuiet, IsShort, Operates, choice_means, logic_means, unary_means};
+ghost use Rattle.gsl_lower_law_expr.specs.Known.{AllGive, IsQuiet, IsShort, Operates, choice_means, logic_means, unary_means};
+ghost use Rattle.gsl_lower_law_expr.specs.Rows.{HasAll};
 
 /// An operator on the values of two expressions.
 pub fn binary_gives()
@@ -61,4 +64,9 @@ pub fn conversion_gives()
 /// A constant of a scalar or vector type.
 pub fn constant_gives()
     ensures { (m : Module) (input : Input) (whole : Sections) (f : Frame m input whole) (p : Program) (around : Around) (shape : Shape) (ty : Ty) (v : Value) → 1 ≤ shape.1 → IsOf shape v → is_value_of p.structs ty v ≡ true → GivesValue m input whole f p around false ty (lift (constant_by shape v)) (given v) }
+{}
+
+/// Operands in a row give their values, each of which waits where a later one has blocks.
+pub fn operands_give()
+    ensures { (m : Module) (input : Input) (whole : Sections) (f : Frame m input whole) (p : Program) (around : Around) (es : List Lower) (xs : List Meant) → AllGive (GivesValue m input whole f p around) es xs → (b : Flow) (s : shader.State) (units : ℕ) (state : State) → Good m input whole f p around b s state → Does m input whole f p 0 units state (HasAll m input whole f p around es b state) none_waits (in_order xs s units) (operands es b) }
 {}

@@ -4,6 +4,6 @@
 mod laws;
 
 pub use laws::{
-    binary_gives, both_give, constant_gives, conversion_gives, forked_gives, short_gives,
-    unary_gives,
+    binary_gives, both_give, constant_gives, conversion_gives, forked_gives, operands_give,
+    short_gives, unary_gives,
 };
