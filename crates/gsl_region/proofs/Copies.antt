@@ -25,7 +25,7 @@ load_more bytes now place k n word below long enough is found =
     ∙ sym (take_more (drop place (as_words bytes)) k 0 (omega (arith, length-drop place (as_words bytes), words_length bytes, below, enough)))
 
 -- one more word behind those that are put
-with_more : (words new : List ℕ) (place n word : ℕ) → place + length new ≡ n → n < length words → set (with_words words place new) n word ≡ with_words words place (new ++ word ∷ [])
+pub with_more : (words new : List ℕ) (place n word : ℕ) → place + length new ≡ n → n < length words → set (with_words words place new) n word ≡ with_words words place (new ++ word ∷ [])
 with_more words new place n word at inside =
     let front : length (take place words ++ new) ≡ n = omega (arith, length-append (take place words) new, length-take-le place words (omega (arith, at, inside)), at) in
     let next : suc n ≡ place + length (new ++ word ∷ []) = omega (arith, length-append new (word ∷ []), at) in
