@@ -41,6 +41,13 @@ impl Region {
         })
     }
 
+    /// How many words there are.
+    pub fn len(&self) -> u64
+        ensures { result ≡ length self.now }
+    {
+        self.bytes.len() as u64 / 4
+    }
+
     /// The word at a place.
     pub fn word(&self, place: u64) -> u32
         requires { place < length self.now }

@@ -9,7 +9,7 @@ store_more first now from at k word below room here is =
     ap (λ l. set l (at + k) word) is ∙ with_more first (take k from) at (at + k) word (omega (arith, length-take-le k from (omega (arith, below)))) (omega (arith, below, room))
     ∙ ap (with_words first at) (ap (λ w. take k from ++ w ∷ []) here ∙ sym (take_more from k 0 below))
 
-in_front : (first new : List ℕ) (at i : ℕ) → i < at → at ≤ length first → get_or (with_words first at new) i 0 ≡ get_or first i 0
+pub in_front : (first new : List ℕ) (at i : ℕ) → i < at → at ≤ length first → get_or (with_words first at new) i 0 ≡ get_or first i 0
 in_front first new at i below inside =
     let long : length (take at first) ≡ at = length-take-le at first inside in
     get_or_append_left (take at first) (new ++ drop (at + length new) first) 0 i (omega (arith, below, long)) ∙ get_or-take at first i 0 below

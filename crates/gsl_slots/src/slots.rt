@@ -30,6 +30,13 @@ impl Slots {
         Ok(Slots { words })
     }
 
+    /// How many words there are.
+    pub fn len(&self) -> usize
+        ensures { result ≡ length self.now }
+    {
+        self.words.len()
+    }
+
     /// The word at a place.
     pub fn word(&self, at: usize) -> u32
         requires { at < length self.now }
