@@ -13,7 +13,7 @@ put_there : (slots new : List ℕ) (at : ℕ) → at ≤ length slots → IsHeld
 put_there slots new at inside = record { below = omega arith; is = middle (take at slots) new (drop (at + length new) slots) at (length new) (length-take-le at slots inside) refl }
 
 -- the words in front of a place
-front_of : (slots new : List ℕ) (place count at : ℕ) → place + count ≤ at → at ≤ length slots → take count (drop place (with_words slots at new)) ≡ take count (drop place slots)
+pub front_of : (slots new : List ℕ) (place count at : ℕ) → place + count ≤ at → at ≤ length slots → take count (drop place (with_words slots at new)) ≡ take count (drop place slots)
 front_of slots new place count at below inside =
     let front = take at slots in
     let long : length (take at slots) ≡ at = length-take-le at slots inside in
