@@ -1,0 +1,3 @@
+pub mod Bytes
+pub mod Focus
+pub mod Copies

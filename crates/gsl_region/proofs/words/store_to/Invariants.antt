@@ -1,0 +1,6 @@
+use Rattle.std.proofs.Common.{◌≡◌, take}
+use Rattle.gsl_region.specs.Showing.{as_words, with_words}
+use Rattle.gsl_region.proofs.words.store_to.Given as goal
+
+abbrev pub invariant-loop-k : goal.invariant-loop-k
+invariant-loop-k l = as_words l.bytes ≡ with_words (as_words l.initial.bytes) l.place (take l.k l.from)
