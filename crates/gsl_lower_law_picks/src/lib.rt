@@ -1,0 +1,6 @@
+//! Do picks by words that are out of bounds stray, and does one pointer serve what is read and then stored?
+#![tactic(auto)]
+
+mod laws;
+
+pub use laws::{blocks_stray, reads_out_of_bounds_stray, stores_out_of_bounds_stray, variables_lead};
