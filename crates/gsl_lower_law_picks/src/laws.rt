@@ -11,17 +11,21 @@ ghost use Rattle.gsl_valid.specs.Types.{defined_as};
 ghost use Rattle.gsl_machine.specs.Memory.{bytes_of, parts_as};
 ghost use Rattle.gsl_machine.specs.State.{InBlock, InVariable, Pointer, Points, State};
 ghost use Rattle.gsl_spv.specs.Sections.{Sections};
+ghost use Rattle.gsl_lower_places.specs.Pointed.{pointed};
+ghost use Rattle.gsl_lower_places.specs.Reached.{stored_shape};
 ghost use Rattle.gsl_lower_places.specs.Reading.{number_in, read};
 ghost use Rattle.gsl_lower_places.specs.Writing.{stored};
 ghost use Rattle.gsl_lower_places.specs.declared.reached.Base.TheVariants as base;
 ghost use Rattle.gsl_lower_places.specs.declared.reached.Part.{Part};
 ghost use Rattle.gsl_lower_places.specs.declared.reached.Picked.{Picked};
+ghost use Rattle.gsl_lower_law.specs.Computing.{Does};
 ghost use Rattle.gsl_lower_law.specs.Straying.{Strays};
 ghost use Rattle.gsl_lower_law.specs.Values.{IsOf, Stands};
-ghost use Rattle.gsl_lower_law_places.specs.Components.{Chooses};
+ghost use Rattle.gsl_lower_law_places.specs.Components.{Chooses, HoldsComponents, Picks};
 ghost use Rattle.gsl_lower_law_places.specs.Leading.{LeadsTo, NumberEach, StraysFrom};
 ghost use Rattle.gsl_lower_law_places.specs.Storing.{AreStored};
 ghost use Rattle.gsl_lower_law_picks.specs.Outside.{CanPick, HasPart, LacksPart, PicksOutside};
+ghost use Rattle.gsl_lower_law_picks.specs.Serving.{IsAt, Serves};
 
 /// In a variable, words lead to the part that its value has there, and stray where it has none.
 pub fn variables_lead()
@@ -46,4 +50,11 @@ pub fn reads_out_of_bounds_stray()
 pub fn stores_out_of_bounds_stray()
     ensures component { (m : Module) (input : Input) (whole : Sections) (id class : ℕ) (shape : Shape) (parts : List Part) (p : Picked) (word : ℕ) (words : List ℕ) (from to : Pointer) (w : Value) (value : ℕ) (state : State) (before : Sections) → state.ids id ≡ Some (Points from) → NumberEach state.ids parts words → LeadsTo m input state from words to → StraysFrom m input state to (word ∷ []) → PicksOutside state.ids p word → length p.positions ≡ 1 → IsOf (p.shape.0, length p.positions) w → Stands state.ids value w → Strays m input whole state before (stored shape (record { base = base.Variable id class; path = parts; picked = Some p }) value) }
     ensures path { (m : Module) (input : Input) (whole : Sections) (id class : ℕ) (shape : Shape) (parts : List Part) (p : Picked) (by : Option ℕ) (words : List ℕ) (from : Pointer) (w : Value) (value : ℕ) (state : State) (before : Sections) → state.ids id ≡ Some (Points from) → NumberEach state.ids parts words → StraysFrom m input state from words → Chooses state.ids p.by by → CanPick p → AreStored by p.positions → length p.positions ≤ p.shape.1 → IsOf (p.shape.0, length p.positions) w → Stands state.ids value w → Strays m input whole state before (stored shape (record { base = base.Variable id class; path = parts; picked = Some p }) value) }
+{}
+
+/// One pointer serves what is read and what is then stored, as well as one for each would; without picked components, it is a pointer to the
+/// whole.
+pub fn pointers_serve()
+    ensures picked { (m : Module) (input : Input) (whole : Sections) (id class : ℕ) (shape : Shape) (parts : List Part) (p : Picked) (by : Option ℕ) (words : List ℕ) (from to : Pointer) (v : Value) (state : State) (before : Sections) → state.ids id ≡ Some (Points from) → NumberEach state.ids parts words → LeadsTo m input state from words to → HoldsComponents m input state to v → IsOf (stored_shape class p.shape) v → Picks state.ids p by → AreStored by p.positions → length p.positions ≤ p.shape.1 → Does m input whole (Serves m input whole class p by to) state.choices state before (pointed shape (record { base = base.Variable id class; path = parts; picked = Some p })) }
+    ensures all { (m : Module) (input : Input) (whole : Sections) (id class : ℕ) (shape : Shape) (parts : List Part) (words : List ℕ) (from to : Pointer) (state : State) (before : Sections) → state.ids id ≡ Some (Points from) → NumberEach state.ids parts words → LeadsTo m input state from words to → Does m input whole (IsAt class to None) state.choices state before (pointed shape (record { base = base.Variable id class; path = parts; picked = None })) }
 {}
