@@ -164,7 +164,7 @@ module _ (m : Module) (input : Input) (whole : Sections) where
     abbrev Putting : State → List ℕ → Left
     Putting state bytes = record { choices = state.choices; variables = state.variables; buffers = buffers_with m state variable bytes }
 
-    lying_in : Leaf → Value
+    abbrev lying_in : Leaf → Value
     lying_in one = converted_value (stored_shape class one.shape).0 (leaf_in v one)
 
     leaf_into : (one : Leaf) (place : Place) (bytes : List ℕ) (state : State) (before : Sections) → state.ids block ≡ Some (Points from) → NumberEach state.ids parts words → bytes_of m input state variable ≡ Some bytes → Lies m input variable (length bytes) from words one place → Stands state.ids value v

@@ -3,4 +3,4 @@
 
 mod laws;
 
-pub use laws::{wholes_are_read, wholes_are_stored, wholes_out_of_bounds_stray};
+pub use laws::{fillings_are_told, wholes_are_read, wholes_are_stored, wholes_out_of_bounds_stray};
