@@ -1,0 +1,42 @@
+//! Laws of the definitions: calls that do nothing, whose contracts are the laws.
+
+ghost use Rattle.std.specs.Prelude.{◌≡◌, ◌≤◌, ◌+◌, ◌++◌, ◌∷◌, ℕ, Some, true, length, List};
+ghost use Rattle.gsl_base.specs.declared.input.Input.{Input};
+ghost use Rattle.gsl_layout.specs.Layout.{Group, Layout, Leaf, Parts, offset_at, part_at};
+ghost use Rattle.gsl_words.specs.declared.module.Module.{Module};
+ghost use Rattle.gsl_tree.specs.Operations.{value_at};
+ghost use Rattle.gsl_views.specs.Paths.{Leads};
+ghost use Rattle.gsl_views.specs.Seen.{seen};
+ghost use Rattle.gsl_views.specs.Viewed.{IsArray, elements};
+ghost use Rattle.gsl_meaning.specs.Blocks.{value_of};
+ghost use Rattle.gsl_valid.specs.Kinds.{shape_of};
+ghost use Rattle.gsl_valid.specs.Types.{defined_as};
+ghost use Rattle.gsl_machine.specs.Memory.{bytes_of, counting, parts_as};
+ghost use Rattle.gsl_machine.specs.State.{InBlock, Outcome, State};
+ghost use Rattle.gsl_owed.specs.Types.{lies};
+ghost use Rattle.gsl_lower_law_places.specs.Leading.{HoldsValue, StraysFrom};
+ghost use Rattle.gsl_lower_law_copies.specs.Copying.{LeadsIn};
+
+/// Where a type lies by a layout, the words of a path lead to the offset that the layout has for it, with a type that lies by the layout of
+/// that part.
+pub fn layouts_lead()
+    ensures { (m : Module) (input : Input) (variable size at type : ℕ) (l part : Layout) (path : List ℕ) (offset : ℕ) → lies m l type ≡ true → Leads size l at path part offset → (pointee : ℕ) × (lies m part pointee ≡ true) × LeadsIn m input variable size (InBlock variable at type) path (InBlock variable offset pointee) }
+{}
+
+/// What is loaded where a path leads to a run of components is what is seen there through the layout; and that is the part at the path of all
+/// that is seen.
+pub fn leaves_are_seen()
+    ensures loaded { (m : Module) (input : Input) (state : State) (variable offset pointee components : ℕ) (bytes : List ℕ) → lies m (Leaf components) pointee ≡ true → bytes_of m input state variable ≡ Some bytes → HoldsValue m input state (InBlock variable offset pointee) (value_of (seen (Leaf components) offset bytes)) }
+    ensures seen { (l part : Layout) (at offset : ℕ) (path bytes : List ℕ) → Leads (length bytes) l at path part offset → value_at (value_of (seen l at bytes)) path ≡ value_of (seen part offset bytes) }
+{}
+
+/// An index that is not below the count of elements of an array strays, whatever stands behind it.
+pub fn elements_out_of_bounds_stray()
+    ensures { (m : Module) (input : Input) (state : State) (variable at type : ℕ) (l part : Layout) (bytes path more : List ℕ) (offset index : ℕ) → lies m l type ≡ true → bytes_of m input state variable ≡ Some bytes → Leads (length bytes) l at path part offset → IsArray part → elements part offset (length bytes) ≤ index → StraysFrom m input state (InBlock variable at type) (path ++ index ∷ more) }
+{}
+
+/// An array of a block has as many elements as its layout has in so many bytes; that is the length of a runtime array.
+pub fn arrays_are_counted()
+    ensures parts { (m : Module) (size offset type : ℕ) (l : Layout) → lies m l type ≡ true → IsArray l → parts_as m size offset type (shape_of (defined_as m type)) ≡ elements l offset size }
+    ensures length { (m : Module) (input : Input) (state : State) (variable at type member all offset : ℕ) (members : Parts) (l : Layout) (bytes : List ℕ) (go : ℕ → Outcome) → lies m (Group members all) type ≡ true → bytes_of m input state variable ≡ Some bytes → part_at members member ≡ Some l → offset_at members member ≡ Some offset → IsArray l → counting m input state (InBlock variable at type) member go ≡ go (elements l (at + offset) (length bytes)) }
+{}
