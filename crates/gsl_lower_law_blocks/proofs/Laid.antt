@@ -1,8 +1,8 @@
 -- Chains into blocks, by the layouts by which types lie.
-use Rattle.std.proofs.Common.{◌≡◌, refl, sym, ap, ap₂, ◌∙◌, subst, ℕ, zero, suc, ◌+◌, ◌-◌, ◌*◌, ◌/◌, ◌<◌, ◌≤◌, Bool, true, false, ◌&&◌, if◌then◌else◌, List, [], ◌∷◌, ◌++◌, length, map, get_or, Option, Some, None, arith}
-use Rattle.std.specs.Prelude.{nat_lt, slice_index, unwrap_or, ◌==◌}
+use Rattle.std.proofs.Common.{◌≡◌, refl, sym, ap, ap₂, ◌∙◌, subst, ℕ, zero, suc, ◌+◌, ◌-◌, ◌*◌, ◌/◌, ◌<◌, ◌≤◌, true, ◌&&◌, if◌then◌else◌, List, [], ◌∷◌, ◌++◌, length, map, Option, Some, None, arith}
+use Rattle.std.specs.Prelude.{nat_lt, slice_index, unwrap_or}
 use Rattle.std.specs.List.{range_with_len}
-use Rattle.std.proofs.lemmas.Bool.{and_parts, cond-true, cond-false, eqb-true, false≢true, le-ltb, lt-ltb}
+use Rattle.std.proofs.lemmas.Bool.{and_parts, cond-true, eqb-true, false≢true, lt-ltb}
 use Rattle.gsl_base.specs.declared.input.Input.{Input}
 use Rattle.gsl_instr.specs.declared.enumerant.decoration.TheConstants as decoration
 use Rattle.gsl_layout.specs.Layout.{Layout, Leaf, Array, Runtime, Group, Parts, End, Part, part_at, offset_at}
@@ -17,10 +17,10 @@ use Rattle.gsl_valid.specs.Decorations.{number_on, number_on_member}
 use Rattle.gsl_valid.specs.Kinds.{Shape, OfVoid, OfBool, OfInt, OfVector, OfArray, OfRuntimeArray, OfStruct, OfPointer, OfFunction, NoType, shape_of, value_of as number_of}
 use Rattle.gsl_valid.specs.Types.{Lanes, defined_as, lanes_of}
 use Rattle.gsl_machine.specs.Constants.{length_by}
-use Rattle.gsl_machine.specs.Memory.{at_offset, at_stride, bytes_of, counting, into_block, part_as, parts_as, size_of, strides_in, words_at}
+use Rattle.gsl_machine.specs.Memory.{at_offset, at_stride, bytes_of, counting, into_block, part_as, parts_as, size_of, strides_in}
 use Rattle.gsl_machine.specs.State.{InBlock, InVariable, Outcome, Pointer, State, Strayed, Stuck, on}
 use Rattle.gsl_owed.specs.Types.{array_lies, has_size, is_number, lies, members_lie, runtime_lies, shape_at, strides_by, struct_lies}
-use Rattle.gsl_lower_law_places.specs.Leading.{HoldsValue, LeadsTo, StraysFrom}
+use Rattle.gsl_lower_law_places.specs.Leading.{HoldsValue, StraysFrom}
 use Rattle.gsl_lower_law_places.proofs.Blocks.{held_value}
 use Rattle.gsl_lower_law_places.proofs.Reading.{leads_on}
 use Rattle.gsl_lower_law_picks.proofs.Along.{block_strays, stray_behind, stray_on}

@@ -1,12 +1,11 @@
 -- Parts of what is seen, as values.
-use Rattle.std.proofs.Common.{◌≡◌, refl, sym, ap, ◌∙◌, ℕ, suc, ◌+◌, ◌-◌, ◌*◌, ◌/◌, ◌<◌, Bool, true, false, if◌then◌else◌, List, [], ◌∷◌, length, map, get_or, Option, Some, None, zero, arith}
+use Rattle.std.proofs.Common.{◌≡◌, refl, ap, ◌∙◌, ℕ, suc, ◌+◌, ◌-◌, ◌*◌, ◌/◌, ◌<◌, if◌then◌else◌, List, length, map, get_or, Option, Some, None, zero, arith}
 use Rattle.std.specs.Prelude.{nat_lt}
 use Rattle.std.specs.List.{range_with_len}
 use Rattle.std.proofs.lemmas.Bool.{lt-ltb}
 use Rattle.std.proofs.lemmas.List.FromFn.{get_or-map-range_with_len}
 use Rattle.gsl_layout.specs.Kinds.{part_count}
-use Rattle.gsl_layout.specs.Layout.{Layout, Array, Runtime, Group, Parts, End, Part, part_at}
-use Rattle.gsl_values.specs.declared.value.Value.{Value}
+use Rattle.gsl_layout.specs.Layout.{Layout, Parts, End, Part, part_at}
 use Rattle.gsl_values.specs.declared.value.Value.TheVariants.{Word, Many, outs-Many}
 use Rattle.gsl_tree.specs.Operations.{member_value, value_at}
 use Rattle.gsl_tree.specs.Values.{parts_layer}

@@ -1,7 +1,6 @@
 -- Leaves that are copied one behind the other.
-use Rattle.std.proofs.Common.{◌≡◌, refl, sym, ap, ◌∙◌, subst, ℕ, suc, ◌≤◌, Bool, true, false, if◌then◌else◌, List, [], ◌∷◌, ◌++◌, length, map, set, Option, Some, None, arith}
+use Rattle.std.proofs.Common.{◌≡◌, refl, sym, ap, ◌∙◌, subst, ℕ, ◌≤◌, false, if◌then◌else◌, List, [], ◌∷◌, ◌++◌, length, map, set, Option, Some, None, arith}
 use Rattle.std.specs.Prelude.{slice_get}
-use Rattle.gsl_base.specs.declared.input.Buffer.{Buffer}
 use Rattle.gsl_base.specs.declared.input.Input.{Input}
 use Rattle.gsl_instr.specs.declared.enumerant.decoration.TheConstants as decoration
 use Rattle.gsl_instr.specs.declared.enumerant.storage_class.TheConstants as storage_class
@@ -27,10 +26,10 @@ use Rattle.gsl_lower_places.specs.declared.reached.Part.{Part}
 use Rattle.gsl_lower_places.specs.declared.reached.Part.TheVariants.{Fixed, By}
 use Rattle.gsl_lower_leaves.specs.Copies.{copied_in, copied_out, each, read_whole, store_whole}
 use Rattle.gsl_lower_leaves.specs.declared.leaf.Leaf.{Leaf}
-use Rattle.gsl_lower_law.specs.Computing.{Acts, Computes, Grows, Left, drawing}
+use Rattle.gsl_lower_law.specs.Computing.{Acts, Grows, Left, drawing}
 use Rattle.gsl_lower_law.specs.Operands.{converted_value}
 use Rattle.gsl_lower_law.specs.Straying.{Strays}
-use Rattle.gsl_lower_law.specs.Values.{IsOf, Keeps, Stands}
+use Rattle.gsl_lower_law.specs.Values.{IsOf, Stands}
 use Rattle.gsl_spv.proofs.Extending.{extends_same}
 use Rattle.gsl_lower_law.proofs.Adding.{extends_put}
 use Rattle.gsl_lower_law.proofs.Giving.{giving_does, giving_grows}
@@ -40,7 +39,7 @@ use Rattle.gsl_lower_law.proofs.Straying.{strays_before, strays_then}
 use Rattle.gsl_lower_law_constructors.proofs.Shares.{converted_grows}
 use Rattle.gsl_lower_law_leaves.specs.Equal.{HasLeaves, leaf_in}
 use Rattle.gsl_lower_law_places.specs.Leading.{HoldsValue, NumberEach, StraysFrom}
-use Rattle.gsl_lower_law_places.specs.Storing.{Stores, buffers_with}
+use Rattle.gsl_lower_law_places.specs.Storing.{buffers_with}
 use Rattle.gsl_lower_law_places.proofs.Blocks.{block_stores, held_value}
 use Rattle.gsl_lower_law_places.proofs.Chains.{pointer_grows, still_number}
 use Rattle.gsl_lower_law_places.proofs.Kept.{lies_same}

@@ -1,5 +1,5 @@
 -- A value that is filled with the leaves of another is what the words of that tell.
-use Rattle.std.proofs.Common.{◌≡◌, refl, sym, ap, ap₂, ◌∙◌, subst, ℕ, zero, suc, ◌+◌, ◌≤◌, Bool, true, false, ◌&&◌, List, [], ◌∷◌, ◌++◌, length, map, set, get_or, Some, append_assoc, arith}
+use Rattle.std.proofs.Common.{◌≡◌, refl, sym, ap, ap₂, ◌∙◌, subst, ℕ, zero, suc, ◌+◌, ◌≤◌, Bool, true, false, List, [], ◌∷◌, ◌++◌, length, map, set, get_or, Some, append_assoc, arith}
 use Rattle.std.specs.Prelude.{IsTrue, nat_le, replicate, slice_get}
 use Rattle.std.proofs.lemmas.Bool.{and_parts, false≢true, leb-true}
 use Rattle.std.proofs.lemmas.List.{length-append}
@@ -19,7 +19,6 @@ use Rattle.gsl_meaning.specs.Accesses.{told_meaning, told_scalar}
 use Rattle.gsl_lower_places.specs.Reached.{stored_scalar}
 use Rattle.gsl_lower_leaves.specs.Leaves.{leaves_meaning, within}
 use Rattle.gsl_lower_leaves.specs.declared.leaf.Leaf.{Leaf}
-use Rattle.gsl_lower_law.specs.Operands.{converted_value}
 use Rattle.gsl_lower_law.proofs.Components.{components_of}
 use Rattle.gsl_lower_law_leaves.proofs.Typed.{elements_are, many_from, part_is, rows, word_from, words_from}
 use Rattle.gsl_lower_law_places.proofs.Reading.{mapped_length}
@@ -113,7 +112,7 @@ rows_tell (t ∷ ts) (w ∷ ws) (told ∷ tolds) (l ∷ all) tell v front (x ∷
     let part : member_value v number ≡ u = part_is v behind u vs number is second in
     let at = at_front front x xs number first in
     let done : filled (Many (front ++ x ∷ xs)) v (map (within number) l) ≡ Many ((front ++ told u ∷ []) ++ xs) =
-        filled_within l (front ++ x ∷ xs) v number x at ∙ ap (λ y. Many (set (front ++ x ∷ xs) number y)) (ap (λ m. filled x m l) part ∙ here.0) ∙ ap Many (put_front front x (told u) xs number first ∙ sym (append_assoc front (told u ∷ []) xs)) in
+    filled_within l (front ++ x ∷ xs) v number x at ∙ ap (λ y. Many (set (front ++ x ∷ xs) number y)) (ap (λ m. filled x m l) part ∙ here.0) ∙ ap Many (put_front front x (told u) xs number first ∙ sym (append_assoc front (told u ∷ []) xs)) in
     let later = rows_tell ts ws tolds all tell.1 v (front ++ told u ∷ []) xs (behind ++ u ∷ []) vs (number + 1) (is ∙ ap Many (sym (append_assoc behind (u ∷ []) vs)))
     (length-append front (told u ∷ []) ∙ ap (λ n. n + 1) first) (length-append behind (u ∷ []) ∙ ap (λ n. n + 1) second) p.1 q.1 in (
       filled_both (Many (front ++ x ∷ xs)) v (map (within number) l) (rows (number + 1) all) ∙ ap (λ old. filled old v (rows (number + 1) all)) done ∙ later.0 ∙ ap Many (append_assoc front (told u ∷ []) (told_each tolds vs)),

@@ -14,7 +14,6 @@ use Rattle.gsl_meaning.specs.Accesses.{each_told, told, told_meaning}
 use Rattle.gsl_lower_leaves.specs.Leaves.{leaves_meaning, leaves_of}
 use Rattle.gsl_lower_leaves.specs.declared.leaf.Leaf.{Leaf}
 use Rattle.gsl_lower_law_leaves.proofs.Structs.{Sized, all_from, members_rows, members_sized}
-use Rattle.gsl_lower_law_leaves.proofs.Typed.{rows}
 use Rattle.gsl_lower_law_copies.specs.Worded.{has_words, words_meaning}
 use Rattle.gsl_lower_law_copies.proofs.Told.{TellEach, Tells, parts_tell, told_each, told_parts, type_tells}
 
@@ -64,8 +63,8 @@ module _ (typed worded : ℕ → Value → Bool) (told_by : ℕ → Value → Va
       let both = parts_tell (tests_of (members_over value_meaning typed struct.members)) (tests_of (members_over words_meaning worded struct.members)) (tolds_of (members_over told_meaning told_by struct.members))
       (map (λ (member : List ℕ × List Leaf). member.1) (members_over leaves_meaning leaves struct.members)) (members_tell struct.members all) in
       let tells : Tells (has_parts (tests_of (members_over value_meaning typed struct.members))) (has_parts (tests_of (members_over words_meaning worded struct.members))) (told_parts (tolds_of (members_over told_meaning told_by struct.members))) (struct_over leaves_meaning leaves struct) =
-          subst (Tells (has_parts (tests_of (members_over value_meaning typed struct.members))) (has_parts (tests_of (members_over words_meaning worded struct.members))) (told_parts (tolds_of (members_over told_meaning told_by struct.members))))
-          (sym (members_rows 0 (members_over leaves_meaning leaves struct.members))) both in
+      subst (Tells (has_parts (tests_of (members_over value_meaning typed struct.members))) (has_parts (tests_of (members_over words_meaning worded struct.members))) (told_parts (tolds_of (members_over told_meaning told_by struct.members))))
+      (sym (members_rows 0 (members_over leaves_meaning leaves struct.members))) both in
       let one = tells old v pass_old pass_v in
       (one.0 ∙ ap Many (members_told (members_over told_meaning told_by struct.members) (parts_in v)), one.1)
 

@@ -6,8 +6,7 @@ use Rattle.gsl_values.specs.declared.value.Value.{Value}
 use Rattle.gsl_tree.specs.Operations.{with_value_at}
 use Rattle.gsl_tree.specs.Values.{components_in, of_components}
 use Rattle.gsl_views.specs.Buffers.{put_words}
-use Rattle.gsl_valid.specs.Types.{lanes_of}
-use Rattle.gsl_machine.specs.Memory.{bytes_of, size_of, words_at}
+use Rattle.gsl_machine.specs.Memory.{bytes_of, words_at}
 use Rattle.gsl_machine.specs.State.{InBlock, Pointer, State}
 use Rattle.gsl_lower_places.specs.Reached.{stored_shape}
 use Rattle.gsl_lower_places.specs.Reading.{number_in}

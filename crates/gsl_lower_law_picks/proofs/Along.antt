@@ -1,11 +1,11 @@
 -- Paths in variables, and parts of blocks that are not there.
-use Rattle.std.proofs.Common.{◌≡◌, refl, sym, ap, ◌∙◌, subst, ℕ, ◌<◌, ◌≤◌, ◌⊎◌, inl, inr, true, false, List, [], ◌∷◌, ◌++◌, length, Some, append_assoc, append-nil, if◌then◌else◌}
+use Rattle.std.proofs.Common.{◌≡◌, sym, ap, ◌∙◌, subst, ℕ, ◌<◌, ◌≤◌, inl, inr, List, [], ◌∷◌, ◌++◌, length, Some, append_assoc, append-nil}
 use Rattle.std.specs.Prelude.{nat_lt, slice_get}
 use Rattle.std.proofs.lemmas.Bool.{cond-true, cond-false, lt-ltb, le-ltb}
 use Rattle.gsl_base.specs.declared.input.Input.{Input}
 use Rattle.gsl_words.specs.declared.module.Module.{Module}
 use Rattle.gsl_values.specs.declared.value.Value.{Value}
-use Rattle.gsl_tree.specs.Operations.{member_value, value_at}
+use Rattle.gsl_tree.specs.Operations.{value_at}
 use Rattle.gsl_tree.specs.Values.{parts_in}
 use Rattle.gsl_machine.specs.Memory.{bytes_of, into_block, into_variable, part_as, parts_as}
 use Rattle.gsl_machine.specs.State.{InBlock, InVariable, Outcome, Pointer, State, Strayed, on}

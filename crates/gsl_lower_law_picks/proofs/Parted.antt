@@ -1,5 +1,5 @@
 -- The part to which one index leads is the same in each state.
-use Rattle.std.proofs.Common.{◌≡◌, refl, sym, ap, ◌∙◌, ℕ, Bool, true, false, if◌then◌else◌, List, [], ◌∷◌, ◌++◌, length, Option, Some, None}
+use Rattle.std.proofs.Common.{◌≡◌, ap, ℕ, Bool, true, false, if◌then◌else◌, List, [], ◌∷◌, ◌++◌, length, Option, Some, None}
 use Rattle.std.specs.Prelude.{nat_lt, slice_get}
 use Rattle.gsl_base.specs.declared.input.Input.{Input}
 use Rattle.gsl_words.specs.declared.module.Module.{Module}
@@ -9,7 +9,7 @@ use Rattle.gsl_tree.specs.Values.{parts_in}
 use Rattle.gsl_valid.specs.Kinds.{shape_of}
 use Rattle.gsl_valid.specs.Types.{defined_as}
 use Rattle.gsl_machine.specs.Memory.{bytes_of, into_block, into_variable, part_as, parts_as}
-use Rattle.gsl_machine.specs.State.{Going, Held, Whole, Ids, InBlock, InVariable, Outcome, Pointer, Points, State, Strayed, Stuck, on}
+use Rattle.gsl_machine.specs.State.{Going, Held, Whole, InBlock, InVariable, Outcome, Pointer, Points, State, Strayed, Stuck, on}
 use Rattle.gsl_lower_law_places.specs.Leading.{LeadsTo}
 
 -- ---- a pointer that is shown

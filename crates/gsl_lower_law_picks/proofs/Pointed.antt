@@ -1,5 +1,5 @@
 -- One pointer for what is read and then stored.
-use Rattle.std.proofs.Common.{◌≡◌, refl, sym, ap, ap₂, ◌∙◌, subst, ℕ, zero, suc, ◌<◌, ◌≤◌, Bool, true, false, if◌then◌else◌, List, [], ◌∷◌, ◌++◌, length, map, set, Option, Some, None, arith}
+use Rattle.std.proofs.Common.{◌≡◌, refl, sym, ap, ◌∙◌, subst, ℕ, zero, suc, ◌<◌, ◌≤◌, Bool, true, false, if◌then◌else◌, List, [], ◌∷◌, ◌++◌, length, map, set, Option, Some, None, arith}
 use Rattle.std.specs.Prelude.{◌==◌, slice_get, slice_index}
 use Rattle.std.proofs.lemmas.Bool.{eqb-true}
 use Rattle.gsl_base.specs.declared.input.Input.{Input}
@@ -7,7 +7,7 @@ use Rattle.gsl_types.specs.declared.ty.Scalar.{Scalar}
 use Rattle.gsl_words.specs.declared.module.Module.{Module}
 use Rattle.gsl_values.specs.declared.value.Value.{Value}
 use Rattle.gsl_values.specs.declared.value.Value.TheVariants.{Word, Many}
-use Rattle.gsl_tree.specs.Operations.{value_at, with_value_at}
+use Rattle.gsl_tree.specs.Operations.{with_value_at}
 use Rattle.gsl_tree.specs.Shapes.{Shape}
 use Rattle.gsl_tree.specs.Values.{components_in, of_components, parts_in}
 use Rattle.gsl_machine.specs.Memory.{with_variable}
@@ -17,7 +17,7 @@ use Rattle.gsl_spv.proofs.Extending.{extends_same}
 use Rattle.gsl_lower_values.specs.Building.{Step, given, ◌>>=◌}
 use Rattle.gsl_lower_values.specs.Types.{type_of}
 use Rattle.gsl_lower_places.specs.Pointed.{pointed, pointed_at, pointed_by, pointed_picked, pointed_to}
-use Rattle.gsl_lower_places.specs.Reached.{is_block_class, stored_shape}
+use Rattle.gsl_lower_places.specs.Reached.{stored_shape}
 use Rattle.gsl_lower_places.specs.Reading.{pointer, read}
 use Rattle.gsl_lower_places.specs.Writing.{stored}
 use Rattle.gsl_lower_places.specs.declared.reached.Base.TheVariants as base
@@ -31,7 +31,7 @@ use Rattle.gsl_lower_law.specs.Straying.{Strays}
 use Rattle.gsl_lower_law.specs.Values.{IsOf, Keeps, Stands}
 use Rattle.gsl_lower_law.proofs.Joining.{does_then, given_does, grows_then}
 use Rattle.gsl_lower_law.proofs.Picking.{one_word}
-use Rattle.gsl_lower_law.proofs.Plain.{Any, IsType, type_does}
+use Rattle.gsl_lower_law.proofs.Plain.{IsType, type_does}
 use Rattle.gsl_lower_law.proofs.Straying.{strays_before, strays_then}
 use Rattle.gsl_lower_law_constructors.proofs.Shares.{words_in}
 use Rattle.gsl_lower_law_places.specs.Components.{AreWithin, Chooses, HoldsComponents, Picks, chosen, picks_of}

@@ -1,10 +1,9 @@
 -- One pointer that serves what is read and what is then stored (SPIR-V 1.0, 3.32.8).
-use Rattle.std.specs.Prelude.{◌≡◌, ℕ, false, List, [], length, set, slice_get, Option, Some, None}
+use Rattle.std.specs.Prelude.{◌≡◌, ℕ, false, List, [], length, set, slice_get, Option, Some}
 use Rattle.gsl_base.specs.declared.input.Input.{Input}
 use Rattle.gsl_words.specs.declared.module.Module.{Module}
 use Rattle.gsl_values.specs.declared.value.Value.{Value}
 use Rattle.gsl_tree.specs.Operations.{value_at, with_value_at}
-use Rattle.gsl_tree.specs.Shapes.{Shape}
 use Rattle.gsl_machine.specs.State.{Ids, InVariable, Pointer, Points, State}
 use Rattle.gsl_spv.specs.Sections.{Sections}
 use Rattle.gsl_lower_places.specs.Reached.{is_block_class, stored_shape}

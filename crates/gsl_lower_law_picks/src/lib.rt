@@ -3,4 +3,7 @@
 
 mod laws;
 
-pub use laws::{blocks_stray, pointers_serve, reads_out_of_bounds_stray, stores_out_of_bounds_stray, variables_lead};
+pub use laws::{
+    blocks_stray, pointers_serve, reads_out_of_bounds_stray, stores_out_of_bounds_stray,
+    variables_lead,
+};
