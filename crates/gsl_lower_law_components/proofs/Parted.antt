@@ -4,6 +4,7 @@ use Rattle.std.specs.Prelude.{◌==◌}
 use Rattle.std.specs.List.{AllByRecursion, range_with_len}
 use Rattle.std.proofs.lemmas.Bool.{true≢false}
 use Rattle.gsl_base.specs.declared.input.Input.{Input}
+use Rattle.gsl_types.specs.declared.ty.Scalar.{Scalar}
 use Rattle.gsl_words.specs.Words.{word_at}
 use Rattle.gsl_words.specs.declared.module.Module.{Module}
 use Rattle.gsl_values.specs.declared.value.Value.{Value}
@@ -37,11 +38,14 @@ use Rattle.gsl_lower_law_picks.proofs.Outside.{not_one}
 use Rattle.gsl_lower_law_components.specs.Putting.{put_components}
 use Rattle.gsl_lower_law_components.proofs.Puts.{put_in_part}
 
+abbrev scalar_in : Shape → Scalar
+scalar_in shape = shape.0
+
 -- the scalar type in which a shape lies does not look at the count
 stored_first : (class : ℕ) (shape : Shape) (n : ℕ) → (stored_shape class (shape.0, n)).0 ≡ (stored_shape class shape).0
 stored_first class shape n = by (is_block_class class)
   where
-    by : (b : Bool) → (if b then (stored_scalar shape.0, n) else (shape.0, n)).0 ≡ (if b then (stored_scalar shape.0, shape.1) else shape).0
+    by : (b : Bool) → scalar_in (if b then (stored_scalar shape.0, n) else (shape.0, n)) ≡ scalar_in (if b then (stored_scalar shape.0, shape.1) else shape)
     by true = refl
     by false = refl
 
@@ -75,7 +79,7 @@ module _ (m : Module) (input : Input) (whole : Sections) (id class : ℕ) (parts
   several_put positions e within few =
       let all : IsOf (p.shape.0, length positions) w = subst (λ ps. IsOf (p.shape.0, length ps) w) e is_new in
       let lies : IsOf ((stored_shape class p.shape).0, length positions) (converted_value (stored_shape class (p.shape.0, length positions)).0 w) =
-          subst (λ s. IsOf (s, length positions) (converted_value (stored_shape class (p.shape.0, length positions)).0 w)) (stored_first class p.shape (length positions)) (converted_of p.shape.0 (stored_shape class (p.shape.0, length positions)).0 (length positions) w all) in
+      subst (λ s. IsOf (s, length positions) (converted_value (stored_shape class (p.shape.0, length positions)).0 w)) (stored_first class p.shape (length positions)) (converted_of p.shape.0 (stored_shape class (p.shape.0, length positions)).0 (length positions) w all) in
       let long : length (components_in (of_components (words_at m offset pointee bytes))) ≡ p.shape.1 = ap length (words_in (of_components (words_at m offset pointee bytes)) is) ∙ is.count ∙ stored_count class p.shape in
       subst (λ put. Acts m input whole Nothing (record { choices = state.choices; variables = state.variables; buffers = buffers_with m state variable put }) state before (merged_at id class p.shape positions parts value))
       (ap (λ l. put_words offset l bytes) (components_of (map (λ position. new_or_old (components_in (of_components (words_at m offset pointee bytes))) (lying (length positions)) (place_among position positions 0) position) (range_with_len 0 (length (components_in (of_components (words_at m offset pointee bytes)))))))
