@@ -1,7 +1,7 @@
 -- One pointer for what is read and then stored.
 use Rattle.std.proofs.Common.{◌≡◌, refl, sym, ap, ◌∙◌, subst, ℕ, zero, suc, ◌<◌, ◌≤◌, Bool, true, false, if◌then◌else◌, List, [], ◌∷◌, ◌++◌, length, map, set, Option, Some, None, arith}
 use Rattle.std.specs.Prelude.{◌==◌, slice_get, slice_index}
-use Rattle.std.proofs.lemmas.Bool.{eqb-true}
+use Rattle.std.proofs.lemmas.Bool.{eqb-true, true≢false}
 use Rattle.gsl_base.specs.declared.input.Input.{Input}
 use Rattle.gsl_types.specs.declared.ty.Scalar.{Scalar}
 use Rattle.gsl_words.specs.declared.module.Module.{Module}
@@ -43,7 +43,10 @@ use Rattle.gsl_lower_law_places.proofs.Loads.{loaded_computes}
 use Rattle.gsl_lower_law_places.proofs.Outside.{pointer_strays}
 use Rattle.gsl_lower_law_places.proofs.Reading.{component_converted, converted_is, leads_on, numbers_on, one_is, several, some_components, stored_count, stored_one, variables_read, word_converted}
 use Rattle.gsl_lower_law_places.proofs.Stored.{put_acts}
+use Rattle.gsl_lower_law_picks.specs.Outside.{PicksOutside}
 use Rattle.gsl_lower_law_picks.specs.Serving.{IsAt, Serves}
+use Rattle.gsl_lower_law_picks.proofs.Along.{stray_behind, stray_on}
+use Rattle.gsl_lower_law_picks.proofs.Outside.{not_one}
 use Rattle.gsl_lower_law_picks.proofs.Parted.{part_is, part_of}
 
 -- ---- what is picked
@@ -72,7 +75,7 @@ one_picks u (Some j) (p ∷ []) k goes one = ap (λ n. Word (slice_index (compon
     first (n ∷ ns) = n
 
 module _ (m : Module) (input : Input) (whole : Sections) where
-  leads_nowhere : (state : State) (to : Pointer) → LeadsTo m input state to [] to
+  pub leads_nowhere : (state : State) (to : Pointer) → LeadsTo m input state to [] to
   leads_nowhere state to place go = refl
 
   -- ---- the pointer
@@ -198,25 +201,25 @@ module _ (m : Module) (input : Input) (whole : Sections) where
   -- ---- what is pointed to
 
   module _ (id class : ℕ) (parts : List Part) (p : Picked) (by : Option ℕ) (words : List ℕ) (from to : Pointer) (v : Value) (state : State) (before : Sections) (stands : state.ids id ≡ Some (Points from)) (each : NumberEach state.ids parts words) (leads : LeadsTo m input state from words to)
-      (holds : HoldsComponents m input state to v) (is : IsOf (stored_shape class p.shape) v) (picks : Picks state.ids p by) (fits : AreStored by p.positions) (few : length p.positions ≤ p.shape.1) where
-    abbrev Served : Reached → Ids → Type 0
-    Served = Serves m input whole class p by to
-
+      (holds : HoldsComponents m input state to v) (is : IsOf (stored_shape class p.shape) v) (picks : Picks state.ids p by) (fits : AreStored by p.positions) (few : length p.positions ≤ p.shape.1) (Served : Reached → Ids → Type 0)
+      (scalar : (r : Reached) (ids : Ids) → p.shape.1 ≡ 1 → length p.positions ≡ 1 → AreWithin 1 by p.positions → IsAt class to None r ids → Served r ids)
+      (alone : (r : Reached) (ids : Ids) (one : Pointer) (k : ℕ) → 2 ≤ p.shape.1 → k < p.shape.1 → length p.positions ≡ 1 → goes_to by p.positions ≡ k ∷ [] → LeadsTo m input state to (k ∷ []) one → IsAt class one None r ids → Served r ids)
+      (several_at : (r : Reached) (ids : Ids) → 2 ≤ p.shape.1 → IsAt class to (Some p) r ids → p.by ≡ None → by ≡ None → Served r ids) where
     component_pointed : (part : Part) (k : ℕ) → Numbers state.ids part k → 2 ≤ p.shape.1 → k < p.shape.1 → length p.positions ≡ 1 → goes_to by p.positions ≡ k ∷ [] → Does m input whole Served state.choices state before (pointed_to id class (p.shape.0, 1) (parts ++ part ∷ []) None)
     component_pointed part k number many less single goes =
         let counted : length (components_in v) ≡ p.shape.1 = ap length (words_in v is) ∙ is.count ∙ stored_count class p.shape in
         let one = holds.each k (omega (arith, many, counted)) (omega (arith, less, counted)) in
         pointed_does Served id class (p.shape.0, 1) (parts ++ part ∷ []) None (words ++ k ∷ []) from one.0 state before stands (numbers_on state.ids parts (part ∷ []) words (k ∷ []) each (number, tt)) (leads_on m input state from to one.0 words (k ∷ []) leads one.1)
-        (λ r ids keeps at. component_serves class p by to r ids state one.0 k many less single goes one.1 at)
+        (λ r ids keeps at. alone r ids one.0 k many less single goes one.1 at)
 
     -- several components
-    all_pointed : p.by ≡ None → by ≡ None → Does m input whole Served state.choices state before (pointed_to id class p.shape parts (Some p))
-    all_pointed none nothing = pointed_does Served id class p.shape parts (Some p) words from to state before stands each leads (λ r ids keeps at. several_serve class p by to r ids picks fits few at none nothing)
+    all_pointed : 2 ≤ p.shape.1 → p.by ≡ None → by ≡ None → Does m input whole Served state.choices state before (pointed_to id class p.shape parts (Some p))
+    all_pointed many none nothing = pointed_does Served id class p.shape parts (Some p) words from to state before stands each leads (λ r ids keeps at. several_at r ids many at none nothing)
 
     vector_pointed : (positions : List ℕ) → p.positions ≡ positions → p.by ≡ None → by ≡ None → 2 ≤ p.shape.1 → AreWithin p.shape.1 None positions → Does m input whole Served state.choices state before (pointed_at id class parts p positions)
-    vector_pointed [] e none nothing many within = all_pointed none nothing
+    vector_pointed [] e none nothing many within = all_pointed many none nothing
     vector_pointed (position ∷ []) e none nothing many within = component_pointed (Fixed position) position refl many within.0 (ap length e) (ap (λ b. goes_to b p.positions) nothing ∙ e)
-    vector_pointed (position ∷ next ∷ more) e none nothing many within = all_pointed none nothing
+    vector_pointed (position ∷ next ∷ more) e none nothing many within = all_pointed many none nothing
 
     by_pointed : (part : Option Part) (word : Option ℕ) → p.by ≡ part → by ≡ word → Chooses state.ids part word → AreWithin p.shape.1 word p.positions → AreStored word p.positions → 2 ≤ p.shape.1 → Does m input whole Served state.choices state before (pointed_by id class parts p part)
     by_pointed None None e f chooses within fits many = vector_pointed p.positions refl e f many within
@@ -232,12 +235,19 @@ module _ (m : Module) (input : Input) (whole : Sections) where
             let one = eqb-true p.shape.1 1 e in
             let some = picks.some in
             pointed_does Served id class p.shape parts None words from to state before stands each leads
-            (λ r ids keeps at. scalar_serves class p by to r ids one (let single : length p.positions ≡ 1 = omega (arith, few, one, some) in single) (subst (λ n. AreWithin n by p.positions) one picks.within) at)
+            (λ r ids keeps at. scalar r ids one (let single : length p.positions ≡ 1 = omega (arith, few, one, some) in single) (subst (λ n. AreWithin n by p.positions) one picks.within) at)
         by_count false e = by_pointed p.by by refl refl picks.by_word picks.within fits (several p.shape.1 e (some_components p.shape.1 by p.positions picks.some picks.within))
 
-    pub pointed_serves : (shape : Shape) → Does m input whole Served state.choices state before (pointed shape (record { base = base.Variable id class; path = parts; picked = Some p }))
+    pub pointed_gives : (shape : Shape) → Does m input whole Served state.choices state before (pointed shape (record { base = base.Variable id class; path = parts; picked = Some p }))
     unfolding pointed
-    pointed_serves shape = picked_pointed
+    pointed_gives shape = picked_pointed
+
+  pub pointed_serves : (id class : ℕ) (parts : List Part) (p : Picked) (by : Option ℕ) (words : List ℕ) (from to : Pointer) (v : Value) (state : State) (before : Sections) → state.ids id ≡ Some (Points from) → NumberEach state.ids parts words → LeadsTo m input state from words to → HoldsComponents m input state to v
+      → IsOf (stored_shape class p.shape) v → Picks state.ids p by → AreStored by p.positions → length p.positions ≤ p.shape.1 → (shape : Shape) → Does m input whole (Serves m input whole class p by to) state.choices state before (pointed shape (record { base = base.Variable id class; path = parts; picked = Some p }))
+  pointed_serves id class parts p by words from to v state before stands each leads holds is picks fits few =
+      pointed_gives id class parts p by words from to v state before stands each leads holds is picks fits few (Serves m input whole class p by to) (scalar_serves class p by to)
+      (λ r ids one k many less single goes led at. component_serves class p by to r ids state one k many less single goes led at)
+      (λ r ids many at none nothing. several_serve class p by to r ids picks fits few at none nothing)
 
   -- what is not picked
   pub whole_pointed : (id class : ℕ) (shape : Shape) (parts : List Part) (words : List ℕ) (from to : Pointer) (state : State) (before : Sections) → state.ids id ≡ Some (Points from) → NumberEach state.ids parts words → LeadsTo m input state from words to
@@ -245,7 +255,8 @@ module _ (m : Module) (input : Input) (whole : Sections) where
   unfolding pointed
   whole_pointed id class shape parts words from to state before stands each leads = pointed_does (λ r ids. IsAt class to None r ids) id class shape parts None words from to state before stands each leads (λ r ids keeps at. at)
 
-  -- a pointer that an index out of bounds keeps from leading on
+  -- ---- pointers that an index out of bounds keeps from leading on
+
   module _ (id class : ℕ) (parts : List Part) (words : List ℕ) (from : Pointer) (state : State) (before : Sections) (stands : state.ids id ≡ Some (Points from)) (each : NumberEach state.ids parts words) where
     pointed_out : (shape : Shape) (picked : Option Picked) → StraysFrom m input state from words → Strays m input whole state before (pointed_to id class shape parts picked)
     pointed_out shape picked out =
@@ -264,3 +275,51 @@ module _ (m : Module) (input : Input) (whole : Sections) where
 
         at_grows : (at : ℕ) (last : Sections) → Grows last (at_pointer at last)
         at_grows at last = extends_same last
+
+  module _ (id class : ℕ) (parts : List Part) (p : Picked) (words : List ℕ) (from : Pointer) (state : State) (before : Sections) (stands : state.ids id ≡ Some (Points from)) (each : NumberEach state.ids parts words) where
+    longer_out : (shape : Shape) (part : Part) (k : ℕ) → Numbers state.ids part k → StraysFrom m input state from (words ++ k ∷ []) → Strays m input whole state before (pointed_to id class shape (parts ++ part ∷ []) None)
+    longer_out shape part k number out = pointed_out id class (parts ++ part ∷ []) (words ++ k ∷ []) from state before stands (numbers_on state.ids parts (part ∷ []) words (k ∷ []) each (number, tt)) shape None out
+
+    -- a component that is out of bounds
+    component_out : (to : Pointer) (word : ℕ) → LeadsTo m input state from words to → StraysFrom m input state to (word ∷ []) → PicksOutside state.ids p word → Strays m input whole state before (pointed_picked id class parts p)
+    component_out to word leads out picks = by_count (p.shape.1 == 1) (not_one p.shape.1 picks.several)
+      where
+        by_part : (part : Option Part) → Chooses state.ids part (Some word) → Strays m input whole state before (pointed_by id class parts p part)
+        by_part None chooses = absurd chooses
+        by_part (Some part) chooses = longer_out (p.shape.0, 1) part word chooses (stray_behind m input state from to words (word ∷ []) leads out)
+
+        by_count : (b : Bool) → b ≡ false → Strays m input whole state before (if b then pointed_to id class p.shape parts None else pointed_by id class parts p p.by)
+        by_count true e = absurd (true≢false e)
+        by_count false e = by_part p.by picks.by_word
+
+    pub component_pointed_out : (shape : Shape) (to : Pointer) (word : ℕ) → LeadsTo m input state from words to → StraysFrom m input state to (word ∷ []) → PicksOutside state.ids p word → Strays m input whole state before (pointed shape (record { base = base.Variable id class; path = parts; picked = Some p }))
+    unfolding pointed
+    component_pointed_out shape to word leads out picks = component_out to word leads out picks
+
+    -- behind an index out of bounds
+    path_out : (by : Option ℕ) → StraysFrom m input state from words → Chooses state.ids p.by by → Strays m input whole state before (pointed_picked id class parts p)
+    path_out by out chooses = by_count (p.shape.1 == 1)
+      where
+        by_positions : (positions : List ℕ) → Strays m input whole state before (pointed_at id class parts p positions)
+        by_positions [] = pointed_out id class parts words from state before stands each p.shape (Some p) out
+        by_positions (position ∷ []) = longer_out (p.shape.0, 1) (Fixed position) position refl (stray_on m input state from words (position ∷ []) out)
+        by_positions (position ∷ next ∷ positions) = pointed_out id class parts words from state before stands each p.shape (Some p) out
+
+        by_part : (part : Option Part) (by : Option ℕ) → Chooses state.ids part by → Strays m input whole state before (pointed_by id class parts p part)
+        by_part None None chooses = by_positions p.positions
+        by_part None (Some k) chooses = absurd chooses
+        by_part (Some part) None chooses = absurd chooses
+        by_part (Some part) (Some k) chooses = longer_out (p.shape.0, 1) part k chooses (stray_on m input state from words (k ∷ []) out)
+
+        by_count : (b : Bool) → Strays m input whole state before (if b then pointed_to id class p.shape parts None else pointed_by id class parts p p.by)
+        by_count true = pointed_out id class parts words from state before stands each p.shape None out
+        by_count false = by_part p.by by chooses
+
+    pub path_pointed_out : (shape : Shape) (by : Option ℕ) → StraysFrom m input state from words → Chooses state.ids p.by by → Strays m input whole state before (pointed shape (record { base = base.Variable id class; path = parts; picked = Some p }))
+    unfolding pointed
+    path_pointed_out shape by out chooses = path_out by out chooses
+
+  pub whole_pointed_out : (id class : ℕ) (shape : Shape) (parts : List Part) (words : List ℕ) (from : Pointer) (state : State) (before : Sections) → state.ids id ≡ Some (Points from) → NumberEach state.ids parts words → StraysFrom m input state from words
+      → Strays m input whole state before (pointed shape (record { base = base.Variable id class; path = parts; picked = None }))
+  unfolding pointed
+  whole_pointed_out id class shape parts words from state before stands each out = pointed_out id class parts words from state before stands each shape None out

@@ -4,6 +4,6 @@
 mod laws;
 
 pub use laws::{
-    blocks_stray, pointers_serve, reads_out_of_bounds_stray, stores_out_of_bounds_stray,
-    variables_lead,
+    blocks_stray, pointers_out_of_bounds_stray, pointers_serve, reads_out_of_bounds_stray,
+    stores_out_of_bounds_stray, variables_lead,
 };
