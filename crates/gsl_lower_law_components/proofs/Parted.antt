@@ -49,6 +49,22 @@ stored_first class shape n = by (is_block_class class)
     by true = refl
     by false = refl
 
+-- a scalar that is put where a chain leads in a block
+pub alone_put : (m : Module) (input : Input) (whole : Sections) (id class : ℕ) (s : Scalar) (parts : List Part) (words : List ℕ) (from : Pointer) (variable offset k pointee : ℕ) (bytes : List ℕ) (w : Value) (value : ℕ) (state : State) (before : Sections) → state.ids id ≡ Some (Points from) → NumberEach state.ids parts words
+    → LeadsTo m input state from words (InBlock variable (offset + 4 * k) pointee) → bytes_of m input state variable ≡ Some bytes → IsOf (s, 1) w → Stands state.ids value w
+    → Acts m input whole Nothing (record { choices = state.choices; variables = state.variables; buffers = buffers_with m state variable (put_components offset (k ∷ []) (components_in (converted_value (stored_shape class (s, 1)).0 w)) bytes) }) state before (put_at id class (s, 1) parts value)
+alone_put m input whole id class s parts words from variable offset k pointee bytes w value state before stands each leads there single new =
+    subst (λ put. Acts m input whole Nothing (record { choices = state.choices; variables = state.variables; buffers = buffers_with m state variable put }) state before (put_at id class (s, 1) parts value))
+    (put_alone (components_in (converted_value (stored_shape class (s, 1)).0 w)) one_lies)
+    (put_acts m input whole id class (s, 1) parts value words from (InBlock variable (offset + 4 * k) pointee) w state.variables (buffers_with m state variable (put_words (offset + 4 * k) (components_in (converted_value (stored_shape class (s, 1)).0 w)) bytes)) state before stands each leads single new
+    (block_stores m input state variable (offset + 4 * k) pointee bytes there (converted_value (stored_shape class (s, 1)).0 w)))
+  where
+    put_alone : (ws : List ℕ) → length ws ≡ 1 → put_words (offset + 4 * k) ws bytes ≡ put_components offset (k ∷ []) ws bytes
+    put_alone ws long = let x = one_word ws long in ap (λ l. put_words (offset + 4 * k) l bytes) x.1 ∙ ap (λ l. put_components offset (k ∷ []) l bytes) (sym x.1)
+
+    one_lies : length (components_in (converted_value (stored_shape class (s, 1)).0 w)) ≡ 1
+    one_lies = let to = converted_of s (stored_shape class (s, 1)).0 1 w single in ap length (words_in (converted_value (stored_shape class (s, 1)).0 w) to) ∙ to.count
+
 module _ (m : Module) (input : Input) (whole : Sections) (id class : ℕ) (parts : List Part) (p : Picked) (words : List ℕ) (from : Pointer) (variable offset pointee component : ℕ) (bytes : List ℕ) (w : Value) (value : ℕ) (state : State) (before : Sections) (many : 2 ≤ p.shape.1)
     (stands : state.ids id ≡ Some (Points from)) (each : NumberEach state.ids parts words) (leads : LeadsTo m input state from words (InBlock variable offset pointee)) (there : bytes_of m input state variable ≡ Some bytes) (small : AllByRecursion (λ byte. byte < 256) bytes)
     (vector : IsVectorType m pointee component p.shape.1) (is : IsOf (stored_shape class p.shape) (of_components (words_at m offset pointee bytes))) (is_new : IsOf (p.shape.0, length p.positions) w) (new : Stands state.ids value w) where
@@ -60,18 +76,10 @@ module _ (m : Module) (input : Input) (whole : Sections) (id class : ℕ) (parts
   component_put : (part : Part) (k : ℕ) → Numbers state.ids part k → k < p.shape.1 → length p.positions ≡ 1
       → Acts m input whole Nothing (record { choices = state.choices; variables = state.variables; buffers = buffers_with m state variable (put_components offset (k ∷ []) (lying (length p.positions)) bytes) }) state before (put_at id class (p.shape.0, 1) (parts ++ part ∷ []) value)
   component_put part k number less one =
-      let single : IsOf (p.shape.0, 1) w = subst (λ n. IsOf (p.shape.0, n) w) one is_new in
-      subst (λ put. Acts m input whole Nothing (record { choices = state.choices; variables = state.variables; buffers = buffers_with m state variable put }) state before (put_at id class (p.shape.0, 1) (parts ++ part ∷ []) value))
-      (put_alone (lying 1) (one_lies single) ∙ ap (λ n. put_components offset (k ∷ []) (lying n) bytes) (sym one))
-      (put_acts m input whole id class (p.shape.0, 1) (parts ++ part ∷ []) value (words ++ k ∷ []) from (InBlock variable (offset + 4 * k) component) w state.variables (buffers_with m state variable (put_words (offset + 4 * k) (lying 1) bytes)) state before stands
-      (numbers_on state.ids parts (part ∷ []) words (k ∷ []) each (number, tt)) (leads_on m input state from (InBlock variable offset pointee) (InBlock variable (offset + 4 * k) component) words (k ∷ []) leads (component_led m input state variable offset pointee bytes there component p.shape.1 vector k less)) single new
-      (block_stores m input state variable (offset + 4 * k) component bytes there (converted_value (stored_shape class (p.shape.0, 1)).0 w)))
-    where
-      put_alone : (ws : List ℕ) → length ws ≡ 1 → put_words (offset + 4 * k) ws bytes ≡ put_components offset (k ∷ []) ws bytes
-      put_alone ws long = let x = one_word ws long in ap (λ l. put_words (offset + 4 * k) l bytes) x.1 ∙ ap (λ l. put_components offset (k ∷ []) l bytes) (sym x.1)
-
-      one_lies : IsOf (p.shape.0, 1) w → length (lying 1) ≡ 1
-      one_lies single = let to = converted_of p.shape.0 (stored_shape class (p.shape.0, 1)).0 1 w single in ap length (words_in (converted_value (stored_shape class (p.shape.0, 1)).0 w) to) ∙ to.count
+      subst (λ n. Acts m input whole Nothing (record { choices = state.choices; variables = state.variables; buffers = buffers_with m state variable (put_components offset (k ∷ []) (lying n) bytes) }) state before (put_at id class (p.shape.0, 1) (parts ++ part ∷ []) value)) (sym one)
+      (alone_put m input whole id class p.shape.0 (parts ++ part ∷ []) (words ++ k ∷ []) from variable offset k component bytes w value state before stands (numbers_on state.ids parts (part ∷ []) words (k ∷ []) each (number, tt))
+      (leads_on m input state from (InBlock variable offset pointee) (InBlock variable (offset + 4 * k) component) words (k ∷ []) leads (component_led m input state variable offset pointee bytes there component p.shape.1 vector k less)) there
+      (subst (λ n. IsOf (p.shape.0, n) w) one is_new) new)
 
   -- several components
   several_put : (positions : List ℕ) → p.positions ≡ positions → AreWithin p.shape.1 None positions → length positions ≤ p.shape.1

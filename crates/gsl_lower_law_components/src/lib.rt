@@ -3,4 +3,4 @@
 
 mod laws;
 
-pub use laws::blocks_are_stored_in_part;
+pub use laws::{blocks_are_stored_in_part, pointers_put};

@@ -1,5 +1,5 @@
 -- Leaves of types, and the paths of their layouts.
-use Rattle.std.proofs.Common.{◌≡◌, sym, ap, ◌∙◌, subst, ℕ, zero, suc, ◌+◌, ◌*◌, ◌<◌, ◌≤◌, List, [], ◌∷◌, ◌++◌, map, get_or, arith}
+use Rattle.std.proofs.Common.{◌≡◌, refl, sym, ap, ◌∙◌, subst, ℕ, zero, suc, ◌+◌, ◌*◌, ◌<◌, ◌≤◌, List, [], ◌∷◌, ◌++◌, map, get_or, arith}
 use Rattle.std.specs.Prelude.{drop}
 use Rattle.std.specs.List.{AllByRecursion, flat_map, range_with_len}
 use Rattle.gsl_layout.specs.Layout.{Array, Group, Layout, Leaf as Run, Parts, part_at, offset_at}
@@ -15,6 +15,7 @@ use Rattle.gsl_types.specs.declared.ty.Ty.TheOpen.{Ty-F}
 use Rattle.gsl_types.specs.declared.ty.Ty.TheViews.{roll-Ty}
 use Rattle.gsl_views.specs.Paths.{Leads, here, member, element}
 use Rattle.gsl_lower_places.specs.Reading.{number_in}
+use Rattle.gsl_lower_places.specs.declared.reached.Part.TheVariants.{Fixed}
 use Rattle.gsl_lower_leaves.specs.Leaves.{element_leaves, leaves_meaning, leaves_of, member_leaves, within}
 use Rattle.gsl_lower_leaves.specs.declared.leaf.Leaf.{Leaf}
 
@@ -26,9 +27,9 @@ abbrev Measure : Type 0
 Measure = carrier (measuring (λ align. align))
 
 module _ (size : ℕ) where
-  -- The numbers of a leaf lead from a layout at a place.
+  -- The numbers of a leaf are known, and lead from a layout at a place.
   abbrev LeadsTo : Layout → ℕ → Leaf → Type 0
-  LeadsTo l at one = (offset : ℕ) × Leads size l at (map number_in one.path) (Run one.shape.1) offset
+  LeadsTo l at one = (offset : ℕ) × (one.path ≡ map Fixed (map number_in one.path)) × Leads size l at (map number_in one.path) (Run one.shape.1) offset
 
   abbrev EachLeads : Layout → List Leaf → Type 0
   EachLeads l leaves = (at : ℕ) → AllByRecursion (LeadsTo l at) leaves
@@ -38,7 +39,7 @@ module _ (size : ℕ) where
   within_lead : (l inner : Layout) (at to k : ℕ) (leaves : List Leaf) → ((path : List ℕ) (part : Layout) (offset : ℕ) → Leads size inner to path part offset → Leads size l at (k ∷ path) part offset) → AllByRecursion (LeadsTo inner to) leaves
       → AllByRecursion (LeadsTo l at) (map (within k) leaves)
   within_lead l inner at to k [] step all = tt
-  within_lead l inner at to k (one ∷ more) step all = ((all.0.0, step (map number_in one.path) (Run one.shape.1) all.0.0 all.0.1), within_lead l inner at to k more step all.1)
+  within_lead l inner at to k (one ∷ more) step all = ((all.0.0, ap (λ ps. Fixed k ∷ ps) all.0.1, step (map number_in one.path) (Run one.shape.1) all.0.0 all.0.2), within_lead l inner at to k more step all.1)
 
   both_lead : (l : Layout) (at : ℕ) (a b : List Leaf) → AllByRecursion (LeadsTo l at) a → AllByRecursion (LeadsTo l at) b → AllByRecursion (LeadsTo l at) (a ++ b)
   both_lead l at [] b first second = second
@@ -102,8 +103,8 @@ module _ (size : ℕ) where
 
       by_layer : (y : Ty-F ((t : Ty) × TypeLeads t)) → TypeLeads (roll-Ty (map-Ty _ _ (λ e. e.0) y))
       by_layer Ty-F.Void = so Ty-F.Void (λ at. tt)
-      by_layer (Ty-F.One s) = so (Ty-F.One s) (λ at. ((at, here), tt))
-      by_layer (Ty-F.Vector s n) = so (Ty-F.Vector s n) (λ at. ((at, here), tt))
+      by_layer (Ty-F.One s) = so (Ty-F.One s) (λ at. ((at, refl, here), tt))
+      by_layer (Ty-F.Vector s n) = so (Ty-F.Vector s n) (λ at. ((at, refl, here), tt))
       by_layer (Ty-F.Array e n) =
           so (Ty-F.Array e.0 n) (λ at. elements_lead (stride_of raise (over (measuring raise) measures e.0)) n (over (measuring raise) measures e.0).laid (over leaves_meaning leaves e.0) at 0 n e.1 (omega arith))
       by_layer (Ty-F.Runtime e) = so (Ty-F.Runtime e.0) (λ at. tt)
