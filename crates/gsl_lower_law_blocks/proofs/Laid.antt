@@ -148,7 +148,7 @@ module _ (m : Module) where
         ∙ cond-true (nat_lt k (parts_as m size at type s)) (on (part_as m variable at type k s) go) (Strayed place) (lt-ltb k (parts_as m size at type s) less)
         ∙ ap (λ o. on o go) part
 
-    joins : (size : ℕ) (from to one : Pointer) (words ws : List ℕ) → LeadsIn m input variable size from words to → LeadsIn m input variable size to ws one → LeadsIn m input variable size from (words ++ ws) one
+    pub joins : (size : ℕ) (from to one : Pointer) (words ws : List ℕ) → LeadsIn m input variable size from words to → LeadsIn m input variable size to ws one → LeadsIn m input variable size from (words ++ ws) one
     joins size from to one words ws first second state bytes there long = leads_on m input state from to one words ws (first state bytes there long) (second state bytes there long)
 
     element_steps : (e : Layout) (at type stride count k size : ℕ) (lie : LiesAsArray e type stride count) → k < count → LeadsIn m input variable size (InBlock variable at type) (k ∷ []) (InBlock variable (at + stride * k) lie.part)
@@ -217,7 +217,7 @@ module _ (m : Module) where
 
   -- ---- leaves
 
-  sized : (n : ℕ) (o : Option Lanes) → has_size m n o ≡ true → size_of o ≡ n
+  pub sized : (n : ℕ) (o : Option Lanes) → has_size m n o ≡ true → size_of o ≡ n
   sized n None e = absurd (false≢true e)
   sized n (Some lanes) e = eqb-true lanes.size n e
 

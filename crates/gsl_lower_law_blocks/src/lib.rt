@@ -3,4 +3,6 @@
 
 mod laws;
 
-pub use laws::{arrays_are_counted, elements_out_of_bounds_stray, layouts_lead, leaves_are_seen};
+pub use laws::{
+    arrays_are_counted, elements_out_of_bounds_stray, layouts_lead, leaves_are_seen, leaves_lie,
+};
