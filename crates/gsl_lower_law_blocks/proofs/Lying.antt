@@ -26,6 +26,7 @@ use Rattle.gsl_lower_places.specs.declared.reached.Part.TheVariants.{Fixed}
 use Rattle.gsl_lower_leaves.specs.declared.leaf.Leaf.{Leaf}
 use Rattle.gsl_lower_law.specs.Values.{AreWords, IsOf}
 use Rattle.gsl_lower_law_copies.specs.Copying.{AreFixed, LeadsIn, LieEach, Place, ShowEach, numbers_of}
+use Rattle.gsl_lower_law_blocks.specs.Placing.{ArePlaced}
 use Rattle.gsl_lower_law_blocks.proofs.Laid.{joins, paths_lead, sized}
 use Rattle.gsl_lower_law_blocks.proofs.Shown.{parts_shown}
 
@@ -68,22 +69,23 @@ module _ (m : Module) (input : Input) (variable size at type : ℕ) (from : Poin
 
   -- Leaves lie at places, and are seen there through the layout.
   abbrev pub LieSeen : List Leaf → Type 0
-  LieSeen leaves = (places : List Place) × LieEach m input variable size from words leaves places
+  LieSeen leaves = (places : List Place) × LieEach m input variable size from words leaves places × ArePlaced size l at leaves places
       × ((class : ℕ) (bytes : List ℕ) → is_block_class class ≡ true → length bytes ≡ size → AllByRecursion (λ byte. byte < 256) bytes → ShowEach m class bytes (value_of (seen l at bytes)) leaves places)
 
   pub leaves_lie : (leaves : List Leaf) → AllByRecursion IsLaid leaves → LieSeen leaves
-  leaves_lie [] all = ([], tt, λ class bytes block long small. tt)
+  leaves_lie [] all = ([], tt, tt, λ class bytes block long small. tt)
   leaves_lie (one ∷ more) all =
       let later = leaves_lie more all.1 in
       let so = paths_lead m input variable size l (Run one.shape.1) at type all.0.0 (map number_in one.path) lie all.0.2 in (
         record { offset = all.0.0; pointee = so.0 } ∷ later.0,
         (record { fixed = subst AreFixed (sym all.0.1) (fixed_all (map number_in one.path)); leads = joins m input variable size from (InBlock variable at type) (InBlock variable all.0.0 so.0) words (numbers_of one) to so.2 }, later.1),
+        (all.0.2, later.2),
         λ class bytes block long small.
             let value = parts_shown bytes l (Run one.shape.1) at all.0.0 (map number_in one.path) (subst (λ n. Leads n l at (map number_in one.path) (Run one.shape.1) all.0.0) (sym long) all.0.2) in (
               (
                 value ∙ ap (λ n. of_components (map (λ k. word_at bytes (all.0.0 + 4 * k)) (range_with_len 0 n))) (sym (sized m one.shape.1 (lanes_of m so.0) so.1)),
                 subst (IsOf (stored_shape class one.shape)) (sym value) (run_lies class one.shape bytes all.0.0 block small),
               ),
-              later.2 class bytes block long small,
+              later.3 class bytes block long small,
             ),
       )

@@ -3,8 +3,9 @@
 ghost use Rattle.std.specs.Prelude.{◌≡◌, ◌<◌, ◌≤◌, ◌+◌, ◌++◌, ◌∷◌, ℕ, Some, true, length, map, List};
 ghost use Rattle.std.specs.List.{AllByRecursion};
 ghost use Rattle.gsl_base.specs.declared.input.Input.{Input};
-ghost use Rattle.gsl_layout.specs.Layout.{Group, Layout, Leaf as Run, Parts, offset_at, part_at};
+ghost use Rattle.gsl_layout.specs.Layout.{Group, IsLayout, Layout, Leaf as Run, Parts, need, offset_at, part_at};
 ghost use Rattle.gsl_words.specs.declared.module.Module.{Module};
+ghost use Rattle.gsl_values.specs.declared.value.Value.{Value};
 ghost use Rattle.gsl_tree.specs.Operations.{value_at};
 ghost use Rattle.gsl_views.specs.Paths.{Leads};
 ghost use Rattle.gsl_views.specs.Seen.{seen};
@@ -19,8 +20,10 @@ ghost use Rattle.gsl_lower_places.specs.Reached.{is_block_class};
 ghost use Rattle.gsl_lower_places.specs.Reading.{number_in};
 ghost use Rattle.gsl_lower_places.specs.declared.reached.Part.TheVariants.{Fixed};
 ghost use Rattle.gsl_lower_leaves.specs.declared.leaf.Leaf.{Leaf};
+ghost use Rattle.gsl_lower_law_leaves.specs.Equal.{HasLeaves};
 ghost use Rattle.gsl_lower_law_places.specs.Leading.{HoldsValue, StraysFrom};
-ghost use Rattle.gsl_lower_law_copies.specs.Copying.{LeadsIn, LieEach, Place, ShowEach};
+ghost use Rattle.gsl_lower_law_copies.specs.Copying.{LeadsIn, LieEach, Place, ShowEach, put_leaves};
+ghost use Rattle.gsl_lower_law_blocks.specs.Placing.{ArePlaced, with_leaves};
 
 /// Where a type lies by a layout, the words of a path lead to the offset that the layout has for it, with a type that lies by the layout of
 /// that part.
@@ -46,8 +49,13 @@ pub fn arrays_are_counted()
     ensures length { (m : Module) (input : Input) (state : State) (variable at type member all offset : ℕ) (members : Parts) (l : Layout) (bytes : List ℕ) (go : ℕ → Outcome) → lies m (Group members all) type ≡ true → bytes_of m input state variable ≡ Some bytes → part_at members member ≡ Some l → offset_at members member ≡ Some offset → IsArray l → counting m input state (InBlock variable at type) member go ≡ go (elements l (at + offset) (length bytes)) }
 {}
 
-/// Where a type lies by a layout, leaves whose numbers lead in the layout to runs lie at places, and what is seen of them through the layout is
-/// what lies there.
+/// Where a type lies by a layout, leaves whose numbers lead in the layout to runs lie at places, at the offsets of the layout, and what is seen of
+/// them through the layout is what lies there.
 pub fn leaves_lie()
-    ensures { (m : Module) (input : Input) (variable size at type : ℕ) (from : Pointer) (words : List ℕ) (l : Layout) (leaves : List Leaf) → lies m l type ≡ true → LeadsIn m input variable size from words (InBlock variable at type) → AllByRecursion (λ (one : Leaf). (offset : ℕ) × (one.path ≡ map Fixed (map number_in one.path)) × Leads size l at (map number_in one.path) (Run one.shape.1) offset) leaves → (places : List Place) × LieEach m input variable size from words leaves places × ((class : ℕ) (bytes : List ℕ) → is_block_class class ≡ true → length bytes ≡ size → AllByRecursion (λ byte. byte < 256) bytes → ShowEach m class bytes (value_of (seen l at bytes)) leaves places) }
+    ensures { (m : Module) (input : Input) (variable size at type : ℕ) (from : Pointer) (words : List ℕ) (l : Layout) (leaves : List Leaf) → lies m l type ≡ true → LeadsIn m input variable size from words (InBlock variable at type) → AllByRecursion (λ (one : Leaf). (offset : ℕ) × (one.path ≡ map Fixed (map number_in one.path)) × Leads size l at (map number_in one.path) (Run one.shape.1) offset) leaves → (places : List Place) × LieEach m input variable size from words leaves places × ArePlaced size l at leaves places × ((class : ℕ) (bytes : List ℕ) → is_block_class class ≡ true → length bytes ≡ size → AllByRecursion (λ byte. byte < 256) bytes → ShowEach m class bytes (value_of (seen l at bytes)) leaves places) }
+{}
+
+/// Where the leaves of a value were put at places of a layout, what is seen through it is the same with those leaves, as they lie in a class.
+pub fn leaves_put_are_seen()
+    ensures { (class size at : ℕ) (l : Layout) (v : Value) (leaves : List Leaf) (places : List Place) (bytes : List ℕ) → IsLayout l → length bytes ≡ size → at + need l ≤ size → ArePlaced size l at leaves places → HasLeaves v leaves → value_of (seen l at (put_leaves class v leaves places bytes)) ≡ with_leaves class (value_of (seen l at bytes)) v leaves }
 {}

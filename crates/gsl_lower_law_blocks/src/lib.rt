@@ -5,4 +5,5 @@ mod laws;
 
 pub use laws::{
     arrays_are_counted, elements_out_of_bounds_stray, layouts_lead, leaves_are_seen, leaves_lie,
+    leaves_put_are_seen,
 };
