@@ -31,14 +31,14 @@ each_more (t ∷ tests) (l ∷ all) test leaves agree more = (agree.0, each_more
 
 -- ---- members
 
-members_rows : (number : ℕ) (members : List (List ℕ × List Leaf)) → member_leaves number members ≡ rows number (map (λ (member : List ℕ × List Leaf). member.1) members)
+pub members_rows : (number : ℕ) (members : List (List ℕ × List Leaf)) → member_leaves number members ≡ rows number (map (λ (member : List ℕ × List Leaf). member.1) members)
 members_rows number [] = refl
 members_rows number (member ∷ members) = ap (λ l. map (within number) member.1 ++ l) (members_rows (number + 1) members)
 
 -- A type is well formed over so many structs.
-record Sized (t : Ty) : Type 0 where
-  count : ℕ
-  is : IsSound count t
+pub record Sized (t : Ty) : Type 0 where
+  pub count : ℕ
+  pub is : IsSound count t
 
 module _ (values : ℕ → Value → Bool) (leaves : ℕ → List Leaf) (known : (number : ℕ) → Agree (values number) (leaves number)) where
   members_agree : (members : List Member) → AllByRecursion (λ (member : Member). Sized member.ty) members
@@ -61,11 +61,11 @@ table_agrees (struct ∷ structs) tests all sized agree =
     (each_more tests all (struct_over value_meaning (λ number. get_or tests number (λ v. false)) struct) (struct_over leaves_meaning (λ number. get_or all number []) struct) agree
     (struct_agrees (λ number. get_or tests number (λ v. false)) (λ number. get_or all number []) (each_at tests all agree) struct sized.0))
 
-all_from : (P : StructType → Type 0) (structs : List StructType) → ((number : ℕ) (struct : StructType) → slice_get structs number ≡ Some struct → P struct) → AllByRecursion P structs
+pub all_from : (P : StructType → Type 0) (structs : List StructType) → ((number : ℕ) (struct : StructType) → slice_get structs number ≡ Some struct → P struct) → AllByRecursion P structs
 all_from P [] each = tt
 all_from P (struct ∷ structs) each = (each 0 struct refl, all_from P structs (λ number other is. each (suc number) other is))
 
-members_sized : (number : ℕ) (members : List Member) → AllByRecursion (λ (member : Member). IsSound number member.ty) members → AllByRecursion (λ (member : Member). Sized member.ty) members
+pub members_sized : (number : ℕ) (members : List Member) → AllByRecursion (λ (member : Member). IsSound number member.ty) members → AllByRecursion (λ (member : Member). Sized member.ty) members
 members_sized number [] all = tt
 members_sized number (member ∷ members) all = (record { count = number; is = all.0 }, members_sized number members all.1)
 

@@ -67,7 +67,7 @@ AgreeEach (test ∷ tests) [] = ⊥
 AgreeEach (test ∷ tests) (leaves ∷ more) = Agree test leaves × AgreeEach tests more
 
 -- the part behind those in front
-part_is : (v : Value) (front : List Value) (x : Value) (xs : List Value) (number : ℕ) → v ≡ Many (front ++ x ∷ xs) → length front ≡ number → member_value v number ≡ x
+pub part_is : (v : Value) (front : List Value) (x : Value) (xs : List Value) (number : ℕ) → v ≡ Many (front ++ x ∷ xs) → length front ≡ number → member_value v number ≡ x
 part_is v front x xs number is long = ap (λ u. member_value u number) is ∙ member_of_many (front ++ x ∷ xs) number ∙ get_or_at front x xs (Word 0) number long
 
 rows_agree : (tests : List (Value → Bool)) (all : List (List Leaf)) → AgreeEach tests all → (v w : Value) (front back xs ys : List Value) (number : ℕ) → v ≡ Many (front ++ xs) → w ≡ Many (back ++ ys) → length front ≡ number → length back ≡ number
@@ -94,24 +94,24 @@ rows_agree (test ∷ tests) (leaves ∷ all) agree v w front back (x ∷ xs) (y 
 
 -- ---- values by what they pass
 
-record IsMany (tests : List (Value → Bool)) (v : Value) : Type 0 where
-  parts : List Value
-  is : v ≡ Many parts
-  pass : all_pass tests parts ≡ true
+pub record IsMany (tests : List (Value → Bool)) (v : Value) : Type 0 where
+  pub parts : List Value
+  pub is : v ≡ Many parts
+  pub pass : all_pass tests parts ≡ true
 
-many_from : (tests : List (Value → Bool)) (v : Value) → has_parts tests v ≡ true → IsMany tests v
+pub many_from : (tests : List (Value → Bool)) (v : Value) → has_parts tests v ≡ true → IsMany tests v
 many_from tests v = by (out-Value v) (roll-out-Value v)
   where
     by : (l : Value-F Value) → roll-Value l ≡ v → has_parts_layer tests l ≡ true → IsMany tests v
     by (Value-F.Word word) e pass = absurd (false≢true pass)
     by (Value-F.Many parts) e pass = record { parts = parts; is = sym e ∙ rolls-Many parts; pass = pass }
 
-record IsWord (s : Scalar) (v : Value) : Type 0 where
-  word : ℕ
-  is : v ≡ Word word
-  fits : is_word_of s word ≡ true
+pub record IsWord (s : Scalar) (v : Value) : Type 0 where
+  pub word : ℕ
+  pub is : v ≡ Word word
+  pub fits : is_word_of s word ≡ true
 
-word_from : (s : Scalar) (v : Value) → is_scalar s v ≡ true → IsWord s v
+pub word_from : (s : Scalar) (v : Value) → is_scalar s v ≡ true → IsWord s v
 word_from s v = by (out-Value v) (roll-out-Value v)
   where
     by : (l : Value-F Value) → roll-Value l ≡ v → is_scalar_layer s l ≡ true → IsWord s v
@@ -132,13 +132,13 @@ one_agrees s v w pass_v pass_w =
     let x = word_from s v pass_v in
     (((omega arith, record { words = x.word ∷ []; is = x.is; count = refl; fits = (x.fits, tt) }), tt), last_true (same_value v w))
 
-record AreOf (s : Scalar) (n : ℕ) (parts : List Value) : Type 0 where
-  words : List ℕ
-  is : parts ≡ map Word words
-  count : length words ≡ n
-  fits : AreWords s words
+pub record AreOf (s : Scalar) (n : ℕ) (parts : List Value) : Type 0 where
+  pub words : List ℕ
+  pub is : parts ≡ map Word words
+  pub count : length words ≡ n
+  pub fits : AreWords s words
 
-words_from : (s : Scalar) (n : ℕ) (parts : List Value) → all_pass (replicate n (is_scalar s)) parts ≡ true → AreOf s n parts
+pub words_from : (s : Scalar) (n : ℕ) (parts : List Value) → all_pass (replicate n (is_scalar s)) parts ≡ true → AreOf s n parts
 words_from s zero [] pass = record { words = []; is = refl; count = refl; fits = tt }
 words_from s zero (x ∷ parts) pass = absurd (false≢true pass)
 words_from s (suc n) [] pass = absurd (false≢true pass)
@@ -161,7 +161,7 @@ vector_agrees s n many v w pass_v pass_w =
 
 -- ---- arrays
 
-elements_are : (element : List Leaf) (a n : ℕ) → flat_map (element_leaves element) (range_with_len a n) ≡ rows a (replicate n element)
+pub elements_are : (element : List Leaf) (a n : ℕ) → flat_map (element_leaves element) (range_with_len a n) ≡ rows a (replicate n element)
 elements_are element a zero = refl
 elements_are element a (suc n) = ap (λ l. map (within a) element ++ l) (elements_are element (a + 1) n)
 

@@ -37,7 +37,7 @@ module _ (m : Module) (input : Input) (state : State) (variable offset pointee :
     counted : length (components_in (of_components (words_at m offset pointee bytes))) ≡ count
     counted = ap length all_words ∙ mapped (λ k. word_at bytes (offset + 4 * k)) (range_with_len 0 count) ∙ length-range_with_len 0 count
 
-    component_led : (k : ℕ) → k < count → LeadsTo m input state (InBlock variable offset pointee) (k ∷ []) (InBlock variable (offset + 4 * k) component)
+    pub component_led : (k : ℕ) → k < count → LeadsTo m input state (InBlock variable offset pointee) (k ∷ []) (InBlock variable (offset + 4 * k) component)
     component_led k less place go =
         ap (λ o. on o (into_block m input place variable offset pointee k go)) there
         ∙ ap (λ s. if nat_lt k (parts_as m (length bytes) offset pointee s) then on (part_as m variable offset pointee k s) go else Strayed place) vector.is

@@ -39,7 +39,7 @@ use Rattle.gsl_lower_law_places.proofs.Variables.{component_led, parts_are, vari
 
 -- ---- values that lie as they are
 
-as_it_lies : (class : ℕ) (shape : Shape) → is_block_class class ≡ false → stored_shape class shape ≡ shape
+pub as_it_lies : (class : ℕ) (shape : Shape) → is_block_class class ≡ false → stored_shape class shape ≡ shape
 as_it_lies class shape e = ap (λ b. if b then (stored_scalar shape.0, shape.1) else shape) e
 
 words_same : (s : Scalar) (ws : List ℕ) → AreWords s ws → map (converted_word s) ws ≡ ws
@@ -54,13 +54,13 @@ value_same : (shape : Shape) (v : Value) → IsOf shape v → converted_value sh
 value_same shape v is = ap (λ ws. of_components (map (converted_word shape.0) ws)) (words_in v is) ∙ ap of_components (words_same shape.0 is.words is.fits) ∙ sym is.is
 
 -- a value of a shape lies in such a class as it is
-lies_same : (class : ℕ) (shape : Shape) (v : Value) → is_block_class class ≡ false → IsOf shape v → converted_value (stored_shape class shape).0 v ≡ v
+pub lies_same : (class : ℕ) (shape : Shape) (v : Value) → is_block_class class ≡ false → IsOf shape v → converted_value (stored_shape class shape).0 v ≡ v
 lies_same class shape v e is = ap (λ (s : Shape). converted_value s.0 v) (as_it_lies class shape e) ∙ value_same shape v is
 
 -- ---- one component
 
 -- a component that is put, and its vector that is
-put_on : (v : Value) (path : List ℕ) (k : ℕ) (w : Value) → with_value_at v (path ++ k ∷ []) w ≡ with_value_at v path (Many (set (parts_in (value_at v path)) k w))
+pub put_on : (v : Value) (path : List ℕ) (k : ℕ) (w : Value) → with_value_at v (path ++ k ∷ []) w ≡ with_value_at v path (Many (set (parts_in (value_at v path)) k w))
 put_on v [] k w = refl
 put_on v (number ∷ path) k w = ap (λ part. Many (set (parts_in v) number part)) (put_on (member_value v number) path k w)
 
@@ -82,7 +82,7 @@ one_new ws k x less = ext_get_or 0 (map at (range_with_len 0 (length ws))) (set 
     here i true e = ap (λ c. new_or_old ws (x ∷ []) (if c then Some 0 else None) i) e ∙ sym (ap (λ j. get_or (set ws k x) j 0) (sym (eqb-true k i e)) ∙ get_or-set_same ws k x 0 less)
     here i false e = ap (λ c. new_or_old ws (x ∷ []) (if c then Some 0 else None) i) e ∙ sym (get_or-set_other ws k i x 0 (λ same. true≢false (sym (eq-eqb k i (sym same)) ∙ e)))
 
-component_new : (shape : Shape) (v w : Value) (k : ℕ) → IsOf shape v → IsOf (shape.0, 1) w → 2 ≤ shape.1 → k < shape.1 → Many (set (parts_in v) k w) ≡ replaced_value v (k ∷ []) w
+pub component_new : (shape : Shape) (v w : Value) (k : ℕ) → IsOf shape v → IsOf (shape.0, 1) w → 2 ≤ shape.1 → k < shape.1 → Many (set (parts_in v) k w) ≡ replaced_value v (k ∷ []) w
 component_new shape v w k is is_new many less =
     let one = one_word is_new.words is_new.count in
     let new : w ≡ Word one.0 = is_new.is ∙ ap of_components one.1 in
@@ -99,14 +99,14 @@ component_new shape v w k is is_new many less =
     many_of (w ∷ next ∷ ws) many = refl
 
 -- a scalar is its one component
-scalar_new : (shape : Shape) (v w : Value) → IsOf shape v → shape.1 ≡ 1 → IsOf (shape.0, 1) w → w ≡ replaced_value v (0 ∷ []) w
+pub scalar_new : (shape : Shape) (v w : Value) → IsOf shape v → shape.1 ≡ 1 → IsOf (shape.0, 1) w → w ≡ replaced_value v (0 ∷ []) w
 scalar_new shape v w is one is_new =
     let old = one_word is.words (is.count ∙ one) in
     let new = one_word is_new.words is_new.count in
     is_new.is ∙ ap of_components new.1
     ∙ ap₂ (λ ws xs. of_components (map (λ position. new_or_old ws xs (place_among position (0 ∷ []) 0) position) (range_with_len 0 (length ws)))) (sym (words_in v is ∙ old.1)) (sym (words_in w is_new ∙ new.1))
 
-one_position : (by : Option ℕ) (positions : List ℕ) → length positions ≡ 1 → AreWithin 1 by positions → goes_to by positions ≡ 0 ∷ []
+pub one_position : (by : Option ℕ) (positions : List ℕ) → length positions ≡ 1 → AreWithin 1 by positions → goes_to by positions ≡ 0 ∷ []
 one_position None [] one within = absurd (let z : 0 ≡ 1 = one in omega (arith, z))
 one_position None (zero ∷ []) one within = refl
 one_position None (suc k ∷ positions) one within = absurd (let less : suc k < 1 = within.0 in omega (arith, less))

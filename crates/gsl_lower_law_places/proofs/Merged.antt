@@ -55,7 +55,7 @@ module _ (m : Module) (input : Input) (whole : Sections) where
       by true = (given_does m input whole (λ id ids. Unit {0}) a.id state before tt).grows
       by false = typed_grows m input whole (a.shape.0, count) op.VECTOR_SHUFFLE (a.id ∷ a.id ∷ widened count a.shape.1) state before
 
-  replaced_grows : (a : Operand) (positions : List ℕ) (new : ℕ) (state : State) (before : Sections) → Grows before (replaced a positions new before)
+  pub replaced_grows : (a : Operand) (positions : List ℕ) (new : ℕ) (state : State) (before : Sections) → Grows before (replaced a positions new before)
   unfolding replaced
   replaced_grows a positions new state before =
       grows_then m input whole before (wide a.shape.1 (operand (a.shape.0, length positions) new) before) (λ id. type_of a.shape >>= giving op.VECTOR_SHUFFLE (a.id ∷ id ∷ sources a.shape.1 positions)) (wide_grows a.shape.1 (operand (a.shape.0, length positions) new) state before)

@@ -52,7 +52,7 @@ numbers_on ids (part ∷ parts) more [] ws first second = absurd first
 numbers_on ids (part ∷ parts) more (word ∷ words) ws first second = (first.0, numbers_on ids parts more words ws first.1 second)
 
 module _ (m : Module) (input : Input) (state : State) where
-  through_on : (place : ℕ) (from : Pointer) (words ws : List ℕ) (go : Pointer → Outcome) → through m input place state from (words ++ ws) go ≡ through m input place state from words (λ to. through m input place state to ws go)
+  pub through_on : (place : ℕ) (from : Pointer) (words ws : List ℕ) (go : Pointer → Outcome) → through m input place state from (words ++ ws) go ≡ through m input place state from words (λ to. through m input place state to ws go)
   through_on place from [] ws go = refl
   through_on place from (word ∷ words) ws go = ap (into m input place state from word) (λ i to. through_on place to words ws go i)
 
@@ -61,14 +61,14 @@ module _ (m : Module) (input : Input) (state : State) where
 
 -- ---- shapes
 
-stored_one : (class : ℕ) (shape : Shape) → stored_shape class (shape.0, 1) ≡ ((stored_shape class shape).0, 1)
+pub stored_one : (class : ℕ) (shape : Shape) → stored_shape class (shape.0, 1) ≡ ((stored_shape class shape).0, 1)
 stored_one class shape = by (is_block_class class)
   where
     by : (b : Bool) → ◌≡◌ {A = Shape} (if b then (stored_scalar shape.0, 1) else (shape.0, 1)) ((if b then (stored_scalar shape.0, shape.1) else shape).0, 1)
     by true = refl
     by false = refl
 
-stored_count : (class : ℕ) (shape : Shape) → (stored_shape class shape).1 ≡ shape.1
+pub stored_count : (class : ℕ) (shape : Shape) → (stored_shape class shape).1 ≡ shape.1
 stored_count class shape = by (is_block_class class)
   where
     by : (b : Bool) → (if b then (stored_scalar shape.0, shape.1) else shape).1 ≡ shape.1
@@ -98,7 +98,7 @@ mapped_length f [] = refl
 mapped_length f (w ∷ ws) = ap suc (mapped_length f ws)
 
 -- what was read and converted is of the shape
-converted_is : (class : ℕ) (shape : Shape) (v : Value) → IsOf (stored_shape class shape) v → IsOf shape (converted_value shape.0 v)
+pub converted_is : (class : ℕ) (shape : Shape) (v : Value) → IsOf (stored_shape class shape) v → IsOf shape (converted_value shape.0 v)
 converted_is class shape v is = record {
   words = map (converted_word shape.0) (components_in v);
   is = refl;
@@ -111,7 +111,7 @@ word_at_fits s [] k fits less = absurd (let z : k < 0 = less in omega (arith, z)
 word_at_fits s (w ∷ ws) zero fits less = fits.0
 word_at_fits s (w ∷ ws) (suc k) fits less = word_at_fits s ws k fits.1 (let z : suc k < suc (length ws) = less in omega (arith, z))
 
-one_is : (shape : Shape) (v : Value) (k : ℕ) → IsOf shape v → k < shape.1 → IsOf (shape.0, 1) (Word (slice_index (components_in v) k))
+pub one_is : (shape : Shape) (v : Value) (k : ℕ) → IsOf shape v → k < shape.1 → IsOf (shape.0, 1) (Word (slice_index (components_in v) k))
 one_is shape v k is less = record {
   words = slice_index (components_in v) k ∷ [];
   is = refl;
@@ -127,15 +127,15 @@ zero_converted Int = refl
 zero_converted Uint = refl
 
 -- a component of a converted value is the component, converted
-component_converted : (s : Scalar) (v : Value) (k : ℕ) → slice_index (components_in (converted_value s v)) k ≡ converted_word s (slice_index (components_in v) k)
+pub component_converted : (s : Scalar) (v : Value) (k : ℕ) → slice_index (components_in (converted_value s v)) k ≡ converted_word s (slice_index (components_in v) k)
 component_converted s v k =
     ap (λ ws. slice_index ws k) (converted_words s v) ∙ ap (get_or (map (converted_word s) (components_in v)) k) (sym (zero_converted s)) ∙ get_or-map (converted_word s) (components_in v) k 0
 
-word_converted : (s : Scalar) (w : ℕ) → converted_value s (Word w) ≡ Word (converted_word s w)
+pub word_converted : (s : Scalar) (w : ℕ) → converted_value s (Word w) ≡ Word (converted_word s w)
 word_converted s w = ap (λ ws. of_components (map (converted_word s) ws)) (components_of (w ∷ []))
 
 -- of a scalar each position picks the one component
-scalar_picked : (ws : List ℕ) (by : Option ℕ) (positions : List ℕ) → AreWithin 1 by positions → map (slice_index ws) positions ≡ map (λ position. slice_index ws (chosen by position)) positions
+pub scalar_picked : (ws : List ℕ) (by : Option ℕ) (positions : List ℕ) → AreWithin 1 by positions → map (slice_index ws) positions ≡ map (λ position. slice_index ws (chosen by position)) positions
 scalar_picked ws None positions within = refl
 scalar_picked ws (Some zero) positions within = first positions within.1
   where
@@ -150,7 +150,7 @@ within_one None positions within = within
 within_one (Some word) positions within = within.1
 
 -- a word picks one component, as often as there are positions
-by_one : (v : Value) (k : ℕ) (positions : List ℕ) → AreBelow 1 positions → picked_value (Word (slice_index (components_in v) k)) positions ≡ picks_of v (Some k) positions
+pub by_one : (v : Value) (k : ℕ) (positions : List ℕ) → AreBelow 1 positions → picked_value (Word (slice_index (components_in v) k)) positions ≡ picks_of v (Some k) positions
 by_one v k positions below = ap (λ ws. of_components (map (slice_index ws) positions)) (components_of (slice_index (components_in v) k ∷ [])) ∙ ap of_components (one_picked (slice_index (components_in v) k) positions below)
 
 pub several : (n : ℕ) → (n == 1) ≡ false → 1 ≤ n → 2 ≤ n
@@ -252,7 +252,7 @@ module _ (m : Module) (input : Input) (whole : Sections) where
           ∙ ap (picking at (record state { rest = rest }) id w) (ap (λ l. slice_get l k) (vector_parts many) ∙ part_at is.words k (omega (arith, less, is.count)) ∙ ap (λ ws. Some (Word (slice_index ws k))) (sym (words_in w is)));
     }
 
-    dynamic_grows : (vector at_id : ℕ) (state : State) (before : Sections) → 1 ≤ length p.positions → AreBelow 1 p.positions → Grows before ((type_of (p.shape.0, 1) >>= (λ type. giving op.VECTOR_EXTRACT_DYNAMIC (vector ∷ at_id ∷ []) type >>= (λ v. picked (operand (p.shape.0, 1) v) p.positions))) before)
+    pub dynamic_grows : (vector at_id : ℕ) (state : State) (before : Sections) → 1 ≤ length p.positions → AreBelow 1 p.positions → Grows before ((type_of (p.shape.0, 1) >>= (λ type. giving op.VECTOR_EXTRACT_DYNAMIC (vector ∷ at_id ∷ []) type >>= (λ v. picked (operand (p.shape.0, 1) v) p.positions))) before)
     dynamic_grows vector at_id state before some below =
         grows_then m input whole before (type_of (p.shape.0, 1) before) (λ type. giving op.VECTOR_EXTRACT_DYNAMIC (vector ∷ at_id ∷ []) type >>= (λ v. picked (operand (p.shape.0, 1) v) p.positions)) (type_does m input whole (p.shape.0, 1) state before).grows
         (λ type between. grows_then m input whole between (giving op.VECTOR_EXTRACT_DYNAMIC (vector ∷ at_id ∷ []) type between) (λ v. picked (operand (p.shape.0, 1) v) p.positions) (giving_grows m input whole op.VECTOR_EXTRACT_DYNAMIC (vector ∷ at_id ∷ []) type between)
@@ -305,7 +305,7 @@ module _ (m : Module) (input : Input) (whole : Sections) where
     by_read_value (Some part) None vector state before stands chooses many some within = absurd chooses
     by_read_value (Some part) (Some k) vector state before stands chooses many some within = component_read vector part k state before stands chooses many within.0 some within.1
 
-  still_chooses : (a b : Ids) → Keeps a b → (part : Option Part) (by : Option ℕ) → Chooses a part by → Chooses b part by
+  pub still_chooses : (a b : Ids) → Keeps a b → (part : Option Part) (by : Option ℕ) → Chooses a part by → Chooses b part by
   still_chooses a b keeps None None chooses = tt
   still_chooses a b keeps None (Some k) chooses = chooses
   still_chooses a b keeps (Some part) None chooses = chooses

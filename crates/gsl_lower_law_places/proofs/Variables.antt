@@ -17,7 +17,7 @@ use Rattle.gsl_lower_law_places.specs.Components.{HoldsComponents}
 use Rattle.gsl_lower_law_places.specs.Leading.{HoldsValue, LeadsTo}
 
 -- one path behind another
-value_on : (v : Value) (path more : List ℕ) → value_at v (path ++ more) ≡ value_at (value_at v path) more
+pub value_on : (v : Value) (path more : List ℕ) → value_at v (path ++ more) ≡ value_at (value_at v path) more
 value_on v [] more = refl
 value_on v (number ∷ path) more = value_on (member_value v number) path more
 

@@ -1,0 +1,4 @@
+pub mod Lists
+pub mod Copied
+pub mod Told
+pub mod ToldStructs

@@ -1,0 +1,5 @@
+pub mod Along
+pub mod Outside
+pub mod Unstored
+pub mod Parted
+pub mod Pointed
