@@ -1,5 +1,5 @@
 -- A function's whole code, and functions one after the other.
-use Rattle.std.specs.Prelude.{◌≡◌, ℕ, true, List, [], ◌∷◌, ◌++◌, Some, filter_map}
+use Rattle.std.specs.Prelude.{◌≡◌, ℕ, true, List, [], ◌∷◌, ◌++◌, Some, option_to_list}
 use Rattle.std.specs.List.{AllByRecursion, list_all}
 use Rattle.gsl_words.specs.declared.module.Instr.{Instr}
 use Rattle.gsl_words.specs.declared.module.Module.{Module}
@@ -15,7 +15,8 @@ use Rattle.gsl_fitting.specs.Fits.{Fits, In}
 
 -- the ids that some code defines
 abbrev pub ids_of : Code → List ℕ
-ids_of code = filter_map (λ i. result (read i)) code
+ids_of [] = []
+ids_of (i ∷ code) = option_to_list (result (read i)) ++ ids_of code
 
 -- These instructions are parameters of these types.
 pub data AreParameters (m : Module) : List ℕ → Code → Type 0 where

@@ -1,3 +1,9 @@
 pub mod Roles
 pub mod Ordered
 pub mod Structured
+pub mod Fronts
+pub mod Places
+pub mod Walk
+pub mod Typed
+pub mod Shape
+pub mod Near
