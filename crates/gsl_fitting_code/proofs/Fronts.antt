@@ -1,14 +1,12 @@
 -- What stands outside the functions of a module.
-use Rattle.std.proofs.Common.{◌≡◌, ℕ, ◌+◌, Bool, true, false, cond, not, ◌||◌, List, [], ◌∷◌, ◌++◌, length, drop, Option, Some, None, refl, sym, ap, ◌∙◌, subst, ◌⊎◌, inl, inr}
-use Rattle.std.specs.Prelude.{zero, suc, ◌==◌}
+use Rattle.std.proofs.Common.{◌≡◌, ℕ, Bool, true, false, cond, ◌||◌, [], ◌∷◌, ◌++◌, drop, Option, Some, None, refl, sym, ap, ◌∙◌, inr}
+use Rattle.std.specs.Prelude.{zero, suc}
 use Rattle.std.specs.List.{AllByRecursion}
-use Rattle.std.proofs.lemmas.Bool.{cases_Bool, cond-true, cond-false, or_left, or_right, true≢false, not-true}
+use Rattle.std.proofs.lemmas.Bool.{cond-true, cond-false, or_left, or_right, true≢false, not-true}
 use Rattle.gsl_words.specs.declared.module.Instr.{Instr}
 use Rattle.gsl_words.specs.declared.module.Module.{Module}
-use Rattle.gsl_instr.specs.declared.enumerant.storage_class.TheConstants as storage_class
 use Rattle.gsl_instr.specs.declared.instruction.Instruction.{Instruction}
-use Rattle.gsl_instr.specs.declared.instruction.Instruction.TheVariants as instruction
-use Rattle.gsl_valid.specs.Ids.{defined, definition, defines, is_id, result}
+use Rattle.gsl_valid.specs.Ids.{defined, definition, defines}
 use Rattle.gsl_valid.specs.Instruction.{read}
 use Rattle.gsl_valid.specs.Kinds as kinds
 use Rattle.gsl_valid.specs.Kinds.{Kind, kind}
@@ -19,7 +17,7 @@ use Rattle.gsl_valid.specs.Search.{passed}
 use Rattle.gsl_valid.specs.Types.{before_functions, begins, defined_as, function_begins, outside_of}
 use Rattle.gsl_valid.proofs.Lookups.{Has, defined_behind}
 use Rattle.gsl_fitting.specs.Fits as fits
-use Rattle.gsl_fitting.specs.Functions.{AreFunctions, IsFunction}
+use Rattle.gsl_fitting.specs.Functions.{AreFunctions}
 use Rattle.gsl_fitting_code.specs.Kept.{Stands, is_outer}
 
 -- Lists of instructions -----------------------------------------------------------------------------------------------
@@ -85,7 +83,7 @@ drop_more (suc n) (j ∷ code) = drop_more n code
 
 -- Outside functions ----------------------------------------------------------------------------------------------------
 
-outer_no_function : (k : Kind) → is_outer k ≡ true → begins k ≡ false
+pub outer_no_function : (k : Kind) → is_outer k ≡ true → begins k ≡ false
 outer_no_function (kinds.Begins type id function_type) h = absurd (true≢false (sym h))
 outer_no_function _ h = refl
 

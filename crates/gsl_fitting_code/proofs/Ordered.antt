@@ -1,18 +1,17 @@
 -- The blocks of code that fits are the runs that are due, and their constructs do not nest too deeply.
-use Rattle.std.proofs.Common.{◌≡◌, ℕ, ◌+◌, ◌<◌, ◌≤◌, max, Bool, true, false, cond, ◌==◌, List, [], ◌∷◌, ◌++◌, Option, Some, None, refl, sym, ap, ◌∙◌, subst, append_assoc, arith}
+use Rattle.std.proofs.Common.{◌≡◌, ℕ, ◌+◌, ◌<◌, ◌≤◌, max, Bool, true, false, cond, List, [], ◌∷◌, ◌++◌, Option, Some, None, refl, sym, ap, ◌∙◌, subst, append_assoc, arith}
 use Rattle.std.specs.List.{AllByRecursion}
 use Rattle.gsl_words.specs.declared.module.Instr.{Instr}
 use Rattle.gsl_words.specs.declared.module.Module.{Module}
 use Rattle.gsl_blocks.specs.declared.around.Around.{Around}
 use Rattle.gsl_blocks.specs.declared.around.Due.{Due}
 use Rattle.gsl_blocks.specs.declared.block.Block.{Block}
-use Rattle.gsl_blocks.specs.declared.block.End.{End}
 use Rattle.gsl_blocks.specs.declared.block.End.TheVariants.{Branch, Conditional, Switch, Leave}
 use Rattle.gsl_blocks.specs.declared.block.Merge.{Merge}
 use Rattle.gsl_blocks.specs.declared.block.Merge.TheVariants.{Nothing, Selection, Loop}
 use Rattle.gsl_blocks.specs.declared.block.Role.{Role}
 use Rattle.gsl_blocks.specs.declared.block.Role.TheVariants.{Opens, Merges, Ends, Inside}
-use Rattle.gsl_blocks.specs.Around.{needs_run, in_arm, in_case, may_turn}
+use Rattle.gsl_blocks.specs.Around.{needs_run, in_arm}
 use Rattle.gsl_blocks.specs.Blocks.{blocks_from, role_at, with_role}
 use Rattle.gsl_blocks.specs.Order as order
 use Rattle.gsl_blocks.specs.Order.{AreRuns, IsRun, block, run, arm, cases, first_or, may_fork, parts_of_loop}
@@ -21,7 +20,7 @@ use Rattle.gsl_blocks.proofs.Onto.{asks_onto, cases_onto, onto}
 use Rattle.gsl_valid.specs.Instruction.{read}
 use Rattle.gsl_valid.specs.LimitRules.{most_constructs}
 use Rattle.gsl_valid.specs.Placed.{Code}
-use Rattle.gsl_fitting.specs.Fits.{At, Behind, Fits, Frame, In, Sits}
+use Rattle.gsl_fitting.specs.Fits.{At, Behind, Fits, Frame, In}
 use Rattle.gsl_fitting_code.proofs.Roles.{works_inside}
 
 -- Depth -------------------------------------------------------------------------------------------------------------

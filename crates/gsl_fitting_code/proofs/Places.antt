@@ -1,8 +1,7 @@
 -- Where the instructions of a function stand, and what they do there.
-use Rattle.std.proofs.Common.{◌≡◌, ℕ, Bool, true, false, cond, ◌||◌, List, [], ◌∷◌, ◌++◌, drop, length, Option, Some, None, refl, sym, ap, ◌∙◌, subst, ◌⊎◌, inl, inr}
+use Rattle.std.proofs.Common.{◌≡◌, ℕ, Bool, true, false, ◌||◌, List, [], ◌∷◌, ◌++◌, drop, length, Option, Some, None, refl, sym, ap, ◌∙◌, subst, ◌⊎◌}
 use Rattle.std.specs.Prelude.{option_to_list, ◌==◌}
-use Rattle.std.specs.List.{AllByRecursion}
-use Rattle.std.proofs.lemmas.Bool.{cases_Bool, cond-true, cond-false, or_left, or_right, true≢false}
+use Rattle.std.proofs.lemmas.Bool.{cond-false, or_left, or_right, true≢false}
 use Rattle.gsl_words.specs.declared.module.Instr.{Instr}
 use Rattle.gsl_words.specs.declared.module.Module.{Module}
 use Rattle.gsl_instr.specs.declared.instruction.Instruction.{Instruction}
@@ -10,7 +9,7 @@ use Rattle.gsl_instr.specs.declared.instruction.Instruction.TheVariants as instr
 use Rattle.gsl_blocks.specs.Blocks.{blocks_of}
 use Rattle.gsl_valid.specs.CallRules.{id_in}
 use Rattle.gsl_valid.specs.EntryRules.{is_among}
-use Rattle.gsl_valid.specs.FunctionRules.{behind, block_ends, gives, in_block, may_begin, may_take, outside}
+use Rattle.gsl_valid.specs.FunctionRules.{block_ends, gives, in_block, may_begin, may_take, outside}
 use Rattle.gsl_valid.specs.Ids.{defined, defines, is_id, result}
 use Rattle.gsl_valid.specs.Instruction.{read}
 use Rattle.gsl_valid.specs.Kinds as kinds
@@ -20,12 +19,11 @@ use Rattle.gsl_valid.specs.Placed.{Code}
 use Rattle.gsl_valid.specs.Search.{from_here, passed}
 use Rattle.gsl_valid.specs.Sections.{may_come}
 use Rattle.gsl_valid.specs.Types.{begins, defined_as, outside_of}
-use Rattle.gsl_valid.specs.Where.{Standing, Outside, Begun, AtHead, InBlock, AtMerge, Behind, Where, bounds, bounds_one, functions, inside_after, section_in, stands_after, where_after, where_at}
-use Rattle.gsl_fitting.specs.Fits as fits
+use Rattle.gsl_valid.specs.Where.{Standing, AtHead, Behind, bounds, bounds_one, functions, inside_after, section_in, stands_after, where_at}
 use Rattle.gsl_fitting.specs.Fits.{Frame, Sits, given_behind, works}
 use Rattle.gsl_fitting.specs.Functions.{IsLocal}
-use Rattle.gsl_fitting_code.specs.Kept.{AreOrdered}
 use Rattle.gsl_fitting_code.proofs.Fronts.{drop_more}
+use Rattle.gsl_fitting_code.proofs.Nests.{Nests}
 
 module _ (m : Module) where
   abbrev pub standing_at : Code → Standing
@@ -123,7 +121,7 @@ module _ (m : Module) where
     pub standing : outside (standing_at before) ≡ true
     pub section : may_come (where_at m before).section functions ≡ true
     pub outer : Outer before
-    pub ordered : AreOrdered (blocks_of (from_here m before))
+    pub nests : Nests (blocks_of (from_here m before))
 
   -- It takes a parameter.
   pub record Taken (before : Code) (i : Instr) : Type 0 where

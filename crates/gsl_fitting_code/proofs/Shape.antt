@@ -1,20 +1,19 @@
 -- The shape of functions (V10), and their section and numbers (V1).
-use Rattle.std.proofs.Common.{◌≡◌, ℕ, Bool, true, false, ◌&&◌, List, [], ◌∷◌, drop, Option, Some, None, refl, sym, ap, ◌∙◌, ◌⊎◌, inl, inr}
+use Rattle.std.proofs.Common.{◌≡◌, ℕ, Bool, true, ◌&&◌, drop, refl, sym, ap, ◌∙◌, inl, inr}
 use Rattle.std.proofs.lemmas.Bool.{and_from, true≢false}
 use Rattle.gsl_words.specs.declared.module.Instr.{Instr}
 use Rattle.gsl_words.specs.declared.module.Module.{Module}
 use Rattle.gsl_instr.specs.declared.enumerant.storage_class.TheConstants as storage_class
-use Rattle.gsl_valid.specs.FunctionRules.{behind, in_block, in_shape, may_stand_here, outside}
+use Rattle.gsl_valid.specs.FunctionRules.{behind, in_block, in_shape, may_stand_here}
 use Rattle.gsl_valid.specs.Instruction.{is_such, read}
 use Rattle.gsl_valid.specs.Kinds as kinds
 use Rattle.gsl_valid.specs.Kinds.{Kind, kind}
 use Rattle.gsl_valid.specs.Placed.{Code}
 use Rattle.gsl_valid.specs.Search.{from_here}
 use Rattle.gsl_valid.specs.Sections.{has_numbers, in_section, may_come}
-use Rattle.gsl_valid.specs.Types.{defined_as}
 use Rattle.gsl_valid.specs.Where.{Standing, functions, section_in, where_at}
 use Rattle.gsl_fitting.specs.Fits.{works}
-use Rattle.gsl_fitting_code.proofs.Places.{Plays, Sat, Within, standing_at}
+use Rattle.gsl_fitting_code.proofs.Places.{Plays, Sat, standing_at}
 use Rattle.gsl_fitting_code.proofs.Places.Plays.{starting, parameter, opening, variable, inside, ending}
 
 works_stands : (m : Module) (later : Code) (s : Standing) (k : Kind) → works k ≡ true → in_block s ≡ true → may_stand_here m later s k ≡ true

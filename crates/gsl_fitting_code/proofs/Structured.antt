@@ -1,9 +1,8 @@
 -- The blocks of a function are in order.
-use Rattle.std.proofs.Common.{◌≡◌, ℕ, ◌≤◌, Bool, true, false, List, [], ◌∷◌, ◌++◌, Some, refl, sym, ap, ◌∙◌, subst, append_assoc, arith}
+use Rattle.std.proofs.Common.{◌≡◌, ℕ, List, [], ◌∷◌, ◌++◌, refl, sym, ap, ◌∙◌, subst, append_assoc, arith}
 use Rattle.std.specs.List.{AllByRecursion}
 use Rattle.gsl_words.specs.declared.module.Instr.{Instr}
 use Rattle.gsl_words.specs.declared.module.Module.{Module}
-use Rattle.gsl_instr.specs.declared.instruction.Instruction.TheVariants as instruction
 use Rattle.gsl_blocks.specs.declared.block.Block.{Block}
 use Rattle.gsl_blocks.specs.declared.block.Merge.{Merge}
 use Rattle.gsl_blocks.specs.declared.block.Merge.TheVariants.{Nothing}
@@ -15,7 +14,6 @@ use Rattle.gsl_blocks.specs.Order.{IsOrdered, IsRun, run}
 use Rattle.gsl_blocks.specs.Order as order
 use Rattle.gsl_blocks.proofs.Sound.{one}
 use Rattle.gsl_valid.specs.Instruction.{read}
-use Rattle.gsl_valid.specs.LimitRules.{most_constructs}
 use Rattle.gsl_valid.specs.Placed.{Code}
 use Rattle.gsl_fitting.specs.Fits.{In}
 use Rattle.gsl_fitting.specs.Functions.{AreParameters, IsFunction, IsLocal}
@@ -54,7 +52,7 @@ ordered_blocks first bs r = by_blocks bs (one [] first (run first outside) r.dee
         begun _ _ (order.goes t h r) = IsOrdered.ordered (order.goes t h r)
 
 module _ (m : Module) (rank : ℕ → ℕ) (code later : Code) (f : IsFunction m rank code) where
-  tail_ends : (l : ℕ) (met : Merge) → blocks_from ((f.ending ∷ []) ++ later) l met ≡ []
+  pub tail_ends : (l : ℕ) (met : Merge) → blocks_from ((f.ending ∷ []) ++ later) l met ≡ []
   tail_ends l met = over f.ending later l met Closes (ap role_or f.ends)
 
   -- the function's blocks are those of its body

@@ -1,5 +1,5 @@
 -- The operands, the memory and the extended instructions of functions (V14, V15, V17), and what they return (V16).
-use Rattle.std.proofs.Common.{◌≡◌, ℕ, Bool, true, false, List, [], ◌∷◌, Option, Some, None, refl, sym, ap, ◌∙◌}
+use Rattle.std.proofs.Common.{◌≡◌, ℕ, true, Option, Some, None, refl, ap, ◌∙◌}
 use Rattle.gsl_words.specs.declared.module.Instr.{Instr}
 use Rattle.gsl_words.specs.declared.module.Module.{Module}
 use Rattle.gsl_instr.specs.declared.instruction.Instruction.{Instruction}

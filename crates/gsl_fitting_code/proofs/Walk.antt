@@ -1,19 +1,19 @@
 -- The code of functions passes a test where each instruction does that plays its part.
-use Rattle.std.proofs.Common.{◌≡◌, ℕ, Bool, true, false, cond, ◌||◌, IsTrue, List, [], ◌∷◌, ◌++◌, drop, length, Option, Some, None, refl, sym, ap, ◌∙◌, subst, ◌⊎◌, inl, inr, append_assoc}
+use Rattle.std.proofs.Common.{◌≡◌, ℕ, Bool, true, false, ◌||◌, IsTrue, List, [], ◌∷◌, ◌++◌, drop, length, Option, Some, None, refl, sym, ap, ◌∙◌, subst, ◌⊎◌, inl, inr, append_assoc}
 use Rattle.std.specs.Prelude.{option_to_list, ◌==◌}
 use Rattle.std.specs.List.{AllByRecursion}
-use Rattle.std.proofs.lemmas.Bool.{cond-true, cond-false, or_left, or_right, true≢false, eq-eqb, eqb-true, and_parts}
+use Rattle.std.proofs.lemmas.Bool.{cond-true, or_left, or_right, true≢false, eq-eqb, eqb-true, and_parts}
 use Rattle.gsl_words.specs.declared.module.Instr.{Instr}
 use Rattle.gsl_words.specs.declared.module.Module.{Module}
 use Rattle.gsl_instr.specs.declared.instruction.Instruction.{Instruction}
 use Rattle.gsl_instr.specs.declared.instruction.Instruction.TheVariants as instruction
-use Rattle.gsl_blocks.specs.Around.{outside}
 use Rattle.gsl_blocks.specs.Blocks.{blocks_of}
 use Rattle.gsl_valid.specs.CallRules.{id_in}
 use Rattle.gsl_valid.specs.EntryRules.{is_among}
 use Rattle.gsl_valid.specs.FunctionRules as shape
 use Rattle.gsl_valid.specs.FunctionRules.{block_ends, in_block, may_begin, may_take}
 use Rattle.gsl_valid.specs.Ids.{defined, defines, is_id, result}
+use Rattle.gsl_valid.specs.IdsDefinedOnce.{defines_once}
 use Rattle.gsl_valid.specs.Instruction.{read}
 use Rattle.gsl_valid.specs.Kinds as kinds
 use Rattle.gsl_valid.specs.Kinds.{Kind, kind}
@@ -21,19 +21,19 @@ use Rattle.gsl_valid.specs.LocalityRules.{of_function}
 use Rattle.gsl_valid.specs.Placed.{Code}
 use Rattle.gsl_valid.specs.Search.{Passes, Test, from_here, passed}
 use Rattle.gsl_valid.specs.Sections.{may_come}
-use Rattle.gsl_valid.specs.Types.{defined_as, function_begins, outside_of, parameters_of}
-use Rattle.gsl_valid.specs.Where.{Standing, Outside, Begun, AtHead, InBlock, AtMerge, Behind, bounds, bounds_one, block_begun, functions, inside_after, leaves, one_taken, section_in, stands_after, where_at}
+use Rattle.gsl_valid.specs.Types.{defined_as, function_begins, outside_of}
+use Rattle.gsl_valid.specs.Where.{Standing, Outside, Begun, AtHead, Behind, bounds, bounds_one, block_begun, functions, inside_after, leaves, one_taken, section_in, stands_after, where_at}
 use Rattle.gsl_valid.proofs.Lookups.{Has, definition_is, has_left, has_right}
 use Rattle.gsl_valid.proofs.Searching.{behind_front, passed_append, passes_append}
 use Rattle.gsl_fitting.specs.Fits as fits
 use Rattle.gsl_fitting.specs.Fits.{At, Fits, Frame, Sits, given_behind, works}
 use Rattle.gsl_fitting.specs.Functions.{AreFunctions, AreParameters, IsFunction, IsLocal, ids_of}
-use Rattle.gsl_fitting_code.specs.Kept.{AreOrdered, Stands, is_outer}
+use Rattle.gsl_fitting_code.specs.Kept.{Stands, is_outer}
 use Rattle.gsl_fitting_code.proofs.Fronts.{has_drop, outer_before}
-use Rattle.gsl_fitting_code.proofs.Places.{Block, Held, Opened, Outer, Over, Owns, Plays, Sat, Starts, Taken, Within, block_step, body_own, body_step, here_behind, here_step, outer_step, owns_step, standing_at, within_step}
+use Rattle.gsl_fitting_code.proofs.Places.{Block, Outer, Owns, Plays, Within, block_step, body_own, body_step, here_behind, here_step, outer_step, owns_step, standing_at, within_step}
 use Rattle.gsl_fitting_code.proofs.Places.Plays.{starting, parameter, opening, variable, inside, ending}
 use Rattle.gsl_fitting_code.proofs.Roles.{ends_kind, merges_kind, opens_label}
-use Rattle.gsl_fitting_code.proofs.Structured.{function_ordered}
+use Rattle.gsl_fitting_code.proofs.Nests.{Nests, function_nests, passes_split}
 
 -- What works in a block goes on in it.
 record Goes (m : Module) (k : Kind) : Type 0 where
@@ -280,8 +280,8 @@ module _ {m : Module} {rank : ℕ → ℕ} {front functions' : Code} (stands : S
       ]
 
 module _ {m : Module} {rank : ℕ → ℕ} {front functions' : Code} (stands : Stands m rank front functions') (test : Test) (passes : (before : Code) (i : Instr) → Plays m rank before i → IsTrue (test before i)) where
-  over_function : (code later : Code) → IsFunction m rank code → (before : Code) → from_here m before ≡ code ++ later → Between m before → Passes test before code × Between m (passed before code)
-  over_function code later f before here b =
+  over_function : (code later : Code) → IsFunction m rank code → (before : Code) → from_here m before ≡ code ++ later → Passes (defines_once m.bound) before (code ++ later) → Between m before → Passes test before code × Between m (passed before code)
+  over_function code later f before here once b =
       let fn = instruction.Function f.type f.id 0 f.function_type in
       let tail = f.variables ++ (f.body ++ (f.ending ∷ [])) in
       let b1 = f.begin ∷ before in
@@ -302,7 +302,7 @@ module _ {m : Module} {rank : ℕ → ℕ} {front functions' : Code} (stands : S
         standing = b.standing;
         section = b.section;
         outer = b.outer;
-        ordered = subst (λ c. AreOrdered (blocks_of c)) (sym here) (function_ordered m rank code later f);
+        nests = subst (λ c. Nests (blocks_of c)) (sym here) (function_nests m rank code later f before once);
       })) in
       let w1 : Within m fn b1 = record {
         section = ap (section_in (where_at m before).inside) begins;
@@ -331,11 +331,11 @@ module _ {m : Module} {rank : ℕ → ℕ} {front functions' : Code} (stands : S
         subst (Between m) (sym ends_at) between,
       )
 
-  over_functions : (code : Code) → AreFunctions m rank code → (before : Code) → from_here m before ≡ code → Between m before → Passes test before code
-  over_functions _ AreFunctions.none before here b = tt
-  over_functions _ (AreFunctions.one {first = first} {more = more} f rest) before here b =
-      let one = over_function first more f before here b in
-      passes_append test before first more one.0 (over_functions more rest (passed before first) (here_behind m before first more here) one.1)
+  over_functions : (code : Code) → AreFunctions m rank code → (before : Code) → from_here m before ≡ code → Passes (defines_once m.bound) before code → Between m before → Passes test before code
+  over_functions _ AreFunctions.none before here once b = tt
+  over_functions _ (AreFunctions.one {first = first} {more = more} f rest) before here once b =
+      let one = over_function first more f before here once b in
+      passes_append test before first more one.0 (over_functions more rest (passed before first) (here_behind m before first more here) (passes_split (defines_once m.bound) before first more once).1 one.1)
 
   outer_stays : (k : Kind) (s : Standing) → is_outer k ≡ true → stands_after m s k ≡ s
   outer_stays kinds.Asks s h = refl
@@ -357,4 +357,5 @@ module _ {m : Module} {rank : ℕ → ℕ} {front functions' : Code} (stands : S
   pub functions_pass : Passes test (passed [] front) functions'
   functions_pass =
       over_functions functions' stands.each (passed [] front) (ap (drop (length (passed [] front))) stands.is ∙ behind_front front functions')
+      (passes_split (defines_once m.bound) [] front functions' (subst (Passes (defines_once m.bound) []) stands.is stands.once)).1
       (record { standing = ap shape.outside (front_outside front [] stands.outer refl); section = stands.section; outer = outer_before stands [] })

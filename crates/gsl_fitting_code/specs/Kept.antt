@@ -1,17 +1,18 @@
 -- Functions in a module, and what is asked of their blocks.
-use Rattle.std.specs.Prelude.{◌≡◌, ℕ, ◌≤◌, Bool, true, false, ◌==◌, not, List, [], ◌∷◌, ◌++◌}
+use Rattle.std.specs.Prelude.{◌≡◌, ℕ, ◌≤◌, Bool, true, false, ◌==◌, not, List, [], ◌++◌}
 use Rattle.std.specs.List.{AllByRecursion}
 use Rattle.gsl_words.specs.declared.module.Module.{Module}
 use Rattle.gsl_instr.specs.declared.enumerant.storage_class.TheConstants as storage_class
 use Rattle.gsl_blocks.specs.declared.block.Block.{Block}
 use Rattle.gsl_blocks.specs.Order.{IsOrdered}
+use Rattle.gsl_valid.specs.CallRules.{most_calls}
 use Rattle.gsl_valid.specs.IdsDefinedOnce.{defines_once}
 use Rattle.gsl_valid.specs.Instruction.{read}
 use Rattle.gsl_valid.specs.Kinds as kinds
 use Rattle.gsl_valid.specs.Kinds.{Kind, kind}
 use Rattle.gsl_valid.specs.LimitRules.{most_constructs}
 use Rattle.gsl_valid.specs.Placed.{Code}
-use Rattle.gsl_valid.specs.Search.{Passes, passed}
+use Rattle.gsl_valid.specs.Search.{Passes, Test, passed}
 use Rattle.gsl_valid.specs.Sections.{may_come}
 use Rattle.gsl_valid.specs.Where.{where_at, functions as functions_section}
 use Rattle.gsl_fitting.specs.Functions.{AreFunctions}
@@ -36,11 +37,16 @@ is_outer (kinds.Fixes type value) = true
 is_outer (kinds.Holds v) = not (v.class == storage_class.FUNCTION)
 is_outer _ = false
 
--- A module is this code, in which nothing stands in a function and behind which functions may come, and these functions, and each id is
--- defined once.
+-- A module is this code, in which nothing stands in a function and behind which functions may come, and these functions, whose calls do
+-- not nest too deeply, and each id is defined once.
 pub record Stands (m : Module) (rank : ℕ → ℕ) (front functions : Code) : Type 0 where
   pub is : m.instrs ≡ front ++ functions
   pub outer : AllByRecursion (λ i. is_outer (kind (read i)) ≡ true) front
   pub each : AreFunctions m rank functions
+  pub shallow : (id : ℕ) → rank id ≤ most_calls
   pub section : may_come (where_at m (passed [] front)).section functions_section ≡ true
   pub once : Passes (defines_once m.bound) [] m.instrs
+
+-- The functions of each such module pass the test of a rule.
+abbrev pub FunctionsPass : (Module → Test) → Type 0
+FunctionsPass test = (m : Module) (rank : ℕ → ℕ) (front functions : Code) → Stands m rank front functions → Passes (test m) (passed [] front) functions
