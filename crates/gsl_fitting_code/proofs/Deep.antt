@@ -1,7 +1,6 @@
 -- Blocks are structured (V12), and what functions do is within the limits (V18).
 use Rattle.std.proofs.Common.{◌≡◌, ℕ, true, false, not, [], Option, Some, None, refl, sym, ap, ◌∙◌, ◌⊎◌, inl, inr}
 use Rattle.std.proofs.lemmas.Bool.{le-leb, or_left, or_right, not_from_false, true≢false}
-
 use Rattle.gsl_words.specs.declared.module.Instr.{Instr}
 use Rattle.gsl_words.specs.declared.module.Module.{Module}
 use Rattle.gsl_instr.specs.declared.instruction.Instruction.{Instruction}

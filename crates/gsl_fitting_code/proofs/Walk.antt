@@ -243,7 +243,7 @@ variables_stay m (i ∷ code) all = let more = variables_stay m code all.1 in ((
 -- A whole function ---------------------------------------------------------------------------------------------------
 
 -- Code stands between functions.
-record Between (m : Module) (before : Code) : Type 0 where
+pub record Between (m : Module) (before : Code) : Type 0 where
   standing : shape.outside (standing_at m before) ≡ true
   section : may_come (where_at m before).section functions ≡ true
   outer : Outer m before
@@ -264,9 +264,9 @@ module _ {m : Module} {rank : ℕ → ℕ} {front functions' : Code} (stands : S
   own_is : (id : ℕ) → is_among frame.own id ≡ true → of_function (defined_as m id) ≡ true
   own_is id h = elim (among_split f.parameters f.variables id h) [
     | inl p ↦ let o = own_one f.parameters id (parameters_stay m _ f.parameters f.takes).1 p in
-              ap of_function (definition_is m.bound [] m.instrs o.instr id stands.once (has_one o.instr (has_left f.parameters (f.opening ∷ tail) o.instr o.has)) o.gives) ∙ o.own
+        ap of_function (definition_is m.bound [] m.instrs o.instr id stands.once (has_one o.instr (has_left f.parameters (f.opening ∷ tail) o.instr o.has)) o.gives) ∙ o.own
     | inr v ↦ let o = own_one f.variables id (variables_stay m f.variables f.holds).1 v in
-              ap of_function (definition_is m.bound [] m.instrs o.instr id stands.once (has_one o.instr (has_right f.parameters (f.opening ∷ tail) o.instr (inr (has_left f.variables (f.body ++ (f.ending ∷ [])) o.instr o.has)))) o.gives) ∙ o.own
+        ap of_function (definition_is m.bound [] m.instrs o.instr id stands.once (has_one o.instr (has_right f.parameters (f.opening ∷ tail) o.instr (inr (has_left f.variables (f.body ++ (f.ending ∷ [])) o.instr o.has)))) o.gives) ∙ o.own
   ]
 
   own_held : (id : ℕ) → is_among frame.own id ≡ true → defined (where_at m (passed (f.opening ∷ passed (f.begin ∷ before) f.parameters) f.variables)).body id ≡ true
@@ -275,7 +275,7 @@ module _ {m : Module} {rank : ℕ → ℕ} {front functions' : Code} (stands : S
       let variables = (variables_stay m f.variables f.holds).0 in
       elim (among_split f.parameters f.variables id h) [
         | inl p ↦ body_kept m f.variables opened id variables
-                  (body_step m f.opening (passed (f.begin ∷ before) f.parameters) kinds.Opens id (ap kind f.opens) refl (body_has m f.parameters (f.begin ∷ before) id (parameters_stay m _ f.parameters f.takes).0 p))
+            (body_step m f.opening (passed (f.begin ∷ before) f.parameters) kinds.Opens id (ap kind f.opens) refl (body_has m f.parameters (f.begin ∷ before) id (parameters_stay m _ f.parameters f.takes).0 p))
         | inr v ↦ body_has m f.variables opened id variables v
       ]
 
@@ -331,11 +331,12 @@ module _ {m : Module} {rank : ℕ → ℕ} {front functions' : Code} (stands : S
         subst (Between m) (sym ends_at) between,
       )
 
-  over_functions : (code : Code) → AreFunctions m rank code → (before : Code) → from_here m before ≡ code → Passes (defines_once m.bound) before code → Between m before → Passes test before code
-  over_functions _ AreFunctions.none before here once b = tt
+  over_functions : (code : Code) → AreFunctions m rank code → (before : Code) → from_here m before ≡ code → Passes (defines_once m.bound) before code → Between m before → Passes test before code × Between m (passed before code)
+  over_functions _ AreFunctions.none before here once b = (tt, b)
   over_functions _ (AreFunctions.one {first = first} {more = more} f rest) before here once b =
       let one = over_function first more f before here once b in
-      passes_append test before first more one.0 (over_functions more rest (passed before first) (here_behind m before first more here) (passes_split (defines_once m.bound) before first more once).1 one.1)
+      let on = over_functions more rest (passed before first) (here_behind m before first more here) (passes_split (defines_once m.bound) before first more once).1 one.1 in
+      (passes_append test before first more one.0 on.0, subst (Between m) (sym (passed_append before first more)) on.1)
 
   outer_stays : (k : Kind) (s : Standing) → is_outer k ≡ true → stands_after m s k ≡ s
   outer_stays kinds.Asks s h = refl
@@ -354,8 +355,15 @@ module _ {m : Module} {rank : ℕ → ℕ} {front functions' : Code} (stands : S
   front_outside [] before all h = h
   front_outside (i ∷ code) before all h = front_outside code (i ∷ before) all.1 (outer_stays (kind (read i)) (standing_at m before) all.0 ∙ h)
 
-  pub functions_pass : Passes test (passed [] front) functions'
-  functions_pass =
+  walked : Passes test (passed [] front) functions' × Between m (passed (passed [] front) functions')
+  walked =
       over_functions functions' stands.each (passed [] front) (ap (drop (length (passed [] front))) stands.is ∙ behind_front front functions')
       (passes_split (defines_once m.bound) [] front functions' (subst (Passes (defines_once m.bound) []) stands.is stands.once)).1
       (record { standing = ap shape.outside (front_outside front [] stands.outer refl); section = stands.section; outer = outer_before stands [] })
+
+  pub functions_pass : Passes test (passed [] front) functions'
+  functions_pass = walked.0
+
+-- Behind the functions code stands outside of them, in their section or before it.
+pub functions_end : {m : Module} {rank : ℕ → ℕ} {front functions' : Code} → Stands m rank front functions' → Between m (passed (passed [] front) functions')
+functions_end stands = (walked stands (λ before i. true) (λ before i plays. refl)).1
