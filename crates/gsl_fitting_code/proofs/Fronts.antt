@@ -15,6 +15,7 @@ use Rattle.gsl_valid.specs.LocalityRules as locality
 use Rattle.gsl_valid.specs.Placed.{Code}
 use Rattle.gsl_valid.specs.Search.{passed}
 use Rattle.gsl_valid.specs.Types.{before_functions, begins, defined_as, function_begins, outside_of}
+use Rattle.gsl_valid.specs.Where.{Standing, inside_after, stands_after}
 use Rattle.gsl_valid.proofs.Lookups.{Has, defined_behind}
 use Rattle.gsl_fitting.specs.Fits as fits
 use Rattle.gsl_fitting.specs.Functions.{AreFunctions}
@@ -87,7 +88,7 @@ pub outer_no_function : (k : Kind) → is_outer k ≡ true → begins k ≡ fals
 outer_no_function (kinds.Begins type id function_type) h = absurd (true≢false (sym h))
 outer_no_function _ h = refl
 
-outer_no_value : (k : Kind) → is_outer k ≡ true → locality.gives_value k ≡ false
+pub outer_no_value : (k : Kind) → is_outer k ≡ true → locality.gives_value k ≡ false
 outer_no_value (kinds.Calls type function arguments) h = absurd (true≢false (sym h))
 outer_no_value (kinds.Gives type) h = absurd (true≢false (sym h))
 outer_no_value _ h = refl
@@ -96,6 +97,25 @@ outer_no_local : (k : Kind) → is_outer k ≡ true → locality.is_local k ≡ 
 outer_no_local (kinds.Holds v) h = not-true _ h
 outer_no_local (kinds.Takes type) h = absurd (true≢false (sym h))
 outer_no_local _ h = refl
+
+-- what stands outside functions leaves code there
+pub outer_stays : (m : Module) (k : Kind) (s : Standing) → is_outer k ≡ true → stands_after m s k ≡ s
+outer_stays m kinds.Asks s h = refl
+outer_stays m kinds.Imports s h = refl
+outer_stays m kinds.Sets s h = refl
+outer_stays m (kinds.Enters model function name interface) s h = refl
+outer_stays m (kinds.Modes function mode parts) s h = refl
+outer_stays m kinds.Debugs s h = refl
+outer_stays m (kinds.Decorates d) s h = refl
+outer_stays m (kinds.Declares shape) s h = refl
+outer_stays m (kinds.Fixes type value) s h = refl
+outer_stays m (kinds.Holds v) s h = refl
+outer_stays m _ s h = absurd (true≢false (sym h))
+
+pub outer_inside : (inside : Bool) (k : Kind) → is_outer k ≡ true → inside_after inside k ≡ inside
+outer_inside inside (kinds.Begins type id function_type) h = absurd (true≢false (sym h))
+outer_inside inside kinds.Ended h = absurd (true≢false (sym h))
+outer_inside inside _ h = refl
 
 -- functions begin with a Function
 begin_first : {m : Module} {rank : ℕ → ℕ} (functions : Code) → AreFunctions m rank functions → before_functions functions ≡ []

@@ -29,7 +29,7 @@ use Rattle.gsl_fitting.specs.Fits as fits
 use Rattle.gsl_fitting.specs.Fits.{At, Fits, Frame, Sits, given_behind, works}
 use Rattle.gsl_fitting.specs.Functions.{AreFunctions, AreParameters, IsFunction, IsLocal, ids_of}
 use Rattle.gsl_fitting_code.specs.Kept.{Stands, is_outer}
-use Rattle.gsl_fitting_code.proofs.Fronts.{has_drop, outer_before}
+use Rattle.gsl_fitting_code.proofs.Fronts.{has_drop, outer_before, outer_stays}
 use Rattle.gsl_fitting_code.proofs.Places.{Block, Outer, Owns, Plays, Within, block_step, body_own, body_step, here_behind, here_step, outer_step, owns_step, standing_at, within_step}
 use Rattle.gsl_fitting_code.proofs.Places.Plays.{starting, parameter, opening, variable, inside, ending}
 use Rattle.gsl_fitting_code.proofs.Roles.{ends_kind, merges_kind, opens_label}
@@ -338,22 +338,9 @@ module _ {m : Module} {rank : ℕ → ℕ} {front functions' : Code} (stands : S
       let on = over_functions more rest (passed before first) (here_behind m before first more here) (passes_split (defines_once m.bound) before first more once).1 one.1 in
       (passes_append test before first more one.0 on.0, subst (Between m) (sym (passed_append before first more)) on.1)
 
-  outer_stays : (k : Kind) (s : Standing) → is_outer k ≡ true → stands_after m s k ≡ s
-  outer_stays kinds.Asks s h = refl
-  outer_stays kinds.Imports s h = refl
-  outer_stays kinds.Sets s h = refl
-  outer_stays (kinds.Enters model function name interface) s h = refl
-  outer_stays (kinds.Modes function mode parts) s h = refl
-  outer_stays kinds.Debugs s h = refl
-  outer_stays (kinds.Decorates d) s h = refl
-  outer_stays (kinds.Declares shape) s h = refl
-  outer_stays (kinds.Fixes type value) s h = refl
-  outer_stays (kinds.Holds v) s h = refl
-  outer_stays _ s h = absurd (true≢false (sym h))
-
   front_outside : (code before : Code) → AllByRecursion (λ i. is_outer (kind (read i)) ≡ true) code → standing_at m before ≡ Outside → standing_at m (passed before code) ≡ Outside
   front_outside [] before all h = h
-  front_outside (i ∷ code) before all h = front_outside code (i ∷ before) all.1 (outer_stays (kind (read i)) (standing_at m before) all.0 ∙ h)
+  front_outside (i ∷ code) before all h = front_outside code (i ∷ before) all.1 (outer_stays m (kind (read i)) (standing_at m before) all.0 ∙ h)
 
   walked : Passes test (passed [] front) functions' × Between m (passed (passed [] front) functions')
   walked =
