@@ -244,9 +244,9 @@ variables_stay m (i ∷ code) all = let more = variables_stay m code all.1 in ((
 
 -- Code stands between functions.
 pub record Between (m : Module) (before : Code) : Type 0 where
-  standing : shape.outside (standing_at m before) ≡ true
-  section : may_come (where_at m before).section functions ≡ true
-  outer : Outer m before
+  pub standing : shape.outside (standing_at m before) ≡ true
+  pub section : may_come (where_at m before).section functions ≡ true
+  pub outer : Outer m before
 
 module _ {m : Module} {rank : ℕ → ℕ} {front functions' : Code} (stands : Stands m rank front functions') (code later : Code) (f : IsFunction m rank code) (before : Code) (here : from_here m before ≡ code ++ later) where
   abbrev tail : Code

@@ -4,3 +4,8 @@ pub mod Outside
 pub mod Plain
 pub mod Heads
 pub mod Whole
+pub mod Firsts
+pub mod Marks
+pub mod Heights
+pub mod Layouts
+pub mod Kept

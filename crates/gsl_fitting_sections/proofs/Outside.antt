@@ -129,18 +129,29 @@ module _ (m : Module) where
     marked : Marked before i → Lies before i
     declared : Declared' before i → Lies before i
 
-  module _ (test : Test) (passes : (before : Code) (i : Instr) → Lies before i → IsTrue (test before i)) where
+  -- What stands behind the heads.
+  pub data Follows (before : Code) (i : Instr) : Type 0 where
+    name : Named before i → Follows before i
+    mark : Marked before i → Follows before i
+    declaration : Declared' before i → Follows before i
+
+  pub lies_of : (before : Code) (i : Instr) → Follows before i → Lies before i
+  lies_of before i (Follows.name p) = named p
+  lies_of before i (Follows.mark p) = marked p
+  lies_of before i (Follows.declaration p) = declared p
+
+  module _ (test : Test) (passes : (before : Code) (i : Instr) → Follows before i → IsTrue (test before i)) where
     pub names_pass : (code before : Code) → AllByRecursion (IsName m) code → Past 6 before → Passes test before code × Past 6 (passed before code)
     names_pass [] before all p = (tt, p)
     names_pass (i ∷ code) before all p =
         let later = names_pass code (i ∷ before) all.1 (past_step 6 6 i before kinds.Debugs all.0.is refl refl (omega arith) p) in
-        ((passes before i (named (record { past = p; name = all.0 })), later.0), later.1)
+        ((passes before i (Follows.name (record { past = p; name = all.0 })), later.0), later.1)
 
     pub marks_pass : (base : Code) → AllByRecursion (λ j. unmarked (kind (read j)) ≡ true) base → (code earlier : Code) → Each (IsDecoration m) earlier code → Past 7 (earlier ++ base) → Passes test (earlier ++ base) code × Past 7 (passed (earlier ++ base) code)
     marks_pass base none [] earlier all p = (tt, p)
     marks_pass base none (i ∷ code) earlier all p =
         let later = marks_pass base none code (i ∷ earlier) all.1 (past_step 7 7 i (earlier ++ base) (kinds.Decorates all.0.decoration) all.0.is refl refl (omega arith) p) in
-        ((passes (earlier ++ base) i (marked (record { past = p; earlier = earlier; base = base; is = refl; none = none; mark = all.0 })), later.0), later.1)
+        ((passes (earlier ++ base) i (Follows.mark (record { past = p; earlier = earlier; base = base; is = refl; none = none; mark = all.0 })), later.0), later.1)
 
     pub declarations_pass : (base : Code) → AllByRecursion (λ j. precedes (kind (read j)) ≡ true) base → (code earlier : Code) → Closed earlier → ((id : ℕ) → defined (passed earlier code) id ≡ true → of_block (defined_as m id) ≡ false) → Each (IsDeclaration m) earlier code → Past 8 (earlier ++ base)
         → Passes test (earlier ++ base) code × Past 8 (passed (earlier ++ base) code)
@@ -148,4 +159,4 @@ module _ (m : Module) where
     declarations_pass base none (i ∷ code) earlier closed lasts all p =
         let later = declarations_pass base none code (i ∷ earlier) (all.0.uses, closed) lasts all.1
         (past_step 8 8 i (earlier ++ base) (kind (read i)) refl (declares_outer (kind (read i)) all.0.is) (declares_section (kind (read i)) all.0.is) (omega arith) p) in
-        ((passes (earlier ++ base) i (declared (record { past = p; earlier = earlier; base = base; is = refl; none = none; closed = closed; lasts = λ id h. lasts id (defined_behind earlier (i ∷ code) id h); declaration = all.0 })), later.0), later.1)
+        ((passes (earlier ++ base) i (Follows.declaration (record { past = p; earlier = earlier; base = base; is = refl; none = none; closed = closed; lasts = λ id h. lasts id (defined_behind earlier (i ∷ code) id h); declaration = all.0 })), later.0), later.1)

@@ -2,7 +2,7 @@
 use Rattle.std.proofs.Common.{◌≡◌, ℕ, ◌≤◌, Bool, true, false, cond, ◌&&◌, ◌||◌, IsTrue, List, [], ◌∷◌, ◌++◌, Option, Some, None, refl, sym, ap, ◌∙◌, subst, arith, ◌⊎◌, inl, inr}
 use Rattle.std.specs.Prelude.{◌==◌}
 use Rattle.std.specs.List.{AllByRecursion, list_all}
-use Rattle.std.proofs.lemmas.Bool.{and_from, cases_Bool, cond-false, cond-true, eq-eqb, eqb-true, not_from_false, or_left, or_right, true≢false}
+use Rattle.std.proofs.lemmas.Bool.{and_from, and_parts, cases_Bool, cond-false, cond-true, eq-eqb, eqb-true, not_from_false, or_left, or_right, true≢false}
 use Rattle.gsl_words.specs.declared.module.Instr.{Instr}
 use Rattle.gsl_words.specs.declared.module.Module.{Module}
 use Rattle.gsl_instr.specs.declared.enumerant.storage_class.TheConstants as storage_class
@@ -33,7 +33,7 @@ use Rattle.gsl_fitting_code.proofs.Walk.{functions_pass}
 use Rattle.gsl_fitting_sections.specs.Sections.{AreSound, Each, IsDeclaration, IsDecoration, IsName, declares, is_lasting}
 use Rattle.gsl_fitting_sections.proofs.Heads.{head_outer, head_past, head_pass, head_unmarked}
 use Rattle.gsl_fitting_sections.proofs.Once.{once_kept}
-use Rattle.gsl_fitting_sections.proofs.Outside.{Headed, Lies, Past, declarations_pass, declares_outer, marks_pass, names_pass, past_comes, precedes, unmarked, wider}
+use Rattle.gsl_fitting_sections.proofs.Outside.{Follows, Headed, Lies, Past, declarations_pass, declares_outer, lies_of, marks_pass, names_pass, past_comes, precedes, unmarked, wider}
 use Rattle.gsl_fitting_sections.proofs.Outside.Lies.{headed}
 use Rattle.gsl_fitting_sections.proofs.Parts.{front, head, parts_are}
 
@@ -92,11 +92,7 @@ variable_defines (pointer ∷ r ∷ class ∷ more) id q each = by_class (class 
 
 all_both : (q : ℕ → Bool) (a b : List ℕ) → list_all q a ≡ true → list_all q b ≡ true → list_all q (a ++ b) ≡ true
 all_both q [] b x y = y
-all_both q (id ∷ a) b x y = by_case (q id) x
-  where
-    by_case : (c : Bool) → (c && list_all q a) ≡ true → (c && list_all q (a ++ b)) ≡ true
-    by_case true h = all_both q a b h y
-    by_case false h = absurd (true≢false (sym h))
+all_both q (id ∷ a) b x y = let parts = and_parts (q id) (list_all q a) x in and_from _ _ parts.0 (all_both q a b parts.1 y)
 
 interface_holds : (q : ℕ → Bool) (code : Code) → ((id : ℕ) → defined code id ≡ true → q id ≡ true) → list_all q (interface_of code) ≡ true
 interface_holds q [] each = refl
@@ -172,7 +168,7 @@ module _ (s : Sections) (main : ℕ) (local_size : List ℕ) (sound : AreSound s
       all_append P (top ++ s.names) s.decorations (all_all P (λ i. unmarked (kind (read i)) ≡ true) (λ i h. unmarked_precedes (kind (read i)) h) (top ++ s.names) named_unmarked)
       (all_each P (IsDecoration m) (λ b i d. ap precedes d.is) [] s.decorations sound.decorations)
 
-  module _ (test : Test) (heads_pass : Passes test [] top) (passes : (before : Code) (i : Instr) → Lies m before i → IsTrue (test before i)) where
+  module _ (test : Test) (heads_pass : Passes test [] top) (passes : (before : Code) (i : Instr) → Follows m before i → IsTrue (test before i)) where
     walked : Passes test [] (front s main local_size sound.set) × Past m 8 (passed [] (front s main local_size sound.set))
     walked =
         let P = λ (i : Instr). unmarked (kind (read i)) ≡ true in
@@ -191,7 +187,7 @@ module _ (s : Sections) (main : ℕ) (local_size : List ℕ) (sound : AreSound s
   headed_pass test passes = head_pass main local_size m test (λ before i h. passes before i (headed h)) sound.set s.stage (interface_of s.globals) sound.sizes entry_lasting
 
   front_past : Past m 8 (passed [] (front s main local_size sound.set))
-  front_past = (walked (λ before i. true) (headed_pass (λ before i. true) (λ before i lies. refl)) (λ before i lies. refl)).1
+  front_past = (walked (λ before i. true) (headed_pass (λ before i. true) (λ before i lies. refl)) (λ before i follows. refl)).1
 
   past_functions : (before : Code) → Past m 8 before → may_come (where_at m before).section 9 ≡ true
   past_functions before p = past_comes m 9 before refl (wider m 8 9 before (omega arith) p)
@@ -207,10 +203,10 @@ module _ (s : Sections) (main : ℕ) (local_size : List ℕ) (sound : AreSound s
   }
 
   -- a test that the heads pass, what lies outside functions and what plays its part in them
-  pub passes_by : (test : Test) → Passes test [] top → ((before : Code) (i : Instr) → Lies m before i → IsTrue (test before i)) → ((before : Code) (i : Instr) → Plays m sound.rank before i → IsTrue (test before i)) → Passes test [] m.instrs
-  passes_by test first lies plays =
+  pub passes_by : (test : Test) → Passes test [] top → ((before : Code) (i : Instr) → Follows m before i → IsTrue (test before i)) → ((before : Code) (i : Instr) → Plays m sound.rank before i → IsTrue (test before i)) → Passes test [] m.instrs
+  passes_by test first follows plays =
       subst (Passes test []) (sym is_front)
-      (passes_append test [] (front s main local_size sound.set) s.functions (walked test first lies).0 (functions_pass stands test plays))
+      (passes_append test [] (front s main local_size sound.set) s.functions (walked test first follows).0 (functions_pass stands test plays))
 
   pub all_pass : (test : Test) → ((before : Code) (i : Instr) → Lies m before i → IsTrue (test before i)) → ((before : Code) (i : Instr) → Plays m sound.rank before i → IsTrue (test before i)) → Passes test [] m.instrs
-  all_pass test lies plays = passes_by test (headed_pass test lies) lies plays
+  all_pass test lies plays = passes_by test (headed_pass test lies) (λ before i f. lies before i (lies_of m before i f)) plays

@@ -120,3 +120,7 @@ pub record AreSound (s : Sections) (main : ℕ) (local_size : List ℕ) : Type 0
   pub main_is : is_main (module_of s main local_size) (defined_as (module_of s main local_size) main) ≡ true
   pub uncalled : list_any (λ i. is_call_of main (read i)) s.functions ≡ false
   pub sizes : HasSizes s.stage local_size
+
+-- The module of sections that are sound breaks a rule nowhere.
+abbrev pub Unbroken : (Module → Option ℕ) → Type 0
+Unbroken rule = (s : Sections) (main : ℕ) (local_size : List ℕ) → AreSound s main local_size → rule (module_of s main local_size) ≡ None
