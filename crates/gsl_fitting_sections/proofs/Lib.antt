@@ -9,3 +9,6 @@ pub mod Marks
 pub mod Heights
 pub mod Layouts
 pub mod Kept
+pub mod Interface
+pub mod Entry
+pub mod Entering

@@ -38,7 +38,7 @@ declares_none : (k : Kind) → declares k ≡ true → decoration_in k ≡ None
 declares_none (kinds.Decorates d) h = absurd (true≢false (sym h))
 declares_none _ h = refl
 
-precedes_variable : (k : Kind) → precedes k ≡ true → variable_in k ≡ None
+pub precedes_variable : (k : Kind) → precedes k ≡ true → variable_in k ≡ None
 precedes_variable (kinds.Holds v) h = absurd (true≢false (sym h))
 precedes_variable _ h = refl
 

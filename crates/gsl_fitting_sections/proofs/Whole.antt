@@ -110,7 +110,7 @@ module _ (s : Sections) (main : ℕ) (local_size : List ℕ) (sound : AreSound s
   abbrev pub m : Module
   m = module_of s main local_size
 
-  abbrev top : Code
+  abbrev pub top : Code
   top = head s main local_size sound.set
 
   pub is_front : m.instrs ≡ front s main local_size sound.set ++ s.functions
@@ -154,7 +154,7 @@ module _ (s : Sections) (main : ℕ) (local_size : List ℕ) (sound : AreSound s
   abbrev before_decorations : Code
   before_decorations = passed [] (top ++ s.names)
 
-  abbrev before_globals : Code
+  abbrev pub before_globals : Code
   before_globals = passed [] (top ++ s.names ++ s.decorations)
 
   named_unmarked : AllByRecursion (λ i. unmarked (kind (read i)) ≡ true) (top ++ s.names)
@@ -162,7 +162,7 @@ module _ (s : Sections) (main : ℕ) (local_size : List ℕ) (sound : AreSound s
       let P = λ (i : Instr). unmarked (kind (read i)) ≡ true in
       all_append P top s.names (head_unmarked main local_size sound.set s.stage (interface_of s.globals)) (all_all P (IsName m) (λ i n. ap unmarked n.is) s.names sound.names)
 
-  marked_precede : AllByRecursion (λ i. precedes (kind (read i)) ≡ true) (top ++ s.names ++ s.decorations)
+  pub marked_precede : AllByRecursion (λ i. precedes (kind (read i)) ≡ true) (top ++ s.names ++ s.decorations)
   marked_precede =
       let P = λ (i : Instr). precedes (kind (read i)) ≡ true in
       all_append P (top ++ s.names) s.decorations (all_all P (λ i. unmarked (kind (read i)) ≡ true) (λ i h. unmarked_precedes (kind (read i)) h) (top ++ s.names) named_unmarked)
