@@ -42,12 +42,12 @@ use Rattle.gsl_fitting_sections.proofs.Whole.{all_all, all_each, before_globals,
 head_entry : (m : Module) (main : ℕ) (local_size : List ℕ) (set : Option ℕ) (stage : Stage) (interface : List ℕ) → ((before : Code) → entry_of m before (kinds.Enters (finished.model_of stage) main main_words interface) ≡ true)
     → Passes (entry_kept m) [] (head_of main local_size set stage interface)
 unfolding form_of
-head_entry m main local_size None Vertex interface kept = (refl, (refl, (kept _, tt)))
-head_entry m main local_size None Fragment interface kept = (refl, (refl, (kept _, (refl, tt))))
-head_entry m main local_size None Compute interface kept = (refl, (refl, (kept _, (refl, tt))))
-head_entry m main local_size (Some set) Vertex interface kept = (refl, (refl, (refl, (kept _, tt))))
-head_entry m main local_size (Some set) Fragment interface kept = (refl, (refl, (refl, (kept _, (refl, tt)))))
-head_entry m main local_size (Some set) Compute interface kept = (refl, (refl, (refl, (kept _, (refl, tt)))))
+head_entry m main local_size None Vertex interface kept = (refl, (refl, (kept [], tt)))
+head_entry m main local_size None Fragment interface kept = (refl, (refl, (kept [], (refl, tt))))
+head_entry m main local_size None Compute interface kept = (refl, (refl, (kept [], (refl, tt))))
+head_entry m main local_size (Some set) Vertex interface kept = (refl, (refl, (refl, (kept [], tt))))
+head_entry m main local_size (Some set) Fragment interface kept = (refl, (refl, (refl, (kept [], (refl, tt)))))
+head_entry m main local_size (Some set) Compute interface kept = (refl, (refl, (refl, (kept [], (refl, tt)))))
 
 -- no instruction of a function is a mode
 works_no_mode : (k : Kind) → works k ≡ true → mode_in k ≡ None

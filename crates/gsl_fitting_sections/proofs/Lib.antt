@@ -12,3 +12,4 @@ pub mod Kept
 pub mod Interface
 pub mod Entry
 pub mod Entering
+pub mod Valid
