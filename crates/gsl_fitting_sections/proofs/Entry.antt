@@ -1,9 +1,8 @@
 -- The entry point is as it has to be, and what locations and built-in variables decorations give (V9).
-use Rattle.std.proofs.Common.{◌≡◌, ℕ, Bool, true, false, cond, not, ◌&&◌, ◌||◌, IsTrue, List, [], ◌∷◌, ◌++◌, drop, length, Option, Some, None, refl, sym, ap, ◌∙◌, subst, append_assoc, ◌⊎◌, inl, inr, if◌then◌else◌}
-use Rattle.std.specs.Prelude.{◌==◌, filter_map, find, option_to_list, is_some}
-use Rattle.std.specs.List.{AllByRecursion, cons_option, list_all, list_any}
-use Rattle.std.specs.Option.{option_map}
-use Rattle.std.proofs.lemmas.Bool.{and_from, and_parts, eq-eqb, eqb-true, not_from_false, or_cases, or_from, or_left, or_right, true≢false}
+use Rattle.std.proofs.Common.{◌≡◌, ℕ, Bool, true, false, not, ◌&&◌, ◌||◌, List, [], ◌∷◌, ◌++◌, Option, Some, None, refl, sym, ap, ◌∙◌, if◌then◌else◌}
+use Rattle.std.specs.Prelude.{◌==◌, filter_map}
+use Rattle.std.specs.List.{AllByRecursion, cons_option, list_any}
+use Rattle.std.proofs.lemmas.Bool.{and_from, eq-eqb, or_from, or_left, true≢false}
 use Rattle.gsl_base.specs.declared.stage.Stage.{Stage}
 use Rattle.gsl_base.specs.declared.stage.Stage.TheVariants.{Vertex, Fragment, Compute}
 use Rattle.gsl_words.specs.declared.module.Instr.{Instr}
@@ -20,21 +19,16 @@ use Rattle.gsl_valid.specs.Instruction.{read}
 use Rattle.gsl_valid.specs.Kinds as kinds
 use Rattle.gsl_valid.specs.Kinds.{Kind, Place, decoration_of, kind}
 use Rattle.gsl_valid.specs.Placed.{Code}
-use Rattle.gsl_valid.specs.Search.{Passes, Test, passed}
+use Rattle.gsl_valid.specs.Search.{Passes}
 use Rattle.gsl_valid.specs.Types.{defined_as}
 use Rattle.gsl_spv.specs.Finished.{entry_point, modes, module_of}
 use Rattle.gsl_spv.specs.Finished as finished
-use Rattle.gsl_spv.specs.Once as once
-use Rattle.gsl_spv.specs.Sections.{Sections}
 use Rattle.gsl_fitting_code.specs.Kept.{is_outer}
-use Rattle.gsl_fitting_code.proofs.Places.{Plays}
-use Rattle.gsl_fitting_code.proofs.Walk.{functions_pass}
-use Rattle.gsl_fitting_sections.specs.Sections.{AreSound, HasSizes, IsDeclaration, IsDecoration, IsName, declares}
+use Rattle.gsl_fitting_sections.specs.Sections.{HasSizes, declares}
 use Rattle.gsl_fitting_sections.proofs.Firsts.{any_append}
 use Rattle.gsl_fitting_sections.proofs.Marks.{none_marked}
 use Rattle.gsl_fitting_sections.proofs.Outside.{Follows, unmarked}
-use Rattle.gsl_fitting_sections.proofs.Parts.{front, head, head_of}
-use Rattle.gsl_fitting_sections.proofs.Whole.{all_all, all_append, all_each, front_outer, is_front, m, passes_by, stands}
+use Rattle.gsl_fitting_sections.proofs.Parts.{head_of}
 
 -- Decorations -------------------------------------------------------------------------------------------------------------
 

@@ -1,5 +1,5 @@
 -- Types are made as they may be, and no plain one twice (V4).
-use Rattle.std.proofs.Common.{◌≡◌, ℕ, Bool, true, false, cond, not, ◌&&◌, ◌||◌, List, [], ◌∷◌, ◌++◌, drop, Option, Some, None, refl, sym, ap, ◌∙◌, subst, ◌⊎◌, inl, inr}
+use Rattle.std.proofs.Common.{◌≡◌, ℕ, Bool, true, false, not, ◌||◌, List, [], ◌∷◌, ◌++◌, Option, Some, None, refl, sym, ap, ◌∙◌, ◌⊎◌, inl, inr}
 use Rattle.std.specs.Prelude.{◌==◌}
 use Rattle.std.specs.List.{AllByRecursion, list_any}
 use Rattle.std.specs.Option.{option_map}
@@ -15,7 +15,7 @@ use Rattle.gsl_valid.specs.Kinds as kinds
 use Rattle.gsl_valid.specs.Kinds.{Kind, kind, kind_of, shape_in, shape_of}
 use Rattle.gsl_valid.specs.Placed.{Code}
 use Rattle.gsl_valid.specs.TypeRules.{is_first, is_made, same_type, type_made}
-use Rattle.gsl_fitting_sections.proofs.Outside.{Lies, heads, precedes}
+use Rattle.gsl_fitting_sections.proofs.Outside.{Lies, precedes}
 use Rattle.gsl_fitting_sections.proofs.Outside.Lies.{headed, named, marked, declared}
 use Rattle.gsl_fitting_sections.proofs.Plain.{heads_precedes}
 
@@ -58,7 +58,7 @@ module _ (m : Module) where
   types_pass before i (marked p) = no_type before i (ap shape_in p.mark.is)
   types_pass before i (declared p) = elim (base_first i p.base p.none) [
     | inl first ↦ ap (λ c. is_made m (not (list_any (same_type i) c)) (shape_of (read i))) p.is
-                  ∙ ap (λ b. is_made m (not b) (shape_of (read i))) (any_append (same_type i) p.earlier p.base first)
-                  ∙ p.declaration.made
+        ∙ ap (λ b. is_made m (not b) (shape_of (read i))) (any_append (same_type i) p.earlier p.base first)
+        ∙ p.declaration.made
     | inr none ↦ no_type before i none
   ]

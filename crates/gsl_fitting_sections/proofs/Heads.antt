@@ -1,5 +1,5 @@
 -- What stands before names: a capability, an import, the memory model, the entry point and its modes.
-use Rattle.std.proofs.Common.{◌≡◌, ℕ, ◌≤◌, Bool, true, false, ◌&&◌, IsTrue, List, [], ◌∷◌, ◌++◌, length, Option, Some, None, refl, sym, ap, ◌∙◌, subst, arith}
+use Rattle.std.proofs.Common.{◌≡◌, ℕ, ◌≤◌, true, false, IsTrue, List, [], ◌∷◌, Option, Some, None, refl, ap, arith}
 use Rattle.std.specs.Prelude.{◌==◌}
 use Rattle.std.specs.List.{AllByRecursion, list_all}
 use Rattle.std.proofs.lemmas.Bool.{and_from, and_parts, or_left}
@@ -13,9 +13,8 @@ use Rattle.gsl_valid.specs.Kinds.{kind}
 use Rattle.gsl_valid.specs.Placed.{Code}
 use Rattle.gsl_valid.specs.Search.{Passes, Test, passed}
 use Rattle.gsl_valid.specs.Sections.{may_come}
-use Rattle.gsl_valid.specs.Where.{Standing, Outside, where_at}
-use Rattle.gsl_spv.specs.Calls.{imports_of}
-use Rattle.gsl_spv.specs.Finished.{capabilities, entry_point, memory_models, modes}
+use Rattle.gsl_valid.specs.Where.{Outside, where_at}
+use Rattle.gsl_spv.specs.Finished.{entry_point, modes}
 use Rattle.gsl_fitting_code.specs.Kept.{is_outer}
 use Rattle.gsl_fitting_sections.specs.Sections.{HasSizes, is_lasting}
 use Rattle.gsl_fitting_sections.proofs.Parts.{head_of}

@@ -1,5 +1,5 @@
 -- The module of sound sections breaks none of the rules.
-use Rattle.std.proofs.Common.{◌≡◌, ℕ, ◌+◌, ◌≤◌, Bool, true, false, cond, ◌&&◌, ◌||◌, List, [], Option, Some, None, refl, sym, ap, ◌∙◌, subst, arith, ◌⊎◌, inl, inr}
+use Rattle.std.proofs.Common.{◌≡◌, ℕ, ◌+◌, Bool, true, false, cond, ◌&&◌, ◌||◌, List, [], None, refl, sym, ap, ◌∙◌, subst, arith, inl, inr}
 use Rattle.std.specs.Prelude.{◌==◌, nat_le}
 use Rattle.std.proofs.lemmas.Bool.{and_from, eqb-true, le-leb, or_cases, true≢false}
 use Rattle.gsl_valid.specs.CallRules as calls
@@ -15,7 +15,7 @@ use Rattle.gsl_valid.specs.LimitRules as limits
 use Rattle.gsl_valid.specs.LocalityRules as locality
 use Rattle.gsl_valid.specs.MemoryRules as memory
 use Rattle.gsl_valid.specs.OperandRules as operands
-use Rattle.gsl_valid.specs.Placed.{Code, bound_place, count_of_words}
+use Rattle.gsl_valid.specs.Placed.{bound_place, count_of_words}
 use Rattle.gsl_valid.specs.ReturnRules as returns
 use Rattle.gsl_valid.specs.Search.{first_broken, passed, unless, whole, ◌otherwise◌}
 use Rattle.gsl_valid.specs.Sections as sections

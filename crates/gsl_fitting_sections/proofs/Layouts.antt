@@ -1,23 +1,22 @@
 -- The types of blocks are laid as they may be (V8).
-use Rattle.std.proofs.Common.{◌≡◌, ℕ, ◌+◌, ◌-◌, ◌*◌, Bool, true, false, cond, not, max, ◌&&◌, ◌||◌, List, [], ◌∷◌, ◌++◌, Option, Some, None, refl, sym, ap, ◌∙◌, subst}
+use Rattle.std.proofs.Common.{◌≡◌, ℕ, ◌+◌, ◌-◌, ◌*◌, Bool, true, false, cond, not, max, ◌&&◌, ◌||◌, List, [], ◌∷◌, ◌++◌, Option, Some, None, refl, sym, ap, ◌∙◌}
 use Rattle.std.specs.Prelude.{nat_lt}
 use Rattle.std.specs.List.{list_all}
-use Rattle.std.proofs.lemmas.Bool.{and_from, and_parts, true≢false}
+use Rattle.std.proofs.lemmas.Bool.{and_parts, true≢false}
 use Rattle.gsl_words.specs.declared.module.Instr.{Instr}
 use Rattle.gsl_words.specs.declared.module.Module.{Module}
 use Rattle.gsl_instr.specs.declared.enumerant.decoration.TheConstants as decoration
-use Rattle.gsl_instr.specs.declared.instruction.Instruction.{Instruction}
 use Rattle.gsl_valid.specs.Decorations.{number_on, number_on_member}
-use Rattle.gsl_valid.specs.Ids.{defined, defines, needs, result}
+use Rattle.gsl_valid.specs.Ids.{defined, defines, result}
 use Rattle.gsl_valid.specs.Instruction.{read}
 use Rattle.gsl_valid.specs.Kinds as kinds
 use Rattle.gsl_valid.specs.Kinds.{Shape, kind, shape_in, shape_of, value_of}
 use Rattle.gsl_valid.specs.LayoutRules.{array_of, end_after, end_limit, end_of_last, extent, extent_as, greatest_end, is_at, is_end, is_in_block, is_laid, is_part_of_blocks, is_stride, laid, laid_if, may_be_in, may_grow, need, need_as, type_laid}
 use Rattle.gsl_valid.specs.Placed.{Code}
-use Rattle.gsl_valid.specs.Types.{defined_as, parts_in, parts_of}
+use Rattle.gsl_valid.specs.Types.{defined_as, parts_in}
 use Rattle.gsl_fitting_sections.proofs.Firsts.{precedes_shape}
 use Rattle.gsl_fitting_sections.proofs.Heights.{parts_used}
-use Rattle.gsl_fitting_sections.proofs.Outside.{Closed, Lies, precedes}
+use Rattle.gsl_fitting_sections.proofs.Outside.{Closed, Lies}
 use Rattle.gsl_fitting_sections.proofs.Outside.Lies.{headed, named, marked, declared}
 use Rattle.gsl_fitting_sections.proofs.Plain.{heads_precedes}
 

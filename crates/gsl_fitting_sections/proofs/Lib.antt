@@ -13,3 +13,4 @@ pub mod Interface
 pub mod Entry
 pub mod Entering
 pub mod Valid
+mod Example

@@ -1,5 +1,5 @@
 -- Decorations stand where they may, and variables have those that they need (V7).
-use Rattle.std.proofs.Common.{◌≡◌, ℕ, Bool, true, false, cond, not, ◌&&◌, ◌||◌, List, [], ◌∷◌, ◌++◌, Option, Some, None, refl, sym, ap, ◌∙◌, subst, if◌then◌else◌}
+use Rattle.std.proofs.Common.{◌≡◌, Bool, true, false, not, ◌&&◌, ◌||◌, [], ◌∷◌, ◌++◌, Option, Some, None, refl, sym, ap, ◌∙◌, if◌then◌else◌}
 use Rattle.std.specs.Prelude.{◌==◌}
 use Rattle.std.specs.List.{AllByRecursion, list_any}
 use Rattle.std.specs.Option.{option_map_or}
@@ -8,7 +8,7 @@ use Rattle.gsl_words.specs.declared.module.Instr.{Instr}
 use Rattle.gsl_words.specs.declared.module.Module.{Module}
 use Rattle.gsl_instr.specs.declared.enumerant.decoration.TheConstants as decoration
 use Rattle.gsl_instr.specs.declared.enumerant.storage_class.TheConstants as storage_class
-use Rattle.gsl_valid.specs.DecorationRules.{decorated, decorates, decoration_kept, differ, has_literals, is_bound_to, is_bound_variable, is_decorated, may_stand, pointee, variable_decorated}
+use Rattle.gsl_valid.specs.DecorationRules.{decorated, decoration_kept, differ, has_literals, is_bound_to, is_bound_variable, may_stand, pointee, variable_decorated}
 use Rattle.gsl_valid.specs.Decorations.{has, number_on, stands_on}
 use Rattle.gsl_valid.specs.Instruction.{read}
 use Rattle.gsl_valid.specs.Kinds as kinds

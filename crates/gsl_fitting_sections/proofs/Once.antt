@@ -1,8 +1,6 @@
 -- Ids that are kept apart by counting are defined once (V2).
-use Rattle.std.proofs.Common.{◌≡◌, ℕ, ◌+◌, ◌<◌, ◌≤◌, Bool, true, false, cond, not, ◌&&◌, ◌||◌, List, [], ◌∷◌, ◌++◌, Option, Some, None, refl, sym, ap, ◌∙◌, subst, arith}
-use Rattle.std.specs.Prelude.{◌==◌}
-use Rattle.std.proofs.lemmas.Bool.{and_from, eq-eqb, le-leb, lt-ltb, not_from_false, or_cases, true≢false}
-use Rattle.gsl_words.specs.declared.module.Instr.{Instr}
+use Rattle.std.proofs.Common.{◌≡◌, ℕ, ◌+◌, ◌<◌, ◌≤◌, Bool, true, false, ◌||◌, List, [], ◌∷◌, ◌++◌, Option, Some, None, refl, sym, ap, ◌∙◌, subst, arith}
+use Rattle.std.proofs.lemmas.Bool.{and_from, eq-eqb, le-leb, lt-ltb, not_from_false, true≢false}
 use Rattle.gsl_base.specs.declared.stage.Stage.{Stage}
 use Rattle.gsl_base.specs.declared.stage.Stage.TheVariants.{Vertex, Fragment, Compute}
 use Rattle.gsl_instr.specs.Forms.{form_of}
@@ -16,7 +14,7 @@ use Rattle.gsl_spv.specs.Finished.{capabilities, entry_point, memory_models, mod
 use Rattle.gsl_spv.specs.Growing.{all_of}
 use Rattle.gsl_spv.specs.Once.{interface_of}
 use Rattle.gsl_spv.specs.Sections.{Sections}
-use Rattle.gsl_fitting_sections.specs.Sections.{AreApart, AreSound, count_of, one_if}
+use Rattle.gsl_fitting_sections.specs.Sections.{AreSound, count_of, one_if}
 use Rattle.gsl_fitting_sections.proofs.Parts.{front, head, parts_are}
 
 count_append : (id : ℕ) (a b : Code) → count_of id (a ++ b) ≡ count_of id a + count_of id b

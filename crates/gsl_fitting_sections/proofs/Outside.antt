@@ -1,5 +1,5 @@
 -- Where the instructions outside functions stand, and what they are there.
-use Rattle.std.proofs.Common.{◌≡◌, ℕ, ◌≤◌, Bool, true, false, cond, not, ◌&&◌, IsTrue, List, [], ◌∷◌, ◌++◌, Option, Some, None, refl, sym, ap, ◌∙◌, subst, arith}
+use Rattle.std.proofs.Common.{◌≡◌, ℕ, ◌≤◌, Bool, true, false, IsTrue, [], ◌∷◌, ◌++◌, refl, sym, ap, ◌∙◌, arith}
 use Rattle.std.specs.Prelude.{nat_le}
 use Rattle.std.specs.List.{AllByRecursion, list_all}
 use Rattle.std.proofs.lemmas.Bool.{and_from, cond-true, le-leb, true≢false}
@@ -13,7 +13,7 @@ use Rattle.gsl_valid.specs.LocalityRules.{of_block}
 use Rattle.gsl_valid.specs.Placed.{Code}
 use Rattle.gsl_valid.specs.Search.{Passes, Test, passed}
 use Rattle.gsl_valid.specs.Sections.{has_numbers, may_come}
-use Rattle.gsl_valid.specs.Where.{Standing, Outside, section_in, where_at}
+use Rattle.gsl_valid.specs.Where.{Outside, section_in, where_at}
 use Rattle.gsl_valid.specs.Types.{defined_as}
 use Rattle.gsl_valid.proofs.Lookups.{defined_behind}
 use Rattle.gsl_fitting_code.specs.Kept.{is_outer}

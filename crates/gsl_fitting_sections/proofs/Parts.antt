@@ -1,5 +1,5 @@
 -- The parts of the module of some sections: what stands before names, and what stands before functions.
-use Rattle.std.proofs.Common.{◌≡◌, ℕ, List, [], ◌∷◌, ◌++◌, Option, Some, None, ap}
+use Rattle.std.proofs.Common.{◌≡◌, ℕ, List, [], ◌∷◌, ◌++◌, Option, ap}
 use Rattle.gsl_base.specs.declared.stage.Stage.{Stage}
 use Rattle.gsl_valid.specs.Placed.{Code}
 use Rattle.gsl_spv.specs.Calls.{imports_of}

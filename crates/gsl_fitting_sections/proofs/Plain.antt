@@ -1,5 +1,5 @@
 -- Rules that look at an instruction outside functions and at nothing before it, or at what is defined before it.
-use Rattle.std.proofs.Common.{◌≡◌, ℕ, Bool, true, false, cond, not, ◌&&◌, ◌||◌, List, [], ◌∷◌, ◌++◌, drop, Option, Some, None, refl, sym, ap, ◌∙◌, subst}
+use Rattle.std.proofs.Common.{◌≡◌, ℕ, true, false, not, [], drop, Option, Some, None, refl, sym, ap, ◌∙◌}
 use Rattle.std.specs.List.{list_all}
 use Rattle.std.proofs.lemmas.Bool.{and_from, and_parts, cond-false, not_from_false, not-true, or_left, or_right, true≢false}
 use Rattle.gsl_words.specs.declared.module.Instr.{Instr}
@@ -13,7 +13,7 @@ use Rattle.gsl_valid.specs.ExtendedRules.{extended_kept, extended_of}
 use Rattle.gsl_valid.specs.FunctionRules.{in_shape, may_stand_here}
 use Rattle.gsl_valid.specs.GlobalRules.{global_kept, is_global}
 use Rattle.gsl_valid.specs.Ids.{defined, mentions, needs}
-use Rattle.gsl_valid.specs.Instruction.{is_such, passes_if, read}
+use Rattle.gsl_valid.specs.Instruction.{passes_if, read}
 use Rattle.gsl_valid.specs.Kinds as kinds
 use Rattle.gsl_valid.specs.Kinds.{Kind, constant_in, kind, variable_in}
 use Rattle.gsl_valid.specs.LocalityRules.{is_near, of_block, of_function, uses_near}
@@ -22,15 +22,15 @@ use Rattle.gsl_valid.specs.OperandRules.{operands_typed, typed}
 use Rattle.gsl_valid.specs.Placed.{Code}
 use Rattle.gsl_valid.specs.ReturnRules.{may_return, returns_kept}
 use Rattle.gsl_valid.specs.Search.{from_here}
-use Rattle.gsl_valid.specs.Sections.{has_numbers, in_section, may_come}
+use Rattle.gsl_valid.specs.Sections.{in_section, may_come}
 use Rattle.gsl_valid.specs.StructureRules.{begins_structured}
-use Rattle.gsl_valid.specs.Types.{begins, defined_as, function_begins}
+use Rattle.gsl_valid.specs.Types.{defined_as}
 use Rattle.gsl_valid.specs.Where.{Outside, section_in, where_at}
 use Rattle.gsl_fitting_code.specs.Kept.{is_outer}
 use Rattle.gsl_fitting_code.proofs.Fronts.{defined_left, outer_no_function}
 use Rattle.gsl_fitting_code.proofs.Near.{all_as}
 use Rattle.gsl_fitting_sections.specs.Sections.{declares, is_lasting}
-use Rattle.gsl_fitting_sections.proofs.Outside.{Headed, Lies, declares_outer, declares_section, heads, past_comes, precedes}
+use Rattle.gsl_fitting_sections.proofs.Outside.{Lies, declares_outer, declares_section, heads, past_comes, precedes}
 use Rattle.gsl_fitting_sections.proofs.Outside.Lies.{headed, named, marked, declared}
 
 heads_outer : (k : Kind) → heads k ≡ true → is_outer k ≡ true

@@ -1,8 +1,8 @@
 -- The module of sound sections passes a test where each instruction outside functions does, and each of its functions.
-use Rattle.std.proofs.Common.{◌≡◌, ℕ, ◌≤◌, Bool, true, false, cond, ◌&&◌, ◌||◌, IsTrue, List, [], ◌∷◌, ◌++◌, Option, Some, None, refl, sym, ap, ◌∙◌, subst, arith, ◌⊎◌, inl, inr}
+use Rattle.std.proofs.Common.{◌≡◌, ℕ, Bool, true, false, cond, ◌||◌, IsTrue, List, [], ◌∷◌, ◌++◌, refl, sym, ap, ◌∙◌, subst, arith, ◌⊎◌, inl, inr}
 use Rattle.std.specs.Prelude.{◌==◌}
 use Rattle.std.specs.List.{AllByRecursion, list_all}
-use Rattle.std.proofs.lemmas.Bool.{and_from, and_parts, cases_Bool, cond-false, cond-true, eq-eqb, eqb-true, not_from_false, or_left, or_right, true≢false}
+use Rattle.std.proofs.lemmas.Bool.{and_from, and_parts, eq-eqb, eqb-true, not_from_false, or_left, or_right, true≢false}
 use Rattle.gsl_words.specs.declared.module.Instr.{Instr}
 use Rattle.gsl_words.specs.declared.module.Module.{Module}
 use Rattle.gsl_instr.specs.declared.enumerant.storage_class.TheConstants as storage_class
@@ -27,13 +27,12 @@ use Rattle.gsl_spv.specs.Sections.{Sections}
 use Rattle.gsl_fitting.specs.Fits as fits
 use Rattle.gsl_fitting_code.specs.Kept.{Stands, is_outer}
 use Rattle.gsl_fitting_code.proofs.Fronts.{defined_left, defined_right, definition_has, definition_left, mark_defined, outer_no_value}
-use Rattle.gsl_fitting_code.proofs.Near.{all_as}
 use Rattle.gsl_fitting_code.proofs.Places.{Plays}
 use Rattle.gsl_fitting_code.proofs.Walk.{functions_pass}
-use Rattle.gsl_fitting_sections.specs.Sections.{AreSound, Each, IsDeclaration, IsDecoration, IsName, declares, is_lasting}
+use Rattle.gsl_fitting_sections.specs.Sections.{AreSound, Each, IsDeclaration, IsDecoration, IsName, is_lasting}
 use Rattle.gsl_fitting_sections.proofs.Heads.{head_outer, head_past, head_pass, head_unmarked}
 use Rattle.gsl_fitting_sections.proofs.Once.{once_kept}
-use Rattle.gsl_fitting_sections.proofs.Outside.{Follows, Headed, Lies, Past, declarations_pass, declares_outer, lies_of, marks_pass, names_pass, past_comes, precedes, unmarked, wider}
+use Rattle.gsl_fitting_sections.proofs.Outside.{Follows, Lies, Past, declarations_pass, declares_outer, lies_of, marks_pass, names_pass, past_comes, precedes, unmarked, wider}
 use Rattle.gsl_fitting_sections.proofs.Outside.Lies.{headed}
 use Rattle.gsl_fitting_sections.proofs.Parts.{front, head, parts_are}
 
