@@ -17,7 +17,7 @@ use Rattle.gsl_spv.specs.Sections.{Sections}
 use Rattle.gsl_fitting_sections.specs.Sections.{AreSound, count_of, one_if}
 use Rattle.gsl_fitting_sections.proofs.Parts.{front, head, parts_are}
 
-count_append : (id : ℕ) (a b : Code) → count_of id (a ++ b) ≡ count_of id a + count_of id b
+pub count_append : (id : ℕ) (a b : Code) → count_of id (a ++ b) ≡ count_of id a + count_of id b
 count_append id [] b = omega arith
 count_append id (i ∷ a) b = let more = count_append id a b in omega (arith, more)
 

@@ -1,0 +1,5 @@
+pub mod Counting
+pub mod Joining
+pub mod Giving
+pub mod Declaring
+pub mod Adding
