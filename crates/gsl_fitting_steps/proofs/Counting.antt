@@ -1,10 +1,7 @@
 -- Ids stay apart where a builder takes or defines one.
-use Rattle.std.proofs.Common.{◌≡◌, ℕ, ◌+◌, ◌<◌, ◌≤◌, Bool, true, false, List, [], ◌∷◌, ◌++◌, Option, Some, None, refl, sym, ap, ◌∙◌, arith}
+use Rattle.std.proofs.Common.{◌≡◌, ℕ, ◌+◌, ◌<◌, ◌≤◌, Bool, true, false, refl, sym, ap, ◌∙◌, arith}
 use Rattle.std.specs.Prelude.{zero, suc, ◌==◌}
 use Rattle.std.proofs.lemmas.Bool.{eqb-true}
-use Rattle.gsl_words.specs.declared.module.Instr.{Instr}
-use Rattle.gsl_valid.specs.Ids.{defines, is_id, result}
-use Rattle.gsl_valid.specs.Instruction.{read}
 use Rattle.gsl_valid.specs.Placed.{Code}
 use Rattle.gsl_fitting_sections.specs.Sections.{AreApart, count_of, one_if}
 

@@ -1,19 +1,19 @@
 -- Declarations that are added once.
-use Rattle.std.proofs.Common.{◌≡◌, ℕ, ◌+◌, ◌≤◌, Bool, true, false, cond, List, [], ◌∷◌, ◌++◌, Option, Some, None, refl, sym, ap, ◌∙◌, subst, arith}
-use Rattle.std.specs.Prelude.{◌==◌, nat_le}
+use Rattle.std.proofs.Common.{◌≡◌, ℕ, ◌+◌, Bool, true, false, cond, List, [], ◌∷◌, ◌++◌, Option, Some, None, refl, ap, ◌∙◌, arith}
+use Rattle.std.specs.Prelude.{nat_le}
 use Rattle.gsl_words.specs.declared.module.Instr.{Instr}
 use Rattle.gsl_words.specs.declared.module.Module.{Module}
 use Rattle.gsl_valid.specs.Ids.{is_id, result}
 use Rattle.gsl_valid.specs.Instruction.{read}
 use Rattle.gsl_valid.specs.Placed.{Code}
 use Rattle.gsl_valid.specs.Search.{passed}
-use Rattle.gsl_spv.specs.Calls.{Out, declare, intern, known, out}
+use Rattle.gsl_spv.specs.Calls.{declare, intern, known}
 use Rattle.gsl_spv.specs.Declarations.{Declaration, defining}
 use Rattle.gsl_spv.specs.Growing.{all_of}
 use Rattle.gsl_spv.specs.Once.{id_of}
 use Rattle.gsl_spv.specs.Sections.{Sections}
 use Rattle.gsl_spv.specs.declared.refusal.TheConstants.{MOST_IDS}
-use Rattle.gsl_lower_values.specs.Building.{Built, Made, Full, id_by, within}
+use Rattle.gsl_lower_values.specs.Building.{Made, Full, id_by}
 use Rattle.gsl_fitting.specs.Fits.{Frame}
 use Rattle.gsl_fitting_sections.specs.Sections.{Each, IsDeclaration, count_of, one_if}
 use Rattle.gsl_fitting_sections.proofs.Once.{count_append}
@@ -35,22 +35,22 @@ declared_count s i id =
     let e = count_append id front s.globals in
     omega (arith, a, b, c, d, e)
 
+-- a declaration under the next id
+pub declare_fine : (m : Module) (d : Declaration) (s : Sections) → IsDeclaration m (passed [] s.globals) (defining d (s.last + 1)) → result (read (defining d (s.last + 1))) ≡ Some (s.last + 1) → Fine m s → Fine m (declare d s).sections
+declare_fine m d s may is h =
+    let i = defining d (s.last + 1) in
+    record {
+      set = h.set;
+      imports = h.imports;
+      names = h.names;
+      decorations = h.decorations;
+      globals = each_more (IsDeclaration m) [] s.globals i h.globals may;
+      apart = apart_more (s.last + 1) (all_of s) _ (s.last + 1) (omega arith) (omega arith) (λ id. declared_count s i id ∙ ap (λ o. count_of id (all_of s) + one_if (is_id id o)) is) h.apart;
+    }
+
 module _ (m : Module) (rank : ℕ → ℕ) (f : Frame) (given : List ℕ) where
-  -- a declaration under the next id
-  pub declare_goes : (d : Declaration) (s : Sections) → IsDeclaration m (passed [] s.globals) (defining d (s.last + 1)) → result (read (defining d (s.last + 1))) ≡ Some (s.last + 1) → Goes m rank f given given s (declare d s).sections
-  declare_goes d s may is =
-      let i = defining d (s.last + 1) in
-      record {
-        fine = λ h. record {
-          set = h.set;
-          imports = h.imports;
-          names = h.names;
-          decorations = h.decorations;
-          globals = each_more (IsDeclaration m) [] s.globals i h.globals may;
-          apart = apart_more (s.last + 1) (all_of s) _ (s.last + 1) (omega arith) (omega arith) (λ id. declared_count s i id ∙ ap (λ o. count_of id (all_of s) + one_if (is_id id o)) is) h.apart;
-        };
-        puts = nothing_put m rank f given s _ refl;
-      }
+  declare_goes : (d : Declaration) (s : Sections) → IsDeclaration m (passed [] s.globals) (defining d (s.last + 1)) → result (read (defining d (s.last + 1))) ≡ Some (s.last + 1) → Goes m rank f given given s (declare d s).sections
+  declare_goes d s may is = record { fine = declare_fine m d s may is; puts = nothing_put m rank f given s _ refl }
 
   known_goes : (d : Declaration) (s : Sections) → MayDeclare m d s → Goes m rank f given given s (intern d s).sections
   unfolding intern

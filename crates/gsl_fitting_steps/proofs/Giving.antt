@@ -1,5 +1,5 @@
 -- Instructions that are put.
-use Rattle.std.proofs.Common.{◌≡◌, ℕ, ◌+◌, ◌≤◌, Bool, true, false, cond, List, [], ◌∷◌, ◌++◌, Option, Some, None, refl, sym, ap, ◌∙◌, subst, arith}
+use Rattle.std.proofs.Common.{◌≡◌, ℕ, ◌+◌, Bool, true, false, cond, List, [], ◌∷◌, ◌++◌, Option, Some, None, refl, sym, ap, ◌∙◌, subst, arith}
 use Rattle.std.specs.Prelude.{◌==◌, nat_le, option_to_list}
 use Rattle.std.proofs.lemmas.Bool.{or_right}
 use Rattle.gsl_words.specs.declared.module.Instr.{Instr}
@@ -12,11 +12,11 @@ use Rattle.gsl_spv.specs.Declarations.{instr}
 use Rattle.gsl_spv.specs.Growing.{all_of}
 use Rattle.gsl_spv.specs.Sections.{Sections}
 use Rattle.gsl_spv.specs.declared.refusal.TheConstants.{MOST_IDS}
-use Rattle.gsl_lower_values.specs.Building.{Built, Made, Full, behind, giving, put_giving, putting, within}
+use Rattle.gsl_lower_values.specs.Building.{Made, Full, behind, giving, put_giving, putting}
 use Rattle.gsl_fitting.specs.Fits.{Fits, Frame, In}
 use Rattle.gsl_fitting_sections.specs.Sections.{count_of, one_if}
 use Rattle.gsl_fitting_sections.proofs.Once.{count_append}
-use Rattle.gsl_fitting_steps.specs.Keeping.{Fine, Goes, Keeps, Puts, Works}
+use Rattle.gsl_fitting_steps.specs.Keeping.{Goes, Keeps, Puts, Works}
 use Rattle.gsl_fitting_steps.proofs.Counting.{apart_more, apart_same}
 
 -- one more instruction of functions counts for what it defines

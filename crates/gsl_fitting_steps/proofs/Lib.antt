@@ -3,3 +3,4 @@ pub mod Joining
 pub mod Giving
 pub mod Declaring
 pub mod Adding
+pub mod Fine

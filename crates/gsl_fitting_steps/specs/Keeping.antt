@@ -1,24 +1,33 @@
 -- What it is for a step of lowering to keep the judgement, and what a builder holds on the way.
-use Rattle.std.specs.Prelude.{◌≡◌, ℕ, ◌+◌, ◌≤◌, true, List, [], ◌∷◌, ◌++◌, Option, Some, None}
-use Rattle.std.specs.List.{AllByRecursion}
+use Rattle.std.specs.Prelude.{◌≡◌, ℕ, ◌+◌, ◌≤◌, true, false, List, [], ◌++◌, Option, Some, None}
+use Rattle.std.specs.List.{AllByRecursion, list_any}
 use Rattle.gsl_words.specs.declared.module.Instr.{Instr}
 use Rattle.gsl_words.specs.declared.module.Module.{Module}
 use Rattle.gsl_blocks.specs.declared.around.Around.{Around}
 use Rattle.gsl_blocks.specs.declared.around.Due.{Due}
-use Rattle.gsl_valid.specs.EntryRules.{is_among}
+use Rattle.gsl_valid.specs.CallRules.{most_calls}
+use Rattle.gsl_valid.specs.EntryRules.{is_among, is_call_of, is_main}
 use Rattle.gsl_valid.specs.Ids.{result}
 use Rattle.gsl_valid.specs.Instruction.{read}
 use Rattle.gsl_valid.specs.Kinds.{kind}
 use Rattle.gsl_valid.specs.Placed.{Code}
 use Rattle.gsl_valid.specs.Search.{passed}
+use Rattle.gsl_valid.specs.Sections.{most_bound}
+use Rattle.gsl_valid.specs.Types.{defined_as}
 use Rattle.gsl_spv.specs.Calls.{imports_of}
 use Rattle.gsl_spv.specs.Declarations.{Declaration, defining}
+use Rattle.gsl_spv.specs.Finished.{module_of}
 use Rattle.gsl_spv.specs.Growing.{all_of}
 use Rattle.gsl_spv.specs.Once.{id_of}
 use Rattle.gsl_spv.specs.Sections.{Sections}
 use Rattle.gsl_lower_values.specs.Building.{Built, Made, Full}
 use Rattle.gsl_fitting.specs.Fits.{Fits, Frame, In, Sits, works}
-use Rattle.gsl_fitting_sections.specs.Sections.{AreApart, count_of, Each, IsDeclaration, IsDecoration, IsName}
+use Rattle.gsl_fitting.specs.Functions.{AreFunctions}
+use Rattle.gsl_fitting_sections.specs.Sections.{AreApart, count_of, Each, HasSizes, IsDeclaration, IsDecoration, IsName}
+
+-- the id that an instruction defines
+abbrev pub defined_by : Instr → Option ℕ
+defined_by i = result (read i)
 
 -- What a builder holds so far may stand in a module.
 pub record Fine (m : Module) (s : Sections) : Type 0 where
@@ -51,12 +60,12 @@ Keeps m rank f given now before Full = Unit {0}
 pub record Works (m : Module) (rank : ℕ → ℕ) (f : Frame) (given : List ℕ) (i : Instr) (id : Option ℕ) : Type 0 where
   pub works : works (kind (read i)) ≡ true
   pub sits : Sits m rank f given i
-  pub gives : result (read i) ≡ id
+  pub gives : defined_by i ≡ id
 
 -- A declaration may be added to what a builder holds, if it is not there.
 pub record MayDeclare (m : Module) (d : Declaration) (s : Sections) : Type 0 where
   pub declares : id_of d s.globals ≡ None → IsDeclaration m (passed [] s.globals) (defining d (s.last + 1))
-  pub defines : (id : ℕ) → result (read (defining d id)) ≡ Some id
+  pub defines : (id : ℕ) → defined_by (defining d id) ≡ Some id
 
 -- An id has been taken, and nothing defines it yet.
 pub record IsOwed (s : Sections) (id : ℕ) : Type 0 where
@@ -68,3 +77,13 @@ pub record IsOwed (s : Sections) (id : ℕ) : Type 0 where
 abbrev pub DefinesOwed : Sections → Option ℕ → Type 0
 DefinesOwed s None = Unit {0}
 DefinesOwed s (Some id) = IsOwed s id
+
+-- What else sections have to be, once all has been put.
+pub record IsWhole (s : Sections) (main : ℕ) (local_size : List ℕ) : Type 0 where
+  pub rank : ℕ → ℕ
+  pub bound : s.last + 1 ≤ most_bound
+  pub functions : AreFunctions (module_of s main local_size) rank s.functions
+  pub shallow : (id : ℕ) → rank id ≤ most_calls
+  pub main_is : is_main (module_of s main local_size) (defined_as (module_of s main local_size) main) ≡ true
+  pub uncalled : list_any (λ i. is_call_of main (read i)) s.functions ≡ false
+  pub sizes : HasSizes s.stage local_size

@@ -5,4 +5,6 @@
 
 mod laws;
 
-pub use laws::{declarations_keep, instructions_keep, steps_join};
+pub use laws::{
+    builders_stay_fine, declarations_keep, fine_sections_are_sound, instructions_keep, steps_join,
+};
