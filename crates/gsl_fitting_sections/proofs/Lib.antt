@@ -9,8 +9,3 @@ pub mod Marks
 pub mod Heights
 pub mod Layouts
 pub mod Kept
-pub mod Interface
-pub mod Entry
-pub mod Entering
-pub mod Valid
-mod Example

@@ -1,12 +1,9 @@
 //! Laws of the definitions: calls that do nothing, whose contracts are the laws.
 
-ghost use Rattle.std.specs.Prelude.{ℕ, List};
-ghost use Rattle.gsl_words.specs.Instructions.{HasFile};
 ghost use Rattle.gsl_valid.specs.CallRules.{calls};
 ghost use Rattle.gsl_valid.specs.ConstantRules.{constants};
 ghost use Rattle.gsl_valid.specs.DecorationRules.{decorations};
 ghost use Rattle.gsl_valid.specs.DefinedBeforeUse.{defined_before_use};
-ghost use Rattle.gsl_valid.specs.EntryRules.{entry};
 ghost use Rattle.gsl_valid.specs.ExtendedRules.{extended};
 ghost use Rattle.gsl_valid.specs.FunctionRules.{function_shape};
 ghost use Rattle.gsl_valid.specs.GlobalRules.{globals};
@@ -20,10 +17,7 @@ ghost use Rattle.gsl_valid.specs.ReturnRules.{returns};
 ghost use Rattle.gsl_valid.specs.Sections.{sections};
 ghost use Rattle.gsl_valid.specs.StructureRules.{structure};
 ghost use Rattle.gsl_valid.specs.TypeRules.{types};
-ghost use Rattle.gsl_valid.specs.Valid.{Valid};
-ghost use Rattle.gsl_spv.specs.Finished.{module_of};
-ghost use Rattle.gsl_spv.specs.Sections.{Sections};
-ghost use Rattle.gsl_fitting_sections.specs.Sections.{AreSound, Unbroken};
+ghost use Rattle.gsl_fitting_sections.specs.Sections.{Unbroken};
 
 /// Sections are in their order, with the numbers that they may have (V1).
 pub fn sections_are_in_order()
@@ -49,11 +43,6 @@ pub fn sections_decorate_as_they_may()
     ensures layouts { Unbroken layouts }
 {}
 
-/// The entry point is as it has to be, with its mode and its interface (V9).
-pub fn sections_have_an_entry_point()
-    ensures { Unbroken entry }
-{}
-
 /// Functions are shaped as they have to be (V10), call as they may (V11), and have structured blocks (V12).
 pub fn sections_have_functions()
     ensures shape { Unbroken function_shape }
@@ -77,9 +66,4 @@ pub fn sections_are_typed()
 /// No limit is passed (V18).
 pub fn sections_are_within_limits()
     ensures { Unbroken limits }
-{}
-
-/// The module of sound sections is valid, if it has a file.
-pub fn sections_make_valid_modules()
-    ensures { (s : Sections) (main : ℕ) (local_size : List ℕ) → AreSound s main local_size → HasFile (module_of s main local_size) → Valid (module_of s main local_size) }
 {}

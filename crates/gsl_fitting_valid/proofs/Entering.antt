@@ -30,8 +30,8 @@ use Rattle.gsl_fitting_code.proofs.Places.Plays.{starting, parameter, opening, v
 use Rattle.gsl_fitting_code.proofs.Quiet as quiet
 use Rattle.gsl_fitting_code.proofs.Walk.{functions_pass}
 use Rattle.gsl_fitting_sections.specs.Sections.{AreSound, IsDeclaration, IsDecoration, IsName}
-use Rattle.gsl_fitting_sections.proofs.Entry.{any_both, any_none, declares_no_mode, entries_pass, filter_append, filter_none, head_modes, modes_fit, outer_no_call, passes_all, the_modes}
-use Rattle.gsl_fitting_sections.proofs.Interface.{interface_differs, listed, same_interface}
+use Rattle.gsl_fitting_valid.proofs.Entry.{any_both, any_none, declares_no_mode, entries_pass, filter_append, filter_none, head_modes, modes_fit, outer_no_call, passes_all, the_modes}
+use Rattle.gsl_fitting_valid.proofs.Interface.{interface_differs, listed, same_interface}
 use Rattle.gsl_fitting_sections.proofs.Marks.{precedes_variable}
 use Rattle.gsl_fitting_sections.proofs.Once.{once_kept}
 use Rattle.gsl_fitting_sections.proofs.Outside.{precedes}

@@ -6,7 +6,7 @@ use Rattle.gsl_valid.proofs.Rules.{valid_each}
 use Rattle.gsl_spv.specs.Finished.{module_of}
 use Rattle.gsl_spv.specs.Sections.{Sections}
 use Rattle.gsl_fitting_sections.specs.Sections.{AreSound}
-use Rattle.gsl_fitting_sections.proofs.Entering.{entry_none}
+use Rattle.gsl_fitting_valid.proofs.Entering.{entry_none}
 use Rattle.gsl_fitting_sections.proofs.Kept.{calls_none, constants_none, decorations_none, extended_none, globals_none, layouts_none, limits_none, locality_none, memory_none, once_none, operands_none, returns_none, sections_none, shape_none, structure_none, types_none, uses_none}
 
 module _ (s : Sections) (main : ℕ) (local_size : List ℕ) (sound : AreSound s main local_size) where

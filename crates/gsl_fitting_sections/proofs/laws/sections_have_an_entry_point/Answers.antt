@@ -1,5 +1,0 @@
-use Rattle.gsl_fitting_sections.proofs.Entering.{entry_none}
-use Rattle.gsl_fitting_sections.proofs.laws.sections_have_an_entry_point.Goals as goal
-
-pub returns : goal.returns
-returns c = entry_none

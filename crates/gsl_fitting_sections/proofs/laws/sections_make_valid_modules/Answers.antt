@@ -1,5 +1,0 @@
-use Rattle.gsl_fitting_sections.proofs.Valid.{sections_valid}
-use Rattle.gsl_fitting_sections.proofs.laws.sections_make_valid_modules.Goals as goal
-
-pub returns : goal.returns
-returns c = sections_valid
