@@ -13,12 +13,9 @@ use Rattle.gsl_valid.specs.Placed.{Code}
 use Rattle.gsl_valid.specs.StructureRules.{begins_structured, is_structured}
 use Rattle.gsl_valid.specs.Types.{begins, function_begins}
 use Rattle.gsl_fitting.specs.Fits.{works}
+use Rattle.gsl_fitting_code.proofs.Roles.{works_no_function}
 use Rattle.gsl_fitting_code.proofs.Places.{Plays}
 use Rattle.gsl_fitting_code.proofs.Places.Plays.{starting, parameter, opening, variable, inside, ending}
-
-works_no_function : (k : Kind) → works k ≡ true → begins k ≡ false
-works_no_function (kinds.Begins type id function_type) h = absurd (true≢false (sym h))
-works_no_function _ h = refl
 
 module _ (m : Module) (rank : ℕ → ℕ) where
   no_function : (before : Code) (i : Instr) → function_begins (read i) ≡ false → begins_structured m before i ≡ true

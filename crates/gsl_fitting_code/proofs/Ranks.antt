@@ -12,11 +12,11 @@ use Rattle.gsl_valid.specs.Kinds as kinds
 use Rattle.gsl_valid.specs.Kinds.{Kind, kind}
 use Rattle.gsl_valid.specs.Placed.{Code}
 use Rattle.gsl_valid.specs.Types.{begins, function_begins}
-use Rattle.gsl_fitting.specs.Fits.{At, CallsOne, Fits, Frame, Sits, works}
+use Rattle.gsl_fitting.specs.Fits.{At, CallsOne, Fits, Frame, Sits}
 use Rattle.gsl_fitting.specs.Functions.{AreFunctions, AreParameters, IsFunction, IsLocal}
 use Rattle.gsl_fitting_code.specs.Kept.{Stands, is_outer}
 use Rattle.gsl_fitting_code.proofs.Fronts.{outer_no_function}
-use Rattle.gsl_fitting_code.proofs.Roles.{ends_kind, merges_kind, opens_label}
+use Rattle.gsl_fitting_code.proofs.Roles.{ends_kind, merges_kind, opens_label, works_no_function}
 
 module _ (rank : ℕ → ℕ) where
   -- these functions are of lower ranks
@@ -70,14 +70,10 @@ module _ (rank : ℕ → ℕ) where
 abbrev NoneBegins : Code → Type 0
 NoneBegins code = AllByRecursion (λ i. function_begins (read i) ≡ false) code
 
-works_begins : (k : Kind) → works k ≡ true → begins k ≡ false
-works_begins (kinds.Begins type id function_type) h = absurd (true≢false (sym h))
-works_begins _ h = refl
-
 fits_begins : (m : Module) (rank : ℕ → ℕ) (f : Frame) (code : Code) (at : At) → Fits m rank f code at → NoneBegins code
 fits_begins m rank f _ _ Fits.over = tt
 fits_begins m rank f _ _ (Fits.opens {i} {code} {l} role on) = (ap function_begins (opens_label (read i) l role), fits_begins m rank f code _ on)
-fits_begins m rank f _ _ (Fits.goes {i} {code} work sits on) = (works_begins (kind (read i)) work, fits_begins m rank f code _ on)
+fits_begins m rank f _ _ (Fits.goes {i} {code} work sits on) = (works_no_function (kind (read i)) work, fits_begins m rank f code _ on)
 fits_begins m rank f _ _ (Fits.ends {i} {code} t role may sits on) = (ap begins (ends_kind (read i) _ role), fits_begins m rank f code _ on)
 fits_begins m rank f _ _ (Fits.leads {i} {code} t role may sits on) = (ap begins (ends_kind (read i) _ role), fits_begins m rank f code _ on)
 fits_begins m rank f _ _ (Fits.turns {i} {code} t u role may sits on) = (ap begins (ends_kind (read i) _ role), fits_begins m rank f code _ on)

@@ -1,5 +1,5 @@
 -- What an instruction is to its blocks says what it is to its function.
-use Rattle.std.proofs.Common.{◌≡◌, ℕ, true, Option, Some, None, refl, sym, subst}
+use Rattle.std.proofs.Common.{◌≡◌, ℕ, true, false, Option, Some, None, refl, sym, subst}
 use Rattle.std.proofs.lemmas.Bool.{true≢false}
 use Rattle.gsl_instr.specs.declared.instruction.Instruction.{Instruction}
 use Rattle.gsl_instr.specs.declared.instruction.Instruction.TheVariants as instruction
@@ -10,6 +10,7 @@ use Rattle.gsl_blocks.specs.declared.block.Role.TheVariants.{Opens, Merges, Ends
 use Rattle.gsl_blocks.specs.Blocks.{role_or}
 use Rattle.gsl_valid.specs.Kinds as kinds
 use Rattle.gsl_valid.specs.Kinds.{Kind, kind}
+use Rattle.gsl_valid.specs.Types.{begins}
 use Rattle.gsl_fitting.specs.Fits.{works}
 
 -- what works stands inside its block
@@ -17,6 +18,11 @@ pub works_inside : (d : Option Instruction) → works (kind d) ≡ true → role
 works_inside None h = refl
 works_inside (Some instruction.Kill) h = absurd (true≢false (sym h))
 works_inside (Some _) h = cc
+
+-- and begins no function
+pub works_no_function : (k : Kind) → works k ≡ true → begins k ≡ false
+works_no_function (kinds.Begins type id function_type) h = absurd (true≢false (sym h))
+works_no_function _ h = refl
 
 -- what a role says of the kind
 abbrev pub Says : Role → Option Instruction → Type 0

@@ -13,7 +13,6 @@ use Rattle.gsl_valid.specs.Ids.{defined, definition, defines, is_id, result}
 use Rattle.gsl_valid.specs.Instruction.{read}
 use Rattle.gsl_valid.specs.Kinds as kinds
 use Rattle.gsl_valid.specs.Kinds.{Kind, kind}
-use Rattle.gsl_valid.specs.LocalityRules as locality
 use Rattle.gsl_valid.specs.LocalityRules.{of_block}
 use Rattle.gsl_valid.specs.Placed.{Code}
 use Rattle.gsl_valid.specs.Search.{Passes, Test, passed}
@@ -26,7 +25,7 @@ use Rattle.gsl_spv.specs.Once.{interface_at, interface_of, variable_interface}
 use Rattle.gsl_spv.specs.Sections.{Sections}
 use Rattle.gsl_fitting.specs.Fits as fits
 use Rattle.gsl_fitting_code.specs.Kept.{Stands, is_outer}
-use Rattle.gsl_fitting_code.proofs.Fronts.{defined_left, defined_right, definition_has, definition_left, mark_defined, outer_no_value}
+use Rattle.gsl_fitting_code.proofs.Fronts.{defined_left, defined_right, definition_has, definition_left, mark_defined, mark_not_of_block, outer_no_value}
 use Rattle.gsl_fitting_code.proofs.Places.{Plays}
 use Rattle.gsl_fitting_code.proofs.Walk.{functions_pass}
 use Rattle.gsl_fitting_sections.specs.Sections.{AreSound, Each, IsDeclaration, IsDecoration, IsName, is_lasting}
@@ -70,11 +69,6 @@ unmarked_precedes _ h = h
 main_begins : (m : Module) (k : Kind) → begins_main m k ≡ true → fits.begins k ≡ true
 main_begins m (kinds.Begins type id function_type) h = refl
 main_begins m _ h = absurd (true≢false (sym h))
-
-mark_no_value : (k : Kind) → fits.begins k ≡ true → locality.gives_value k ≡ false
-mark_no_value (kinds.Begins type id function_type) h = refl
-mark_no_value kinds.Opens h = refl
-mark_no_value _ h = absurd (true≢false (sym h))
 
 -- The interface is defined by the globals -------------------------------------------------------------------------------
 
@@ -147,7 +141,7 @@ module _ (s : Sections) (main : ℕ) (local_size : List ℕ) (sound : AreSound s
 
   entry_lasting : list_all (is_lasting m) (main ∷ interface_of s.globals) ≡ true
   entry_lasting =
-      and_from _ _ (and_from _ _ (mark_defined m main main_mark) (not_from_false _ (mark_no_value (kind (defined_as m main)) main_mark))) (interface_holds (is_lasting m) s.globals global_lasting)
+      and_from _ _ (and_from _ _ (mark_defined m main main_mark) (not_from_false _ (mark_not_of_block m main main_mark))) (interface_holds (is_lasting m) s.globals global_lasting)
 
   -- Where the sections begin
   abbrev before_decorations : Code
