@@ -34,9 +34,9 @@ module _ (structs : List StructType) (ps : List Passed) (params : List (Directio
       ∙ ap (λ l. all_back structs (p ∷ drop (k + 1) ps) l (map type_of (drop k es)) flow) (opened params k param at_param)
       ∙ ap (λ l. all_back structs (p ∷ drop (k + 1) ps) (param ∷ drop (k + 1) params) (map type_of l) flow) (opened es k e at_e)
 
-  pub back_on : (k : ℕ) (p : Passed) (param : Direction × Ty) (e : Expr) (before after : Flow) (whole : Lowered (Unit {0})) → slice_get ps k ≡ Some p → slice_get params k ≡ Some param → slice_get es k ≡ Some e
-      → back structs param.1 (type_of e) p before ≡ Gives tt after → rest k before ≡ whole → rest (k + 1) after ≡ whole
-  back_on k p param e before after whole at_p at_param at_e is so_far =
+  pub back_on : (k : ℕ) (p : Passed) (param : Direction × Ty) (e : Expr) (done : Unit {0}) (before after : Flow) (whole : Lowered (Unit {0})) → slice_get ps k ≡ Some p → slice_get params k ≡ Some param → slice_get es k ≡ Some e
+      → back structs param.1 (type_of e) p before ≡ Gives done after → rest k before ≡ whole → rest (k + 1) after ≡ whole
+  back_on k p param e done before after whole at_p at_param at_e is so_far =
       sym (ap (λ r. behind r (λ done. rest (k + 1))) is) ∙ sym (back_opens k p param e at_p at_param at_e before) ∙ so_far
 
   pub back_stops : (k : ℕ) (p : Passed) (param : Direction × Ty) (e : Expr) (why : BuildRefusal) (before : Flow) (whole : Lowered (Unit {0})) → slice_get ps k ≡ Some p → slice_get params k ≡ Some param → slice_get es k ≡ Some e

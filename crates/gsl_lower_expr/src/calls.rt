@@ -1,6 +1,6 @@
 //! Calls of functions of the program: arguments that go by pointer, and what comes back.
 
-ghost use Rattle.std.specs.Prelude.{◌≡◌, ◌∷◌, IfOk, map};
+ghost use Rattle.std.specs.Prelude.{◌≡◌, ◌∷◌, ◌<◌, IfOk, Some, length, map, slice_get};
 ghost use Rattle.gsl_tree.specs.Shapes as shapes;
 ghost use Rattle.gsl_tree.specs.Trees as trees;
 ghost use Rattle.gsl_types.specs.declared.ty.Ty.TheViews.{out-Ty};
@@ -9,6 +9,7 @@ ghost use Rattle.gsl_lower_expr.specs.Calls as spec;
 
 use crate::access::{copied, operand, shape_or};
 use crate::lowerer::Lowerer;
+use crate::rows::expr_at;
 use gsl_base::{List, Memory};
 use gsl_instr::op;
 use gsl_lower_holders::{FlowPlace, fetch_reached, hold_reached, id_in, keep, take_back, type_id};
@@ -16,7 +17,7 @@ use gsl_lower_places::Reached;
 use gsl_lower_values::{converted, give};
 use gsl_spv::{BuildRefusal, Builder, PlainConst, PlainType};
 use gsl_tree::{Exprs, Params};
-use gsl_types::Ty;
+use gsl_types::{Direction, Ty};
 use gsl_typing::shape_of;
 use gsl_words::Args;
 use std::alloc::Global;
@@ -85,6 +86,21 @@ fn coming_back(
         waits,
         back: Some(kept),
     })
+}
+
+/// A parameter by its place.
+pub(crate) fn param_at(params: &Params, k: usize) -> &(Direction, Ty)
+    requires { k < length params.now }
+    ensures { slice_get params.now k ≡ Some result.now }
+{
+    &params[k]
+}
+
+fn passed_at(passed: &[Passed], k: usize) -> &Passed
+    requires { k < length passed.now }
+    ensures { slice_get passed.now k ≡ Some result.now }
+{
+    &passed[k]
 }
 
 /// The pointers of arguments behind the id of a function.
@@ -197,16 +213,18 @@ impl<'a> Lowerer<'a> {
         b: &mut Builder,
         p: &FlowPlace,
         params: &Params,
-        args: &Exprs,
+        es: &Exprs,
         passed: &[Passed],
     ) -> Result<(), BuildRefusal>
-        ensures { Does result b.new p.now (spec.all_back self.now.shapes.now passed.now params.now (map trees.type_of args.now) (flow_of b.old p.now)) }
+        ensures { Does result b.new p.now (spec.all_back self.now.shapes.now passed.now params.now (map trees.type_of es.now) (flow_of b.old p.now)) }
     {
         for k in 0..passed.len() {
-            if k >= params.len() || k >= args.len() {
+            if k >= params.len() || k >= es.len() {
                 return Err(BuildRefusal::Memory);
             }
-            self.back(b, p, &params[k].1, &args[k].ty, &passed[k])?;
+            let param = param_at(params, k);
+            let e = expr_at(es, k);
+            self.back(b, p, &param.1, &e.ty, passed_at(passed, k))?;
         }
         Ok(())
     }

@@ -6,7 +6,7 @@ ghost use Rattle.gsl_lower_expr.specs.Coming as coming;
 ghost use Rattle.gsl_lower_holders.specs.Flow.{Does, flow_of};
 
 use crate::access::{operand, shape_or};
-use crate::calls::{Passed, Passing, going_in};
+use crate::calls::{Passed, Passing, going_in, param_at};
 use crate::found::Found;
 use crate::rows::{count_splits, left_behind, swizzled};
 use gsl_base::List;
@@ -355,20 +355,20 @@ impl<'a> Lowerer<'a> {
         &self,
         b: &mut Builder,
         p: &mut FlowPlace,
-        args: &Exprs,
+        es: &Exprs,
         params: &Params,
     ) -> Result<Passing, BuildRefusal>
-        ensures { Does result b.new p.new (coming.passes_all (coming.setting_of self.now.shapes.now self.now.interfaces.now self.now.prototypes.now) args.now params.now (flow_of b.old p.old)) }
+        ensures { Does result b.new p.new (coming.passes_all (coming.setting_of self.now.shapes.now self.now.interfaces.now self.now.prototypes.now) es.now params.now (flow_of b.old p.old)) }
     {
-        let mut left = count_splits(args)?;
+        let mut left = count_splits(es)?;
         let mut passed = List::new(self.alloc);
-        for k in 0..args.len() {
-            left = left_behind(left, &args[k])?;
+        for k in 0..es.len() {
+            left = left_behind(left, &es[k])?;
             if k >= params.len() {
                 return Err(BuildRefusal::Memory);
             }
-            let param = &params[k];
-            let one = self.passes(b, p, left > 0, param.0, &param.1, &args[k])?;
+            let param = param_at(params, k);
+            let one = self.passes(b, p, left > 0, param.0, &param.1, &es[k])?;
             passed.push(one)?;
         }
         Ok(passed)

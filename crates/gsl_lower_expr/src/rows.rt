@@ -44,7 +44,7 @@ fn own_split(e: &Expr) -> Result<usize, Memory>
 }
 
 /// An expression by its place.
-fn expr_at(es: &Exprs, k: usize) -> &Expr
+pub(crate) fn expr_at(es: &Exprs, k: usize) -> &Expr
     requires { k < length es.now }
     ensures { slice_get es.now k ≡ Some result.now }
 {

@@ -1,5 +1,5 @@
 -- What a function of the program is lowered to (GLSL 4.50, 6.1; SPIR-V 1.0, 2.4 and 3.32.9).
-use Rattle.std.specs.Prelude.{ℕ, Bool, true, false, List, [], ◌∷◌, slice_get, Option, Some, None}
+use Rattle.std.specs.Prelude.{ℕ, Bool, true, false, List, [], ◌∷◌, ◌++◌, slice_get, Option, Some, None}
 use Rattle.gsl_instr.specs.declared.op.TheConstants as op
 use Rattle.gsl_instr.specs.declared.enumerant.storage_class.TheConstants as storage_class
 use Rattle.gsl_types.specs.declared.ty.Direction.{Direction}
@@ -45,12 +45,15 @@ headed id prototype =
     result_type prototype.result >>= (λ result. each parameter_type prototype.params >>= (λ pointers. lift (id_by (call.function_type result pointers)) >>= (λ type.
     putting_here op.FUNCTION (result ∷ id ∷ 0 ∷ type ∷ []) >>= (λ a. each parameter pointers >>= (λ params. fresh >>= (λ label. opening label >>= (λ b. given params)))))))
 
+abbrev pub holder_type : Need → List Ty
+holder_type (Holder t) = t ∷ []
+holder_type (Built t) = []
+holder_type (Stage var) = []
+
 -- the types of the holders that are asked for, in their order
 abbrev pub holder_types : List Need → List Ty
 holder_types [] = []
-holder_types (Holder t ∷ needs) = t ∷ holder_types needs
-holder_types (Built t ∷ needs) = holder_types needs
-holder_types (Stage var ∷ needs) = holder_types needs
+holder_types (one ∷ needs) = holder_type one ++ holder_types needs
 
 -- holders for what is asked for
 unfoldable pub holders : List Need → Emit (List ℕ)

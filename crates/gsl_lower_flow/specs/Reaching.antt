@@ -1,5 +1,6 @@
 -- Which functions are lowered: `main`, and those that it reaches by calls.
-use Rattle.std.specs.Prelude.{ℕ, Bool, ◌||◌, nat_eq, if◌then◌else◌, List, [], ◌∷◌, slice_get, Option, Some, None}
+use Rattle.std.specs.Prelude.{ℕ, Bool, ◌||◌, nat_eq, List, slice_get, Option, Some, None}
+use Rattle.std.specs.List.{list_any}
 use Rattle.gsl_tree.specs.declared.program.Program.{Program}
 use Rattle.gsl_tree.specs.declared.unit.Function.{Function}
 use Rattle.gsl_link_calls.specs.Calls.{reaches}
@@ -16,10 +17,10 @@ main_head p = head_of (slice_get p.functions p.main)
 abbrev pub is_reached : List Function → ℕ → ℕ → Bool
 is_reached functions main head = nat_eq main head || reaches functions main head
 
--- the functions that are lowered, in their order
-abbrev pub among_reached : List Function → ℕ → List Function → List Function
-among_reached functions main [] = []
-among_reached functions main (f ∷ rest) = if is_reached functions main f.prototype then f ∷ among_reached functions main rest else among_reached functions main rest
+-- whether a function is lowered
+abbrev pub is_lowered : Program → Function → Bool
+is_lowered p f = is_reached p.functions (main_head p) f.prototype
 
-abbrev pub lowered_functions : Program → List Function
-lowered_functions p = among_reached p.functions (main_head p) p.functions
+-- the same where the heads of the functions that `main` reaches are these
+abbrev pub is_among : List ℕ → ℕ → Function → Bool
+is_among heads main f = nat_eq main f.prototype || list_any (nat_eq f.prototype) heads

@@ -1,6 +1,6 @@
 //! What stands outside functions.
 
-ghost use Rattle.std.specs.Prelude.{◌≡◌};
+ghost use Rattle.std.specs.Prelude.{◌≡◌, ◌<◌, ◌++◌, IfOk, Some, length, slice_get};
 ghost use Rattle.gsl_tree.specs.WellTyped.{IsProgram};
 ghost use Rattle.gsl_spv.specs.Calls.{take};
 ghost use Rattle.gsl_tree.specs.declared.unit.Prototype.{Prototype as OnePrototype};
@@ -8,7 +8,7 @@ ghost use Rattle.gsl_lower_values.specs.Building as steps;
 ghost use Rattle.gsl_lower_types.specs.Known as puts;
 ghost use Rattle.gsl_lower_flow.specs.Programs as spec;
 
-use gsl_base::List;
+use gsl_base::{List, Memory};
 use gsl_lower_expr::stage_number;
 use gsl_lower_holders::{FlowPlace, Ids, TypeIds};
 use gsl_lower_needs::{Need, Needs};
@@ -17,9 +17,22 @@ use gsl_lower_types::{
     value_type,
 };
 use gsl_spv::{BuildRefusal, Builder};
-use gsl_tree::{Program, Prototypes, StageVar};
+use gsl_tree::{Program, Prototype, Prototypes, StageVar};
 use gsl_words::Target;
 use std::alloc::Global;
+
+fn fresh_id(b: &mut Builder) -> Result<u32, BuildRefusal>
+    ensures { steps.Does result b.new (steps.id_by take b.old) }
+{
+    b.id()
+}
+
+fn prototype_at(prototypes: &Prototypes, k: usize) -> &Prototype
+    requires { k < length prototypes.now }
+    ensures { slice_get prototypes.now k ≡ Some result.now }
+{
+    &prototypes[k]
+}
 
 /// An id for each head of a function.
 fn heads(alloc: Global, b: &mut Builder, prototypes: &Prototypes) -> Result<Ids, BuildRefusal>
@@ -27,8 +40,8 @@ fn heads(alloc: Global, b: &mut Builder, prototypes: &Prototypes) -> Result<Ids,
 {
     let mut ids = List::new(alloc);
     for k in 0..prototypes.len() {
-        let _prototype = &prototypes[k];
-        ids.push(b.id()?)?;
+        let _prototype = prototype_at(prototypes, k);
+        ids.push(fresh_id(b)?)?;
     }
     Ok(ids)
 }
@@ -99,24 +112,41 @@ fn stage_if(b: &mut Builder, asked: &Needs, var: StageVar) -> Result<u32, BuildR
     Ok(0)
 }
 
-/// The built-in variables by their numbers.
-const STAGE_VARS: [StageVar; 7] = [
-    StageVar::NumWorkGroups,
-    StageVar::WorkGroupId,
-    StageVar::LocalInvocationId,
-    StageVar::GlobalInvocationId,
-    StageVar::LocalInvocationIndex,
-    StageVar::VertexIndex,
-    StageVar::InstanceIndex,
-];
-
-fn stages(alloc: Global, b: &mut Builder, asked: &Needs) -> Result<Ids, BuildRefusal>
-    ensures { steps.Does result b.new (steps.in_order (spec.stage_if asked.now) spec.stage_vars b.old) }
+fn compute_stages(b: &mut Builder, asked: &Needs) -> Result<[u32; 5], BuildRefusal>
+    ensures { steps.Does result b.new (spec.compute_stages asked.now b.old) }
 {
-    let mut ids = List::new(alloc);
-    for var in STAGE_VARS {
-        ids.push(stage_if(b, asked, var)?)?;
-    }
+    let groups = stage_if(b, asked, StageVar::NumWorkGroups)?;
+    let group = stage_if(b, asked, StageVar::WorkGroupId)?;
+    let local = stage_if(b, asked, StageVar::LocalInvocationId)?;
+    let global = stage_if(b, asked, StageVar::GlobalInvocationId)?;
+    let index = stage_if(b, asked, StageVar::LocalInvocationIndex)?;
+    Ok([groups, group, local, global, index])
+}
+
+fn vertex_stages(b: &mut Builder, asked: &Needs) -> Result<[u32; 2], BuildRefusal>
+    ensures { steps.Does result b.new (spec.vertex_stages asked.now b.old) }
+{
+    let vertex = stage_if(b, asked, StageVar::VertexIndex)?;
+    let instance = stage_if(b, asked, StageVar::InstanceIndex)?;
+    Ok([vertex, instance])
+}
+
+fn joined(alloc: Global, first: [u32; 5], second: [u32; 2]) -> Result<Ids, Memory>
+    ensures { IfOk result (λ l. l ≡ first ++ second) }
+{
+    let mut ids = List::from_slice(alloc, &first)?;
+    ids.extend_from_slice(&second)?;
+    Ok(ids)
+}
+
+/// The ids of the built-in variables by their numbers.
+#[tactic(auto, unfolding(crate::specs::Programs::stages))]
+fn stages(alloc: Global, b: &mut Builder, asked: &Needs) -> Result<Ids, BuildRefusal>
+    ensures { steps.Does result b.new (spec.stages asked.now b.old) }
+{
+    let first = compute_stages(b, asked)?;
+    let second = vertex_stages(b, asked)?;
+    let ids = joined(alloc, first, second)?;
     Ok(ids)
 }
 

@@ -1,6 +1,6 @@
 //! A function of the program.
 
-ghost use Rattle.std.specs.Prelude.{◌≡◌, IfOk};
+ghost use Rattle.std.specs.Prelude.{◌≡◌, ◌<◌, ◌++◌, IfOk, OnOk, Some, length, slice_get};
 ghost use Rattle.gsl_types.specs.declared.ty.Ty.TheViews.{out-Ty};
 ghost use Rattle.gsl_lower_expr.specs.Coming.{setting_of};
 ghost use Rattle.gsl_lower_holders.specs.Flow.{Does, each, flow_of};
@@ -17,6 +17,7 @@ use gsl_lower_values::give;
 use gsl_spv::{BuildRefusal, Builder, PlainConst, PlainType};
 use gsl_tree::{Function, Params, Prototype};
 use gsl_types::{Direction, Ty, Types};
+use gsl_typing::copy;
 use std::alloc::Global;
 
 /// A variable of the function, which begins as zeros.
@@ -30,6 +31,13 @@ fn variable(alloc: Global, b: &mut Builder, p: &FlowPlace, ty: &Ty) -> Result<u3
     give(alloc, b, op::VARIABLE, &[storage_class::FUNCTION, zero], pointer)
 }
 
+fn type_at(types: &Types, k: usize) -> &Ty
+    requires { k < length types.now }
+    ensures { slice_get types.now k ≡ Some result.now }
+{
+    &types[k]
+}
+
 fn variables(
     alloc: Global,
     b: &mut Builder,
@@ -40,7 +48,7 @@ fn variables(
 {
     let mut ids = List::new(alloc);
     for k in 0..types.len() {
-        ids.push(variable(alloc, b, p, &types[k])?)?;
+        ids.push(variable(alloc, b, p, type_at(types, k))?)?;
     }
     Ok(ids)
 }
@@ -57,6 +65,13 @@ fn parameter_type(
     b.plain_type(PlainType::Pointer(storage_class::FUNCTION, t))
 }
 
+fn param_at(params: &Params, k: usize) -> &(Direction, Ty)
+    requires { k < length params.now }
+    ensures { slice_get params.now k ≡ Some result.now }
+{
+    &params[k]
+}
+
 fn parameter_types(
     alloc: Global,
     b: &mut Builder,
@@ -67,7 +82,7 @@ fn parameter_types(
 {
     let mut ids = List::new(alloc);
     for k in 0..params.len() {
-        ids.push(parameter_type(b, p, &params[k])?)?;
+        ids.push(parameter_type(b, p, param_at(params, k))?)?;
     }
     Ok(ids)
 }
@@ -84,6 +99,13 @@ fn parameter(
     give(alloc, b, op::FUNCTION_PARAMETER, &[], pointer)
 }
 
+fn id_at(ids: &[u32], k: usize) -> &u32
+    requires { k < length ids.now }
+    ensures { slice_get ids.now k ≡ Some result.now }
+{
+    &ids[k]
+}
+
 fn parameters(
     alloc: Global,
     b: &mut Builder,
@@ -94,7 +116,7 @@ fn parameters(
 {
     let mut ids = List::new(alloc);
     for k in 0..pointers.len() {
-        ids.push(parameter(alloc, b, p, pointers[k])?)?;
+        ids.push(parameter(alloc, b, p, *id_at(pointers, k))?)?;
     }
     Ok(ids)
 }
@@ -120,7 +142,39 @@ fn headed(
     Ok(params)
 }
 
+/// The types of holders, with that of one more.
+fn with_type(alloc: Global, types: &mut Types, one: &Need) -> Result<(), Memory>
+    ensures { OnOk result (types.new ≡ types.old ++ spec.holder_type one.now) }
+{
+    match one {
+        Need::Holder(ty) => {
+            let same = copy(alloc, ty)?;
+            types.push(same)
+        }
+        Need::Built(_) | Need::Stage(_) => Ok(()),
+    }
+}
+
+fn need_at(asked: &Needs, k: usize) -> &Need
+    requires { k < length asked.now }
+    ensures { slice_get asked.now k ≡ Some result.now }
+{
+    &asked[k]
+}
+
+/// The types of the holders that are asked for, in their order.
+fn holder_types(alloc: Global, asked: &Needs) -> Result<Types, Memory>
+    ensures { IfOk result (λ l. l ≡ spec.holder_types asked.now) }
+{
+    let mut types = List::new(alloc);
+    for k in 0..asked.len() {
+        with_type(alloc, &mut types, need_at(asked, k))?;
+    }
+    Ok(types)
+}
+
 /// Holders for what is asked for.
+#[tactic(auto, unfolding(crate::specs::Functions::holders))]
 fn holders(
     alloc: Global,
     b: &mut Builder,
@@ -129,14 +183,8 @@ fn holders(
 ) -> Result<Ids, BuildRefusal>
     ensures { Does result b.new p.now (spec.holders asked.now (flow_of b.old p.now)) }
 {
-    let mut ids = List::new(alloc);
-    for k in 0..asked.len() {
-        match &asked[k] {
-            Need::Holder(ty) => ids.push(variable(alloc, b, p, ty)?)?,
-            Need::Built(_) | Need::Stage(_) => {}
-        }
-    }
-    Ok(ids)
+    let types = holder_types(alloc, asked)?;
+    variables(alloc, b, p, &types)
 }
 
 /// From here on these are the variables.

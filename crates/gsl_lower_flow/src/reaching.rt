@@ -1,6 +1,6 @@
 //! Which functions are lowered.
 
-ghost use Rattle.std.specs.Prelude.{◌≡◌, ℕ, nat_eq, IfOk, OnOk};
+ghost use Rattle.std.specs.Prelude.{◌≡◌, ℕ, nat_eq, slice_index, IfOk, OnOk};
 ghost use Rattle.std.specs.List.{list_any};
 ghost use Rattle.indexmap.specs.IndexSet.{insert_all};
 ghost use Rattle.gsl_link_calls.specs.Calls as calls;
@@ -26,7 +26,9 @@ fn called_by(alloc: Global, functions: &Functions, head: u32) -> Result<Ids, Mem
 }
 
 /// The head of a number in a set.
-fn numbered(heads: &IndexSet<u32>, at: usize) -> u32 {
+fn numbered(heads: &IndexSet<u32>, at: usize) -> u32
+    ensures { result ≡ slice_index heads.now.keys at }
+{
     match heads.get_index(at) {
         Some(head) => *head,
         None => 0,
@@ -42,16 +44,17 @@ fn add_all(heads: &mut IndexSet<u32>, callees: &[u32]) -> Result<(), Memory>
     Ok(())
 }
 
-/// The heads of `main` and of the functions that it reaches by calls.
+/// The heads of the functions that `main` reaches by calls.
 pub(crate) fn reached(
     alloc: Global,
     functions: &Functions,
     main: u32,
 ) -> Result<IndexSet<u32>, Memory>
-    ensures { IfOk result (λ found. (head : ℕ) → list_any (nat_eq head) found.keys ≡ spec.is_reached functions.now main head) }
+    ensures { IfOk result (λ found. (head : ℕ) → list_any (nat_eq head) found.keys ≡ calls.reaches functions.now main head) }
 {
     let mut found: IndexSet<u32> = IndexSet::new(alloc);
-    found.insert_full(main)?;
+    let first = called_by(alloc, functions, main)?;
+    add_all(&mut found, first.as_slice())?;
     let mut at = 0;
     while at < found.len() {
         let next = numbered(&found, at);
@@ -62,7 +65,21 @@ pub(crate) fn reached(
     Ok(found)
 }
 
+/// Whether a head is among those that were found.
+fn is_found(found: &IndexSet<u32>, head: u32) -> bool
+    ensures { result ≡ list_any (nat_eq head) found.now.keys }
+{
+    for at in 0..found.len() {
+        if numbered(found, at) == head {
+            return true;
+        }
+    }
+    false
+}
+
 /// Whether a function is lowered.
-pub(crate) fn is_among(found: &IndexSet<u32>, f: &Function) -> bool {
-    found.contains(&f.prototype)
+pub(crate) fn is_among(found: &IndexSet<u32>, main: u32, f: &Function) -> bool
+    ensures { result ≡ spec.is_among found.now.keys main f.now }
+{
+    main == f.prototype || is_found(found, f.prototype)
 }

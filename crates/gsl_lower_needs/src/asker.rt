@@ -1,6 +1,6 @@
 //! What is asked for at expressions: their parts from left to right.
 
-ghost use Rattle.std.specs.Prelude.{◌≡◌, ◌<◌, ◌+◌};
+ghost use Rattle.std.specs.Prelude.{◌≡◌, ◌<◌, Some, length, slice_get};
 ghost use Rattle.gsl_lower_needs.specs.Asking.{Does};
 ghost use Rattle.gsl_lower_needs.specs.Coming as coming;
 
@@ -278,16 +278,17 @@ impl<'a> Asker<'a> {
 
     /// At the arguments of a call from left to right.
     #[cycle(expressions)]
-    fn passes_all(&self, needs: &mut Needs, args: &Exprs, params: &Params) -> Result<(), Memory>
-        ensures { Does result needs.new (coming.passes_all self.now.prototypes.now args.now params.now needs.old) }
+    fn passes_all(&self, needs: &mut Needs, es: &Exprs, params: &Params) -> Result<(), Memory>
+        ensures { Does result needs.new (coming.passes_all self.now.prototypes.now es.now params.now needs.old) }
     {
-        let mut left = count_splits(args)?;
-        for k in 0..args.len() {
-            left = left_behind(left, &args[k])?;
+        let mut left = count_splits(es)?;
+        for k in 0..es.len() {
+            left = left_behind(left, &es[k])?;
             if k >= params.len() {
                 return Err(Memory);
             }
-            self.passes(needs, left > 0, params[k].0, &params[k].1, &args[k])?;
+            let param = param_at(params, k);
+            self.passes(needs, left > 0, param.0, &param.1, &es[k])?;
         }
         Ok(())
     }
@@ -320,4 +321,12 @@ impl<'a> Asker<'a> {
             }
         }
     }
+}
+
+/// A parameter by its place.
+fn param_at(params: &Params, k: usize) -> &(Direction, Ty)
+    requires { k < length params.now }
+    ensures { slice_get params.now k ≡ Some result.now }
+{
+    &params[k]
 }

@@ -110,7 +110,8 @@ impl<'a> Asker<'a> {
         ensures { Does result needs.new (spec.row self.now.prototypes.now ss.now needs.old) }
     {
         for k in 0..ss.len() {
-            if self.statement(needs, &ss[k])? {
+            let left = self.statement(needs, &ss[k])?;
+            if left {
                 return Ok(true);
             }
         }

@@ -1,2 +1,3 @@
+mod Labels
 mod Steps
 mod Turns

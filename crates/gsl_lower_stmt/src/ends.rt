@@ -1,12 +1,19 @@
 //! Ends of blocks, and the blocks of an `if`.
 
-ghost use Rattle.gsl_lower_holders.specs.Flow.{Does, flow_of};
+ghost use Rattle.gsl_lower_holders.specs.Flow.{Does, flow_of, fresh};
 ghost use Rattle.gsl_lower_stmt.specs.Parts as spec;
 
 use crate::labels::Fork;
 use gsl_instr::op;
 use gsl_lower_holders::{FlowPlace, opening};
 use gsl_spv::{BuildRefusal, Builder};
+
+/// A new id.
+pub(crate) fn fresh_id(b: &mut Builder, p: &FlowPlace) -> Result<u32, BuildRefusal>
+    ensures { Does result b.new p.now (fresh (flow_of b.old p.now)) }
+{
+    b.id()
+}
 
 /// A block goes on at a label.
 pub(crate) fn branch(b: &mut Builder, p: &FlowPlace, label: u32) -> Result<(), BuildRefusal>

@@ -9,7 +9,7 @@ use crate::body::Body;
 use crate::ends::{begin_else, begin_if, end_if, leave_by, seal};
 use crate::exits::Exits;
 use crate::loops::{begin_loop, begin_step, in_loop};
-use crate::switches::{begin_switch, in_switch, next_or};
+use crate::switches::{begin_switch, in_switch, label_at, next_or};
 use gsl_instr::op;
 use gsl_lower_holders::{FlowPlace, opening};
 use gsl_spv::{BuildRefusal, Builder};
@@ -121,7 +121,8 @@ impl<'a> Body<'a> {
         ensures { Does result b.new p.new (coming.row (setting_of self.now.lowerer.shapes.now self.now.lowerer.interfaces.now self.now.lowerer.prototypes.now) self.now.locals.now ss.now exits (flow_of b.old p.old)) }
     {
         for k in 0..ss.len() {
-            if self.statement(b, p, &ss[k], exits)? {
+            let left = self.statement(b, p, &ss[k], exits)?;
+            if left {
                 return Ok(true);
             }
         }
@@ -145,7 +146,8 @@ impl<'a> Body<'a> {
             if k >= labels.len() {
                 return Err(BuildRefusal::Memory);
             }
-            opening(b, p, labels[k])?;
+            let label = label_at(labels, k);
+            opening(b, p, *label)?;
             let left = self.row(b, p, &arms[k].body, in_switch(end, exits))?;
             seal(b, p, left, next_or(labels, k + 1, end))?;
         }

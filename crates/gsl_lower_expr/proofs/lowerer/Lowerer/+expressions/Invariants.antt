@@ -17,6 +17,6 @@ invariant-sequence-loop-k l =
 
 abbrev pub invariant-passes_all-loop-k : goal.invariant-passes_all-loop-k
 invariant-passes_all-loop-k l =
-    (l.left ≡ rows.count_splits (drop l.k l.args))
-    × (with_front l.passed (passes_all (setting_of l.self.shapes.now l.self.interfaces.now l.self.prototypes.now) (drop l.k l.args) (drop l.k l.params) (flow_of l.b l.p))
-    ≡ passes_all (setting_of l.self.shapes.now l.self.interfaces.now l.self.prototypes.now) l.args l.params (flow_of l.initial.b l.initial.p))
+    (l.left ≡ rows.count_splits (drop l.k l.es))
+    × (with_front l.passed (passes_all (setting_of l.self.shapes.now l.self.interfaces.now l.self.prototypes.now) (drop l.k l.es) (drop l.k l.params) (flow_of l.b l.p))
+    ≡ passes_all (setting_of l.self.shapes.now l.self.interfaces.now l.self.prototypes.now) l.es l.params (flow_of l.initial.b l.initial.p))
