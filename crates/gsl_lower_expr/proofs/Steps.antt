@@ -33,7 +33,7 @@ use Rattle.gsl_types.specs.declared.ty.StructType.{StructType}
 use Rattle.gsl_tree.specs.Weights.{params_of}
 use Rattle.gsl_tree.specs.declared.unit.Interface.{Interface}
 use Rattle.gsl_tree.specs.declared.unit.Prototype.{Prototype}
-use Rattle.gsl_lower_expr.specs.Calls.{called_with, going_in, passed_both, passed_out, passing, passing_all, tys}
+use Rattle.gsl_lower_expr.specs.Calls.{called_with as passed_with, going_in, passed_both, passed_out, passing, passing_all, tys}
 use Rattle.gsl_lower_expr.specs.Coming.{calls, passes, passes_all, setting_of, evaluates, finds, found_by, gave, keeps_all, leads, led, length_from, lengths, reached_from, reaches, sequence_of, valued_from}
 use Rattle.gsl_lower_expr.specs.Rows.{called_with, constructed_with, count_splits, fetches_all, one_if, typed_all, waits_for}
 use Rattle.gsl_lower_holders.specs.Waiting.{fetch, hold}
@@ -403,11 +403,11 @@ module _ (s : Setting) where
 -- a call of the function of a head, by the types of the trees
 pub calls-opens : (structs : List StructType) (interfaces : List Interface) (prototypes : List Prototype) (n : ℕ) (es : List Expr) (t : Ty) (flow : Flow)
     → calls (setting_of structs interfaces prototypes) n es t flow
-    ≡ behind (passes_all (setting_of structs interfaces prototypes) es (params_of (slice_get prototypes n)) flow) (called_with structs n (params_of (slice_get prototypes n)) (map type_of es) t)
+    ≡ behind (passes_all (setting_of structs interfaces prototypes) es (params_of (slice_get prototypes n)) flow) (passed_with structs n (params_of (slice_get prototypes n)) (map type_of es) t)
 unfolding calls passes_all lowers
 calls-opens structs interfaces prototypes n es t flow =
     let s = setting_of structs interfaces prototypes in
-    ap (λ l. behind (passing_all structs (map (into s) es) (params_of (slice_get prototypes n)) flow) (called_with structs n (params_of (slice_get prototypes n)) l t)) (tys_same s es)
+    ap (λ l. behind (passing_all structs (map (into s) es) (params_of (slice_get prototypes n)) flow) (passed_with structs n (params_of (slice_get prototypes n)) l t)) (tys_same s es)
 
 pub ruleset calls_step = (passes-In, passes-Out, passes-InOut, calls-opens, evaluates-opens, reaches-opens)
 

@@ -1,10 +1,12 @@
 //! Says whether the modules of shaders do what the shaders do: `cases FILE..` performs the shaders of cases by the definition of `gsl_meaning`,
-//! lowers each for both targets, and runs its modules by the definition of `gsl_machine`.
+//! lowers each for both versions, and runs the modules by the definition of `gsl_machine`. `docs/CASES.md` has the form of a case.
+//! `write DIR FILE..` does the same, and writes the modules to files in DIR.
 #![tactic(auto)]
 
 mod case;
 mod cases;
 mod sides;
+mod written;
 
 use crate::cases::run_cases;
 use gsl_base::{Memory, Text, Words};
