@@ -368,7 +368,7 @@ impl<'a> Lowerer<'a> {
                 return Err(BuildRefusal::Memory);
             }
             let param = param_at(params, k);
-            let one = self.passes(b, p, left > 0, param.0, &param.1, &es[k])?;
+            let one = self.passes(b, p, &es[k], left > 0, param.0, &param.1)?;
             passed.push(one)?;
         }
         Ok(passed)
@@ -381,10 +381,10 @@ impl<'a> Lowerer<'a> {
         &self,
         b: &mut Builder,
         p: &mut FlowPlace,
+        arg: &Expr,
         waits: bool,
         way: Direction,
         ty: &Ty,
-        arg: &Expr,
     ) -> Result<Passed, BuildRefusal>
         ensures { Does result b.new p.new (coming.passes (coming.setting_of self.now.shapes.now self.now.interfaces.now self.now.prototypes.now) waits way ty.now arg.now (flow_of b.old p.old)) }
     {

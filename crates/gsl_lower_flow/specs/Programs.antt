@@ -92,8 +92,18 @@ nothing_laid = record { std140 = []; std430 = [] }
 
 abbrev pub place : List ℕ → Known → List ℕ → List ℕ → List ℕ → List ℕ → List ℕ → FlowPlace
 place heads known blocks classes globals interfaces stages = record {
-  label = 0; locals = []; params = []; globals = globals; blocks = blocks; classes = classes; interfaces = interfaces; stage_vars = stages;
-  functions = heads; composites = known; holders = []; used = 0;
+  label = 0;
+  locals = [];
+  params = [];
+  globals = globals;
+  blocks = blocks;
+  classes = classes;
+  interfaces = interfaces;
+  stage_vars = stages;
+  functions = heads;
+  composites = known;
+  holders = [];
+  used = 0;
 }
 
 -- an id for each head, the types, and the variables outside functions

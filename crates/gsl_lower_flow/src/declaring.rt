@@ -170,7 +170,14 @@ pub(crate) fn declared(
         std140: List::new(alloc),
         std430: List::new(alloc),
     };
-    let blocks = blocks_put(alloc, b, &mut laid, target, &program.structs, &program.blocks)?;
+    let blocks = blocks_put(
+        alloc,
+        b,
+        &mut laid,
+        target,
+        &program.structs,
+        &program.blocks,
+    )?;
     let globals = globals_put(alloc, b, &mut known, &program.structs, &program.globals)?;
     let interfaces = interfaces_put(alloc, b, &mut known, &program.interfaces)?;
     let stage_vars = stages(alloc, b, asked)?;

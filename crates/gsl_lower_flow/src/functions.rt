@@ -28,7 +28,13 @@ fn variable(alloc: Global, b: &mut Builder, p: &FlowPlace, ty: &Ty) -> Result<u3
     let t = type_id(b, p, ty)?;
     let pointer = b.plain_type(PlainType::Pointer(storage_class::FUNCTION, t))?;
     let zero = b.constant(PlainConst::Null(t))?;
-    give(alloc, b, op::VARIABLE, &[storage_class::FUNCTION, zero], pointer)
+    give(
+        alloc,
+        b,
+        op::VARIABLE,
+        &[storage_class::FUNCTION, zero],
+        pointer,
+    )
 }
 
 fn type_at(types: &Types, k: usize) -> &Ty
@@ -278,7 +284,7 @@ fn needs_of(lowerer: Lowerer<'_>, f: &Function) -> Result<Needs, Memory>
         prototypes: lowerer.prototypes,
     };
     let mut asked = List::new(lowerer.alloc);
-    asker.body(&mut asked, &f.body)?;
+    asker.body(&f.body, &mut asked)?;
     Ok(asked)
 }
 

@@ -36,7 +36,7 @@ fn asked_if(asker: Asker<'_>, asked: &mut Needs, lowered: bool, f: &Function) ->
     if !lowered {
         return Ok(());
     }
-    asker.body(asked, &f.body)?;
+    asker.body(&f.body, asked)?;
     Ok(())
 }
 
@@ -150,7 +150,6 @@ fn put_by(
 }
 
 /// All of a program; and the id of its `main`.
-#[tactic(auto, using(crate::proofs::Found::lowered_same))]
 fn program_put(
     alloc: Global,
     b: &mut Builder,
@@ -169,11 +168,7 @@ fn program_put(
 }
 
 /// The module of a program for a target: of version 1.0 or 1.3, with `main` and the functions that it reaches by calls.
-pub fn lower_for(
-    alloc: Global,
-    target: Target,
-    program: &Program,
-) -> Result<Module, BuildRefusal>
+pub fn lower_for(alloc: Global, target: Target, program: &Program) -> Result<Module, BuildRefusal>
     requires { IsProgram program.now }
     ensures { spec.Answers target program.now result }
 {

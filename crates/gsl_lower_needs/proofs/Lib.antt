@@ -1,3 +1,3 @@
-mod Bodies
+mod StmtSteps
 mod Steps
 mod Turns

@@ -17,7 +17,7 @@ use Rattle.gsl_lower_needs.specs.Asking.{Ask, Asked, Asks, behind, ◌>>=◌, gi
 use Rattle.gsl_lower_needs.specs.Bodies.{arms, row, statement}
 use Rattle.gsl_lower_needs.specs.Coming.{evaluates, keeps_all, passes, passes_all, sequence_of}
 use Rattle.gsl_lower_needs.specs.Needs.{hold, holders, in_holder}
-use Rattle.gsl_lower_needs.proofs.Bodies.{arms-ends, arms-opens, row-ends, row-opens}
+use Rattle.gsl_lower_needs.proofs.StmtSteps.{arms-ends, arms-opens, row-ends, row-opens}
 use Rattle.gsl_lower_needs.proofs.Steps.{keeps-ends, keeps-opens, passes_all-ends, passes_all-opens, sequence-ends, sequence-opens}
 
 abbrev Needs : Type 0
@@ -48,13 +48,14 @@ module _ (s : List Prototype) (es : List Expr) where
       → evaluates s e before ≡ Asks first between → hold (nat_lt 0 n) (type_of typed) between ≡ Asks second after
       → (left ≡ count_splits (drop k es)) × (keeps_all s (drop k es) before ≡ whole) → (n ≡ count_splits (drop (k + 1) es)) × (keeps_all s (drop (k + 1) es) after ≡ whole)
   kept_on k e same typed left n first second before between after whole at_k at_same at_typed less is held so_far =
-      let now = left_on es k same left n at_same less so_far.0 in
-      (now,
-      ap (λ r. behind r (λ d. keeps_all s (drop (k + 1) es))) (sym held)
-      ∙ ap (λ c. behind (hold (nat_lt 0 c) (type_of typed) between) (λ d. keeps_all s (drop (k + 1) es))) now
-      ∙ ap (λ x. behind (hold (nat_lt 0 (count_splits (drop (k + 1) es))) (type_of x) between) (λ d. keeps_all s (drop (k + 1) es))) (some_one typed e (sym at_typed ∙ at_k))
-      ∙ ap (λ r. behind r (λ x. hold (nat_lt 0 (count_splits (drop (k + 1) es))) (type_of e) >>= (λ d. keeps_all s (drop (k + 1) es)))) (sym is)
-      ∙ sym (ap (λ l. keeps_all s l before) (opened es k e at_k) ∙ keeps-opens s e (drop (k + 1) es) before) ∙ so_far.1)
+      let now = left_on es k same left n at_same less so_far.0 in (
+        now,
+        ap (λ r. behind r (λ d. keeps_all s (drop (k + 1) es))) (sym held)
+            ∙ ap (λ c. behind (hold (nat_lt 0 c) (type_of typed) between) (λ d. keeps_all s (drop (k + 1) es))) now
+            ∙ ap (λ x. behind (hold (nat_lt 0 (count_splits (drop (k + 1) es))) (type_of x) between) (λ d. keeps_all s (drop (k + 1) es))) (some_one typed e (sym at_typed ∙ at_k))
+            ∙ ap (λ r. behind r (λ x. hold (nat_lt 0 (count_splits (drop (k + 1) es))) (type_of e) >>= (λ d. keeps_all s (drop (k + 1) es)))) (sym is)
+            ∙ sym (ap (λ l. keeps_all s l before) (opened es k e at_k) ∙ keeps-opens s e (drop (k + 1) es) before) ∙ so_far.1,
+      )
 
   pub kept_all : (k : ℕ) (needs : Needs) (whole : Asked (Unit {0})) → length es ≤ k → keeps_all s (drop k es) needs ≡ whole → whole ≡ Asks tt needs
   kept_all k needs whole past so_far = sym so_far ∙ ap (λ l. keeps_all s l needs) (drop_all k es past) ∙ keeps-ends s needs
@@ -70,12 +71,13 @@ module _ (s : List Prototype) (es : List Expr) where
       → n + own_split same ≡ left → passes s (nat_lt 0 n) param.0 param.1 e before ≡ Asks done after
       → (left ≡ count_splits (drop k es)) × (passes_all s (drop k es) (drop k params) before ≡ whole) → (n ≡ count_splits (drop (k + 1) es)) × (passes_all s (drop (k + 1) es) (drop (k + 1) params) after ≡ whole)
   passed_on params k e same param left n done before after whole at_k at_same at_param less is so_far =
-      let now = left_on es k same left n at_same less so_far.0 in
-      (now,
-      ap (λ r. behind r (λ d. passes_all s (drop (k + 1) es) (drop (k + 1) params))) (sym is)
-      ∙ ap (λ c. behind (passes s (nat_lt 0 c) param.0 param.1 e before) (λ d. passes_all s (drop (k + 1) es) (drop (k + 1) params))) now
-      ∙ sym (ap (λ l. passes_all s l (drop k params) before) (opened es k e at_k) ∙ ap (λ l. passes_all s (e ∷ drop (k + 1) es) l before) (opened params k param at_param)
-      ∙ passes_all-opens s e (drop (k + 1) es) param (drop (k + 1) params) before) ∙ so_far.1)
+      let now = left_on es k same left n at_same less so_far.0 in (
+        now,
+        ap (λ r. behind r (λ d. passes_all s (drop (k + 1) es) (drop (k + 1) params))) (sym is)
+            ∙ ap (λ c. behind (passes s (nat_lt 0 c) param.0 param.1 e before) (λ d. passes_all s (drop (k + 1) es) (drop (k + 1) params))) now
+            ∙ sym (ap (λ l. passes_all s l (drop k params) before) (opened es k e at_k) ∙ ap (λ l. passes_all s (e ∷ drop (k + 1) es) l before) (opened params k param at_param)
+            ∙ passes_all-opens s e (drop (k + 1) es) param (drop (k + 1) params) before) ∙ so_far.1,
+      )
 
   pub passed_all : (params : List (Direction × Ty)) (k : ℕ) (needs : Needs) (whole : Asked (Unit {0})) → length es ≤ k → passes_all s (drop k es) (drop k params) needs ≡ whole → whole ≡ Asks tt needs
   passed_all params k needs whole past so_far = sym so_far ∙ ap (λ l. passes_all s l (drop k params) needs) (drop_all k es past) ∙ passes_all-ends s (drop k params) needs

@@ -28,10 +28,10 @@ impl<'a> Asker<'a> {
     /// At the value of an expression.
     #[cycle(expressions)]
     #[tactic(auto, using(crate::proofs::Steps::asks_step))]
-    pub fn value(&self, needs: &mut Needs, e: &Expr) -> Result<(), Memory>
+    pub fn value(&self, e: &Expr, needs: &mut Needs) -> Result<(), Memory>
         ensures { Does result needs.new (coming.evaluates self.now.prototypes.now e.now needs.old) }
     {
-        let found = self.found(needs, &e.kind, &e.ty)?;
+        let found = self.found(&e.kind, &e.ty, needs)?;
         match found {
             Found::Place(lead) => reads(self.alloc, needs, &e.ty, &lead),
             Found::Value => Ok(()),
@@ -41,10 +41,10 @@ impl<'a> Asker<'a> {
     /// At what an expression leads to.
     #[cycle(expressions)]
     #[tactic(auto, using(crate::proofs::Steps::asks_step))]
-    fn reach(&self, needs: &mut Needs, e: &Expr) -> Result<Lead, Memory>
+    fn reach(&self, e: &Expr, needs: &mut Needs) -> Result<Lead, Memory>
         ensures { Does result needs.new (coming.reaches self.now.prototypes.now e.now needs.old) }
     {
-        let found = self.found(needs, &e.kind, &e.ty)?;
+        let found = self.found(&e.kind, &e.ty, needs)?;
         match found {
             Found::Place(lead) => Ok(lead),
             Found::Value => {
@@ -57,7 +57,7 @@ impl<'a> Asker<'a> {
     /// At a name, or at another form.
     #[cycle(expressions)]
     #[tactic(auto, using(crate::proofs::Steps::asks_step))]
-    fn found(&self, needs: &mut Needs, kind: &ExprKind, ty: &Ty) -> Result<Found, Memory>
+    fn found(&self, kind: &ExprKind, ty: &Ty, needs: &mut Needs) -> Result<Found, Memory>
         ensures { Does result needs.new (coming.finds self.now.prototypes.now kind.now ty.now needs.old) }
     {
         match kind {
@@ -71,19 +71,19 @@ impl<'a> Asker<'a> {
                 needs.push(Need::Stage(*var))?;
                 Ok(Found::Value)
             }
-            other => self.path(needs, other, ty),
+            other => self.path(other, ty, needs),
         }
     }
 
     /// At a part of what an expression leads to, or at another form.
     #[cycle(expressions)]
     #[tactic(auto, using(crate::proofs::Steps::asks_step))]
-    fn path(&self, needs: &mut Needs, kind: &ExprKind, ty: &Ty) -> Result<Found, Memory>
+    fn path(&self, kind: &ExprKind, ty: &Ty, needs: &mut Needs) -> Result<Found, Memory>
         ensures { Does result needs.new (coming.finds self.now.prototypes.now kind.now ty.now needs.old) }
     {
         match kind {
             ExprKind::Member(a, _) => {
-                let lead = self.reach(needs, a.get())?;
+                let lead = self.reach(a.get(), needs)?;
                 Ok(Found::Place(lead))
             }
             ExprKind::Index(a, i) => {
@@ -91,18 +91,18 @@ impl<'a> Asker<'a> {
                 let i = i.get();
                 let base = traits_of(a)?;
                 let index = traits_of(i)?;
-                let lead = self.reach(needs, a)?;
+                let lead = self.reach(a, needs)?;
                 let lead = spilled(self.alloc, needs, spills(&a.ty, base, index), &a.ty, lead)?;
                 hold_lead(self.alloc, needs, index.splits, &lead)?;
-                let by = self.index_by(needs, i, index.literal)?;
+                let by = self.index_by(i, index.literal, needs)?;
                 let lead = part_at(&a.ty, by, lead)?;
                 Ok(Found::Place(lead))
             }
             ExprKind::Swizzle(a, _) => {
-                let lead = self.reach(needs, a.get())?;
+                let lead = self.reach(a.get(), needs)?;
                 Ok(Found::Place(swizzled(lead)))
             }
-            other => self.operation(needs, other, ty),
+            other => self.operation(other, ty, needs),
         }
     }
 
@@ -110,16 +110,16 @@ impl<'a> Asker<'a> {
     #[cycle(expressions)]
     fn index_by(
         &self,
-        needs: &mut Needs,
         i: &Expr,
         literal: Option<u32>,
+        needs: &mut Needs,
     ) -> Result<Option<Scalar>, Memory>
         ensures { Does result needs.new (coming.index_of self.now.prototypes.now i.now literal needs.old) }
     {
         match literal {
             Some(_) => Ok(None),
             None => {
-                self.value(needs, i)?;
+                self.value(i, needs)?;
                 Ok(Some(shape_or(&i.ty).0))
             }
         }
@@ -128,44 +128,44 @@ impl<'a> Asker<'a> {
     /// At an operator on operands, or at another form.
     #[cycle(expressions)]
     #[tactic(auto, using(crate::proofs::Steps::asks_step))]
-    fn operation(&self, needs: &mut Needs, kind: &ExprKind, ty: &Ty) -> Result<Found, Memory>
+    fn operation(&self, kind: &ExprKind, ty: &Ty, needs: &mut Needs) -> Result<Found, Memory>
         ensures { Does result needs.new (coming.finds self.now.prototypes.now kind.now ty.now needs.old) }
     {
         match kind {
             ExprKind::Unary(_, a) | ExprKind::Convert(a) => {
-                self.value(needs, a.get())?;
+                self.value(a.get(), needs)?;
                 Ok(Found::Value)
             }
             ExprKind::Binary(_, left, right) => {
                 let left = left.get();
                 let right = right.get();
                 let t = traits_of(right)?;
-                self.value(needs, left)?;
+                self.value(left, needs)?;
                 hold(self.alloc, needs, t.splits, &left.ty)?;
-                self.value(needs, right)?;
+                self.value(right, needs)?;
                 Ok(Found::Value)
             }
             ExprKind::Logic(op, left, right) => {
                 let left = left.get();
                 let right = right.get();
                 let t = traits_of(right)?;
-                self.value(needs, left)?;
+                self.value(left, needs)?;
                 if is_short(*op, t) {
                     in_holder(self.alloc, needs, &Ty::One(Scalar::Bool))?;
                 } else {
                     hold(self.alloc, needs, t.splits, &left.ty)?;
                 }
-                self.value(needs, right)?;
+                self.value(right, needs)?;
                 Ok(Found::Value)
             }
-            other => self.choice(needs, other, ty),
+            other => self.choice(other, ty, needs),
         }
     }
 
     /// At `?:`, or at another form.
     #[cycle(expressions)]
     #[tactic(auto, using(crate::proofs::Steps::asks_step))]
-    fn choice(&self, needs: &mut Needs, kind: &ExprKind, ty: &Ty) -> Result<Found, Memory>
+    fn choice(&self, kind: &ExprKind, ty: &Ty, needs: &mut Needs) -> Result<Found, Memory>
         ensures { Does result needs.new (coming.finds self.now.prototypes.now kind.now ty.now needs.old) }
     {
         match kind {
@@ -174,77 +174,77 @@ impl<'a> Asker<'a> {
                 let no = no.get();
                 let first = traits_of(yes)?;
                 let second = traits_of(no)?;
-                self.value(needs, test.get())?;
+                self.value(test.get(), needs)?;
                 if !is_selected(ty, first, second) {
                     in_holder(self.alloc, needs, ty)?;
                 }
-                self.value(needs, yes)?;
-                self.value(needs, no)?;
+                self.value(yes, needs)?;
+                self.value(no, needs)?;
                 Ok(Found::Value)
             }
-            other => self.update(needs, other, ty),
+            other => self.update(other, ty, needs),
         }
     }
 
     /// At an assignment or a step, or at another form.
     #[cycle(expressions)]
     #[tactic(auto, using(crate::proofs::Steps::asks_step))]
-    fn update(&self, needs: &mut Needs, kind: &ExprKind, ty: &Ty) -> Result<Found, Memory>
+    fn update(&self, kind: &ExprKind, ty: &Ty, needs: &mut Needs) -> Result<Found, Memory>
         ensures { Does result needs.new (coming.finds self.now.prototypes.now kind.now ty.now needs.old) }
     {
         match kind {
             ExprKind::Assign(left, right) => {
                 let right = right.get();
                 let t = traits_of(right)?;
-                let lead = self.reach(needs, left.get())?;
+                let lead = self.reach(left.get(), needs)?;
                 hold_lead(self.alloc, needs, t.splits, &lead)?;
-                self.value(needs, right)?;
+                self.value(right, needs)?;
                 Ok(Found::Value)
             }
             ExprKind::Update(_, left, right) => {
                 let left = left.get();
                 let right = right.get();
                 let t = traits_of(right)?;
-                let lead = self.reach(needs, left)?;
+                let lead = self.reach(left, needs)?;
                 updated_at(self.alloc, needs, &left.ty, t, &lead)?;
-                self.value(needs, right)?;
+                self.value(right, needs)?;
                 Ok(Found::Value)
             }
             ExprKind::Step(_, a) => {
                 let a = a.get();
-                let lead = self.reach(needs, a)?;
+                let lead = self.reach(a, needs)?;
                 reads(self.alloc, needs, &a.ty, &lead)?;
                 Ok(Found::Value)
             }
-            other => self.row(needs, other, ty),
+            other => self.row(other, ty, needs),
         }
     }
 
     /// At a form with a row of parts.
     #[cycle(expressions)]
     #[tactic(auto, using(crate::proofs::Steps::asks_step))]
-    fn row(&self, needs: &mut Needs, kind: &ExprKind, ty: &Ty) -> Result<Found, Memory>
+    fn row(&self, kind: &ExprKind, ty: &Ty, needs: &mut Needs) -> Result<Found, Memory>
         ensures { Does result needs.new (coming.finds self.now.prototypes.now kind.now ty.now needs.old) }
     {
         match kind {
             ExprKind::Built(_, args) => {
-                self.keeps(needs, args)?;
+                self.keeps(args, needs)?;
                 Ok(Found::Value)
             }
             ExprKind::Build(args) => {
-                self.keeps(needs, args)?;
+                self.keeps(args, needs)?;
                 built_of(self.alloc, needs, ty)?;
                 Ok(Found::Value)
             }
             ExprKind::Comma(items) => {
-                self.sequence(needs, items)?;
+                self.sequence(items, needs)?;
                 Ok(Found::Value)
             }
             ExprKind::Call(number, args) => {
                 if *number as usize >= self.prototypes.len() {
                     return Err(Memory);
                 }
-                self.passes_all(needs, args, &self.prototypes[*number as usize].params)?;
+                self.passes_all(args, &self.prototypes[*number as usize].params, needs)?;
                 Ok(Found::Value)
             }
             _ => Err(Memory),
@@ -253,13 +253,13 @@ impl<'a> Asker<'a> {
 
     /// At expressions from left to right, of which each is kept where it has to wait.
     #[cycle(expressions)]
-    fn keeps(&self, needs: &mut Needs, es: &Exprs) -> Result<(), Memory>
+    fn keeps(&self, es: &Exprs, needs: &mut Needs) -> Result<(), Memory>
         ensures { Does result needs.new (coming.keeps_all self.now.prototypes.now es.now needs.old) }
     {
         let mut left = count_splits(es)?;
         for k in 0..es.len() {
             left = left_behind(left, &es[k])?;
-            self.value(needs, &es[k])?;
+            self.value(&es[k], needs)?;
             hold(self.alloc, needs, left > 0, &es[k].ty)?;
         }
         Ok(())
@@ -267,18 +267,18 @@ impl<'a> Asker<'a> {
 
     /// At expressions in their turn.
     #[cycle(expressions)]
-    fn sequence(&self, needs: &mut Needs, items: &Exprs) -> Result<(), Memory>
+    fn sequence(&self, items: &Exprs, needs: &mut Needs) -> Result<(), Memory>
         ensures { Does result needs.new (coming.sequence_of self.now.prototypes.now items.now needs.old) }
     {
         for k in 0..items.len() {
-            self.value(needs, &items[k])?;
+            self.value(&items[k], needs)?;
         }
         Ok(())
     }
 
     /// At the arguments of a call from left to right.
     #[cycle(expressions)]
-    fn passes_all(&self, needs: &mut Needs, es: &Exprs, params: &Params) -> Result<(), Memory>
+    fn passes_all(&self, es: &Exprs, params: &Params, needs: &mut Needs) -> Result<(), Memory>
         ensures { Does result needs.new (coming.passes_all self.now.prototypes.now es.now params.now needs.old) }
     {
         let mut left = count_splits(es)?;
@@ -288,7 +288,7 @@ impl<'a> Asker<'a> {
                 return Err(Memory);
             }
             let param = param_at(params, k);
-            self.passes(needs, left > 0, param.0, &param.1, &es[k])?;
+            self.passes(&es[k], left > 0, param.0, &param.1, needs)?;
         }
         Ok(())
     }
@@ -298,25 +298,25 @@ impl<'a> Asker<'a> {
     #[tactic(auto, using(crate::proofs::Steps::asks_step))]
     fn passes(
         &self,
-        needs: &mut Needs,
+        arg: &Expr,
         waits: bool,
         way: Direction,
         ty: &Ty,
-        arg: &Expr,
+        needs: &mut Needs,
     ) -> Result<(), Memory>
         ensures { Does result needs.new (coming.passes self.now.prototypes.now waits way ty.now arg.now needs.old) }
     {
         match way {
             Direction::In => {
-                self.value(needs, arg)?;
+                self.value(arg, needs)?;
                 in_holder(self.alloc, needs, ty)
             }
             Direction::Out => {
-                let lead = self.reach(needs, arg)?;
+                let lead = self.reach(arg, needs)?;
                 passed_out(self.alloc, needs, waits, ty, &lead)
             }
             Direction::InOut => {
-                let lead = self.reach(needs, arg)?;
+                let lead = self.reach(arg, needs)?;
                 passed_both(self.alloc, needs, waits, ty, &arg.ty, &lead)
             }
         }

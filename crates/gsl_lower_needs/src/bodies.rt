@@ -9,56 +9,56 @@ use gsl_base::Memory;
 use gsl_tree::{Arms, Expr, Stmt, Stmts};
 
 impl<'a> Asker<'a> {
-    #[tactic(auto, using(crate::proofs::Bodies::parts_step))]
-    fn any_value(&self, needs: &mut Needs, e: &Option<Expr>) -> Result<(), Memory>
+    #[tactic(auto, using(crate::proofs::StmtSteps::parts_step))]
+    fn any_value(&self, e: &Option<Expr>, needs: &mut Needs) -> Result<(), Memory>
         ensures { Does result needs.new (spec.any_value self.now.prototypes.now e.now needs.old) }
     {
         match e {
             None => Ok(()),
-            Some(e) => self.value(needs, e),
+            Some(e) => self.value(e, needs),
         }
     }
 
     /// At a statement; and whether it leaves.
     #[cycle(statements)]
-    #[tactic(auto, using(crate::proofs::Bodies::bodies_step))]
-    fn statement(&self, needs: &mut Needs, s: &Stmt) -> Result<bool, Memory>
+    #[tactic(auto, using(crate::proofs::StmtSteps::bodies_step))]
+    fn statement(&self, s: &Stmt, needs: &mut Needs) -> Result<bool, Memory>
         ensures { Does result needs.new (spec.statement self.now.prototypes.now s.now needs.old) }
     {
         match s {
             Stmt::Empty => Ok(false),
             Stmt::Eval(e) => {
-                self.value(needs, e)?;
+                self.value(e, needs)?;
                 Ok(false)
             }
             Stmt::Declare(_, init) => {
-                self.any_value(needs, init)?;
+                self.any_value(init, needs)?;
                 Ok(false)
             }
             Stmt::Break | Stmt::Continue | Stmt::Discard => Ok(true),
             Stmt::Return(e) => {
-                self.any_value(needs, e)?;
+                self.any_value(e, needs)?;
                 Ok(true)
             }
-            other => self.compound(needs, other),
+            other => self.compound(other, needs),
         }
     }
 
     /// At a statement with statements in it; and whether it leaves.
     #[cycle(statements)]
-    #[tactic(auto, using(crate::proofs::Bodies::bodies_step))]
-    fn compound(&self, needs: &mut Needs, s: &Stmt) -> Result<bool, Memory>
+    #[tactic(auto, using(crate::proofs::StmtSteps::bodies_step))]
+    fn compound(&self, s: &Stmt, needs: &mut Needs) -> Result<bool, Memory>
         ensures { Does result needs.new (spec.statement self.now.prototypes.now s.now needs.old) }
     {
         match s {
-            Stmt::Group(ss) => self.body(needs, ss),
+            Stmt::Group(ss) => self.body(ss, needs),
             Stmt::If(test, first, other) => {
-                self.value(needs, test)?;
-                self.statement(needs, first.get())?;
+                self.value(test, needs)?;
+                self.statement(first.get(), needs)?;
                 match other {
                     None => Ok(false),
                     Some(other) => {
-                        self.statement(needs, other.get())?;
+                        self.statement(other.get(), needs)?;
                         Ok(false)
                     }
                 }
@@ -69,12 +69,12 @@ impl<'a> Asker<'a> {
                 body,
                 test_last,
             } => {
-                self.looped(needs, test, step, body.get(), *test_last)?;
+                self.looped(body.get(), test, step, *test_last, needs)?;
                 Ok(false)
             }
             Stmt::Switch(e, arms) => {
-                self.value(needs, e)?;
-                self.arms(needs, arms)?;
+                self.value(e, needs)?;
+                self.arms(arms, needs)?;
                 Ok(false)
             }
             _ => Err(Memory),
@@ -83,34 +83,34 @@ impl<'a> Asker<'a> {
 
     /// At a loop.
     #[cycle(statements)]
-    #[tactic(auto, using(crate::proofs::Bodies::bodies_step))]
+    #[tactic(auto, using(crate::proofs::StmtSteps::bodies_step))]
     fn looped(
         &self,
-        needs: &mut Needs,
+        body: &Stmt,
         test: &Option<Expr>,
         step: &Option<Expr>,
-        body: &Stmt,
         test_last: bool,
+        needs: &mut Needs,
     ) -> Result<(), Memory>
         ensures { Does result needs.new (spec.loops self.now.prototypes.now test.now step.now body.now test_last needs.old) }
     {
         if test_last {
-            self.statement(needs, body)?;
-            self.any_value(needs, step)?;
-            return self.any_value(needs, test);
+            self.statement(body, needs)?;
+            self.any_value(step, needs)?;
+            return self.any_value(test, needs);
         }
-        self.any_value(needs, test)?;
-        self.statement(needs, body)?;
-        self.any_value(needs, step)
+        self.any_value(test, needs)?;
+        self.statement(body, needs)?;
+        self.any_value(step, needs)
     }
 
     /// At statements one behind the other; and whether one of them leaves, behind which nothing is asked for.
     #[cycle(statements)]
-    pub fn body(&self, needs: &mut Needs, ss: &Stmts) -> Result<bool, Memory>
+    pub fn body(&self, ss: &Stmts, needs: &mut Needs) -> Result<bool, Memory>
         ensures { Does result needs.new (spec.row self.now.prototypes.now ss.now needs.old) }
     {
         for k in 0..ss.len() {
-            let left = self.statement(needs, &ss[k])?;
+            let left = self.statement(&ss[k], needs)?;
             if left {
                 return Ok(true);
             }
@@ -119,11 +119,11 @@ impl<'a> Asker<'a> {
     }
 
     #[cycle(statements)]
-    fn arms(&self, needs: &mut Needs, arms: &Arms) -> Result<(), Memory>
+    fn arms(&self, arms: &Arms, needs: &mut Needs) -> Result<(), Memory>
         ensures { Does result needs.new (spec.arms self.now.prototypes.now arms.now needs.old) }
     {
         for k in 0..arms.len() {
-            self.body(needs, &arms[k].body)?;
+            self.body(&arms[k].body, needs)?;
         }
         Ok(())
     }

@@ -1,3 +1,3 @@
-mod Labels
 mod Steps
+mod Targets
 mod Turns

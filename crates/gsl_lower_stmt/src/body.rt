@@ -24,12 +24,7 @@ pub struct Body<'a> {
 
 impl<'a> Body<'a> {
     /// Zeros of a local variable.
-    fn zeros_of(
-        &self,
-        b: &mut Builder,
-        p: &FlowPlace,
-        number: u32,
-    ) -> Result<u32, BuildRefusal>
+    fn zeros_of(&self, b: &mut Builder, p: &FlowPlace, number: u32) -> Result<u32, BuildRefusal>
         ensures { Does result b.new p.now (calls.zeros (slice_index_or self.now.locals.now number Void) (flow_of b.old p.now)) }
     {
         if number as usize >= self.locals.len() {

@@ -1,7 +1,7 @@
 use Rattle.std.proofs.Common.{arith}
 use Rattle.std.proofs.lemmas.Result.{err_from_is_err_and}
 use Rattle.gsl_lower_holders.specs.Flow.{flow_of}
-use Rattle.gsl_lower_stmt.proofs.Labels.{fresh_each, labels_end, labels_on, labels_stop}
+use Rattle.gsl_lower_stmt.proofs.Targets.{fresh_each, labels_end, labels_on, labels_stop}
 use Rattle.gsl_lower_stmt.proofs.switches.arm_labels.Goals as goal
 
 pub returns-in_err-fresh_id : goal.returns-in_err-fresh_id

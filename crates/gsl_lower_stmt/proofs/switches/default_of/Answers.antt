@@ -1,5 +1,5 @@
 use Rattle.std.proofs.Common.{arith, sym, ◌∙◌}
-use Rattle.gsl_lower_stmt.proofs.Labels.{default_end, default_found, default_on}
+use Rattle.gsl_lower_stmt.proofs.Targets.{default_end, default_found, default_on}
 use Rattle.gsl_lower_stmt.proofs.switches.default_of.Goals as goal
 
 pub returns-then-is_default : goal.returns-then-is_default

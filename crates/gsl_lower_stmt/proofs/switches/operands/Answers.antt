@@ -1,5 +1,5 @@
 use Rattle.std.proofs.Common.{arith}
-use Rattle.gsl_lower_stmt.proofs.Labels.{targets_end, targets_on}
+use Rattle.gsl_lower_stmt.proofs.Targets.{targets_end, targets_on}
 use Rattle.gsl_lower_stmt.proofs.switches.operands.Goals as goal
 
 pub loop-k-preserved : goal.loop-k-preserved

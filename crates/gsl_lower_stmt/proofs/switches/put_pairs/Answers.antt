@@ -1,5 +1,5 @@
 use Rattle.std.proofs.Common.{arith}
-use Rattle.gsl_lower_stmt.proofs.Labels.{pairs_end, pairs_on}
+use Rattle.gsl_lower_stmt.proofs.Targets.{pairs_end, pairs_on}
 use Rattle.gsl_lower_stmt.proofs.switches.put_pairs.Goals as goal
 
 pub loop-k-preserved : goal.loop-k-preserved
