@@ -1,4 +1,4 @@
-use Rattle.std.proofs.Common.{arith, map}
+use Rattle.std.proofs.Common.{map}
 use Rattle.std.proofs.lemmas.Result.{err_from_is_err_and}
 use Rattle.gsl_tree.specs.Trees.{type_of}
 use Rattle.gsl_lower_holders.specs.Flow.{flow_of}
