@@ -32,7 +32,7 @@ use Rattle.gsl_lower_expr.specs.Rows.{count_splits, one_if, waits_for}
 use Rattle.gsl_lower_needs.specs.declared.lead.Found.TheVariants.{Place, Value}
 use Rattle.gsl_lower_needs.specs.declared.lead.Lead.{Lead}
 use Rattle.gsl_lower_needs.specs.declared.need.Need.{Need}
-use Rattle.gsl_lower_needs.specs.Asking.{Ask, Asked, Asks, behind, ◌>>=◌, given}
+use Rattle.gsl_lower_needs.specs.Asking.{Asked, Asks, behind, ◌>>=◌, given}
 use Rattle.gsl_lower_needs.specs.Needs.{Asking, any_splits, asked_by, asks, built_of, hold, in_holder, keeps, kind_asks, known_of, loose, passed_both, passed_out, passing, passing_all, reads, sequence, typed_by}
 use Rattle.gsl_lower_needs.specs.Coming.{evaluates, finds, found_by, gave, keeps_all, led, passes, passes_all, reached_from, reaches, sequence_of, valued_from}
 

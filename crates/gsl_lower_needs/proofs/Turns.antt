@@ -1,5 +1,5 @@
 -- What is asked for at rows, one behind the other.
-use Rattle.std.proofs.Common.{◌≡◌, refl, sym, ap, ◌∙◌, ℕ, ◌+◌, ◌≤◌, List, [], ◌∷◌, length, drop, slice_get, Option, Some, None, arith}
+use Rattle.std.proofs.Common.{◌≡◌, sym, ap, ◌∙◌, ℕ, ◌+◌, ◌≤◌, List, ◌∷◌, length, drop, slice_get, Option, Some, None, arith}
 use Rattle.std.specs.Prelude.{Bool, true, false, nat_lt, if◌then◌else◌}
 use Rattle.std.proofs.lemmas.List.{drop_all}
 use Rattle.gsl_compute.proofs.Loops.{opened}
@@ -12,8 +12,7 @@ use Rattle.gsl_tree.specs.declared.stmt.Stmt.{Stmt}
 use Rattle.gsl_tree.specs.declared.unit.Prototype.{Prototype}
 use Rattle.gsl_lower_expr.specs.Rows.{count_splits, own_split}
 use Rattle.gsl_lower_needs.specs.declared.need.Need.{Need}
-use Rattle.gsl_lower_needs.specs.declared.need.Need.TheVariants.{Holder}
-use Rattle.gsl_lower_needs.specs.Asking.{Ask, Asked, Asks, behind, ◌>>=◌, given}
+use Rattle.gsl_lower_needs.specs.Asking.{Asked, Asks, behind, ◌>>=◌, given}
 use Rattle.gsl_lower_needs.specs.Bodies.{arms, row, statement}
 use Rattle.gsl_lower_needs.specs.Coming.{evaluates, keeps_all, passes, passes_all, sequence_of}
 use Rattle.gsl_lower_needs.specs.Needs.{hold, holders, in_holder}
@@ -23,7 +22,7 @@ use Rattle.gsl_lower_needs.proofs.Steps.{keeps-ends, keeps-opens, passes_all-end
 abbrev Needs : Type 0
 Needs = List Need
 
-or_other : Expr → Option Expr → Expr
+abbrev or_other : Expr → Option Expr → Expr
 or_other other None = other
 or_other other (Some e) = e
 

@@ -1,5 +1,5 @@
 -- Whether statements leave, and what is asked for at them (GLSL 4.50, chapter 6).
-use Rattle.std.specs.Prelude.{ℕ, Bool, true, false, ◌||◌, List, [], ◌∷◌, map, Option, Some, None}
+use Rattle.std.specs.Prelude.{Bool, true, false, ◌||◌, List, [], ◌∷◌, map, Option, Some, None}
 use Rattle.gsl_tree.specs.declared.expr.Expr.{Expr}
 use Rattle.gsl_tree.specs.declared.stmt.Arm.{Arm}
 use Rattle.gsl_tree.specs.declared.stmt.Stmt.{Stmt}

@@ -179,10 +179,14 @@ fn run_on<H: Host>(
 {
     let shader = shader_comes(alloc, program, input, units)?;
     let first = module_file(alloc, program, Target::V10)?;
-    compared(alloc, out, case, "1.0", &shader, &first, input, units, counts)?;
+    compared(
+        alloc, out, case, "1.0", &shader, &first, input, units, counts,
+    )?;
     kept(alloc, dir, counts.cases, "10", &first, host)?;
     let second = module_file(alloc, program, Target::V13)?;
-    compared(alloc, out, case, "1.3", &shader, &second, input, units, counts)?;
+    compared(
+        alloc, out, case, "1.3", &shader, &second, input, units, counts,
+    )?;
     kept(alloc, dir, counts.cases, "13", &second, host)
 }
 

@@ -61,7 +61,11 @@ pub fn shader_comes(
 }
 
 /// The file of the module of a program.
-pub fn module_file(alloc: Global, program: &Program, target: Target) -> Result<Option<Bytes>, Memory>
+pub fn module_file(
+    alloc: Global,
+    program: &Program,
+    target: Target,
+) -> Result<Option<Bytes>, Memory>
     requires { IsProgram program.now }
 {
     match lower_for(alloc, target, program) {
@@ -85,7 +89,9 @@ fn valid_comes(
     let steps = if going {
         units
     } else {
-        units.saturating_add(1).saturating_mul(bytes.saturating_mul(10))
+        units
+            .saturating_add(1)
+            .saturating_mul(bytes.saturating_mul(10))
     };
     match enact(alloc, valid.module(), input, steps)? {
         Enacted::Misfit(_) => Ok(Came::Misfit),
