@@ -54,10 +54,10 @@ words_as_they_are : (shape : Shape) (words : List ℕ) → AreWords shape.0 word
 words_as_they_are shape [] all = refl
 words_as_they_are shape (word ∷ words) all = ap₂ (λ a b. a ∷ b) (word_same shape.0 word all.0) (words_as_they_are shape words all.1)
 
-value_as_it_is : (shape : Shape) (v : Value) → IsOf shape v → converted_value shape.0 v ≡ v
+pub value_as_it_is : (shape : Shape) (v : Value) → IsOf shape v → converted_value shape.0 v ≡ v
 value_as_it_is shape v of = ap (λ l. of_components (map (operation.converted shape.0) l)) (words_in v of) ∙ ap of_components (words_as_they_are shape of.words of.fits) ∙ sym of.is
 
-outside_blocks : (class : ℕ) (shape : Shape) → is_block_class class ≡ false → stored_shape class shape ≡ shape
+pub outside_blocks : (class : ℕ) (shape : Shape) → is_block_class class ≡ false → stored_shape class shape ≡ shape
 outside_blocks class shape is = by (is_block_class class) is
   where
     by : (block : Bool) → block ≡ false → (if block then (stored_scalar shape.0, shape.1) else shape) ≡ shape

@@ -8,7 +8,7 @@ use Rattle.gsl_values.specs.declared.value.Value.{Value}
 use Rattle.gsl_tree.specs.Around.{Around}
 use Rattle.gsl_tree.specs.declared.program.Program.{Program}
 use Rattle.gsl_meaning.specs.Accesses.{Root, read, whole}
-use Rattle.gsl_meaning.specs.Running.{Run, given, told_by, ◌>>=◌}
+use Rattle.gsl_meaning.specs.Running.{Run, given, storing, told_by, ◌>>=◌}
 use Rattle.gsl_lower_follows.specs.Frames.{Name, type_named}
 
 -- A name is that of a variable of a type that has values.
@@ -21,3 +21,7 @@ pub record IsNamed (p : Program) (around : Around) (name : Name) (t : Ty) : Type
 -- what a name means: the value of its variable
 abbrev pub named_means : List StructType → Ty → Root → Run Value
 named_means structs t root = given (whole root) >>= (λ a. told_by (read structs t a))
+
+-- what an assignment to a name does
+abbrev pub assign_means : Root → Run Value → Run Value
+assign_means root right = given (whole root) >>= (λ a. right >>= storing a)
