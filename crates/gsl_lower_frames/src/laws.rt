@@ -1,0 +1,38 @@
+//! Laws of the definitions: calls that do nothing, whose contracts are the laws.
+
+ghost use Rattle.std.specs.Prelude.{◌≡◌, ℕ, List, [], ◌∷◌, ◌++◌, ◌<◌, length, None, Some};
+ghost use Rattle.gsl_instr.specs.declared.op.TheConstants as op;
+ghost use Rattle.gsl_words.specs.declared.module.Module.{Module};
+ghost use Rattle.gsl_valid.specs.IdsDefinedOnce.{ids_defined_once};
+ghost use Rattle.gsl_valid.specs.Placed.{Code, placed_from, words_from};
+ghost use Rattle.gsl_valid.specs.Valid.{Valid};
+ghost use Rattle.gsl_machine.specs.Functions.{from_label, function_at, own_ids};
+ghost use Rattle.gsl_machine.specs.Interfaces.{globals};
+ghost use Rattle.gsl_machine.specs.State.{Held};
+ghost use Rattle.gsl_spv.specs.Declarations.{instr};
+ghost use Rattle.gsl_spv.specs.Finished.{module_of};
+ghost use Rattle.gsl_spv.specs.Sections.{Sections};
+ghost use Rattle.gsl_lower_law.specs.Values.{Text};
+ghost use Rattle.gsl_lower_text.specs.Written.{Written};
+ghost use Rattle.gsl_lower_frames.specs.Standing.{EndsHere, StandsIn, begins, place_in};
+
+/// Where each id is defined once, a label of a function's code is found where it stands.
+pub fn labels_are_found()
+    ensures { (m : Module) (id : ℕ) (code : Code) (first : ℕ) → ids_defined_once m ≡ None → StandsIn m id code → (front rest : Code) (label : ℕ) → code ≡ front ++ instr op.LABEL (label ∷ []) ∷ rest → from_label (placed_from first code) label ≡ Some (placed_from (words_from first front) (instr op.LABEL (label ∷ []) ∷ rest)) }
+{}
+
+/// Where each id is defined once, a function's code is found by its id; and it has fewer instructions than the module has words.
+pub fn functions_stand()
+    ensures found { (m : Module) (id : ℕ) (code : Code) → ids_defined_once m ≡ None → (s : StandsIn m id code) → function_at m id ≡ Some (placed_from (place_in m id code s) code) }
+    ensures short { (m : Module) (id : ℕ) (code : Code) → StandsIn m id code → length code < words_from 0 m.instrs }
+{}
+
+/// A function that stands among the functions of a builder stands in the module that it gives.
+pub fn sections_hold_functions()
+    ensures { (s : Sections) (main : ℕ) (local_size : List ℕ) (before code behind : Code) (id returned control function_type : ℕ) → s.functions ≡ before ++ begins id returned control function_type ∷ (code ++ behind) → EndsHere code → StandsIn (module_of s main local_size) id code }
+{}
+
+/// As a function of a valid module begins, the module says what the sections hold that are part of it, whatever the arguments.
+pub fn functions_text()
+    ensures { (m : Module) (sections : Sections) (id : ℕ) (code : Code) → Valid m → Written m sections → (s : StandsIn m id code) → (held : List Held) (count : ℕ) → Text m sections (own_ids (globals m) (placed_from (place_in m id code s) code) held count) }
+{}
