@@ -1,1 +1,3 @@
 pub mod Standing
+pub mod Named
+pub mod Starting
