@@ -3,3 +3,5 @@ pub mod Found
 pub mod Texts
 pub mod Numbers
 pub mod Starts
+pub mod Owners
+pub mod Calls

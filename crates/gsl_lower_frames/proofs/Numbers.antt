@@ -1,5 +1,5 @@
 -- The numbers of the variables that ids point to.
-use Rattle.std.proofs.Common.{◌≡◌, refl, sym, ap, ◌∙◌, subst, ℕ, zero, suc, ◌+◌, ◌<◌, Bool, true, false, if◌then◌else◌, List, [], ◌∷◌, ◌++◌, length, Option, Some, None, ◌⊎◌, inl, inr, arith}
+use Rattle.std.proofs.Common.{◌≡◌, refl, sym, ap, ◌∙◌, subst, ℕ, zero, suc, ◌+◌, ◌<◌, ◌≤◌, Bool, true, false, if◌then◌else◌, List, [], ◌∷◌, ◌++◌, length, Option, Some, None, ◌⊎◌, inl, inr, arith}
 use Rattle.std.specs.Prelude.{◌==◌, slice_get}
 use Rattle.std.proofs.lemmas.Bool.{eqb-true, true≢false}
 use Rattle.std.proofs.lemmas.Option.{slice_get_within}
@@ -20,7 +20,7 @@ use Rattle.gsl_lower_follows.specs.Frames.{Name, id_of}
 use Rattle.gsl_lower_frames.specs.Named.{AreNamed, HasId, number_at, number_in, seat_in}
 use Rattle.gsl_lower_frames.specs.Starting.{ids_in, local_variables, variables_in}
 
-abbrev At : Option Held → ℕ → Type 0
+abbrev pub At : Option Held → ℕ → Type 0
 At held n = held ≡ Some (Points (InVariable n []))
 
 -- ---- variables in lists
@@ -42,7 +42,7 @@ got_among (suc n) [] v is = absurd (cc)
 got_among zero (x ∷ vs) v is = let same : x ≡ v = cc in inl same
 got_among (suc n) (x ∷ vs) v is = inr (got_among n vs v is)
 
-among_either : (n : ℕ) (vs ws : List Variable) (v : Variable) → slice_get (vs ++ ws) n ≡ Some v → Among v vs ⊎ Among v ws
+pub among_either : (n : ℕ) (vs ws : List Variable) (v : Variable) → slice_get (vs ++ ws) n ≡ Some v → Among v vs ⊎ Among v ws
 among_either n [] ws v is = inr (got_among n ws v is)
 among_either zero (x ∷ vs) ws v is = let same : x ≡ v = cc in inl (inl same)
 among_either (suc n) (x ∷ vs) ws v is = elim (among_either n vs ws v is) [ inl first ↦ inl (inr first) | inr later ↦ inr later ]
@@ -50,14 +50,14 @@ among_either (suc n) (x ∷ vs) ws v is = elim (among_either n vs ws v is) [ inl
 -- ---- an id that points to a variable is the variable's
 
 -- A variable of an id stands at a place behind so many.
-record FoundAt (number : ℕ) (vs : List Variable) (id n : ℕ) : Type 0 where
-  place : ℕ
-  variable : Variable
-  is : n ≡ number + place
-  there : slice_get vs place ≡ Some variable
-  same : variable.id ≡ id
+pub record FoundAt (number : ℕ) (vs : List Variable) (id n : ℕ) : Type 0 where
+  pub place : ℕ
+  pub variable : Variable
+  pub is : n ≡ number + place
+  pub there : slice_get vs place ≡ Some variable
+  pub same : variable.id ≡ id
 
-points_to : (ids : Ids) (number : ℕ) (vs : List Variable) (id n : ℕ) → At (point_each ids number vs id) n → At (ids id) n ⊎ FoundAt number vs id n
+pub points_to : (ids : Ids) (number : ℕ) (vs : List Variable) (id n : ℕ) → At (point_each ids number vs id) n → At (ids id) n ⊎ FoundAt number vs id n
 points_to ids number [] id n is = inl is
 points_to ids number (v ∷ vs) id n is = elim (points_to (give ids v.id (Points (InVariable number []))) (number + 1) vs id n is) [
   | inl first ↦ by_same (id == v.id) refl first
@@ -86,6 +86,28 @@ module _ (m : Module) where
       by_constant None v is = cc
       by_constant (Some c) v is = cc
 
+  abbrev outer : Ids
+  outer = point_each (constant_held m) 0 (value_variables m)
+
+  -- what points to a variable outside functions is the id of the variable at that position
+  pub outer_position : (id n : ℕ) → At (globals m id) n → (v : Variable) × (slice_get (value_variables m) n ≡ Some v) × (v.id ≡ id)
+  outer_position id n is = elim (points_to (constant_held m) 0 (value_variables m) id n (points_before outer (block_variables m) id n is)) [
+    | inl fixed ↦ absurd (fixed_points_nowhere id n fixed)
+    | inr f ↦ (let at = f.is in let e : n ≡ f.place = omega (arith, at) in (f.variable, ap (slice_get (value_variables m)) e ∙ f.there, f.same))
+  ]
+
+  -- the id of a variable outside functions that is of no block points to one
+  pub value_points : Kept m → (id : ℕ) (v : Variable) (bound : ℕ) → length (value_variables m) ≤ bound → Among v (value_variables m) → v.id ≡ id → PointsBelow bound (globals m id)
+  value_points kept id v bound room value same =
+      subst (PointsBelow bound) (sym (unblocked m outer (block_variables m) id unlike)) (pointed (constant_held m) 0 (value_variables m) bound id v (omega (arith, room)) value same)
+    where
+      unlike : (w : Variable) → Among w (block_variables m) → w.id ≡ id → ⊥
+      unlike w among is =
+          let held = among_values m kept v value in
+          let b = among_blocks m kept w among in
+          let e = same_variable m kept id v w (ap (λ n. variable_is (defined_as m n)) (sym same) ∙ held.0) b.0 is in
+          true≢false (sym b.1 ∙ ap (λ x. is_block_class x.class) e ∙ held.1)
+
 pub given_none : (ids : Ids) (parameters : List ℕ) → give_each ids parameters [] ≡ ids
 given_none ids [] = refl
 given_none ids (id ∷ parameters) = refl
@@ -94,25 +116,17 @@ module _ (m : Module) (code : Code) where
   abbrev own : Ids
   own = ids_in m code
 
-  abbrev outer : Ids
-  outer = point_each (constant_held m) 0 (value_variables m)
-
   -- the number of a variable is its position
   pub number_is_position : (id n : ℕ) → At (own id) n → (v : Variable) × (slice_get (variables_in m code) n ≡ Some v) × (v.id ≡ id)
   number_is_position id n is = elim (points_to (globals m) (length (value_variables m)) (local_variables code) id n is) [
-    | inl outside ↦ elim (points_to (constant_held m) 0 (value_variables m) id n (points_before m outer (block_variables m) id n outside)) [
-      | inl fixed ↦ absurd (fixed_points_nowhere m id n fixed)
-      | inr f ↦ (let at = f.is in let e : n ≡ f.place = omega (arith, at) in
-          (f.variable, ap (slice_get (variables_in m code)) e ∙ got_first f.place (value_variables m) (local_variables code) f.variable f.there, f.same))
-    ]
+    | inl outside ↦ (let v = outer_position m id n outside in (v.0, got_first n (value_variables m) (local_variables code) v.0 v.1, v.2))
     | inr f ↦ (f.variable, ap (slice_get (variables_in m code)) f.is ∙ got_later f.place (value_variables m) (local_variables code) ∙ f.there, f.same)
   ]
 
   -- the id of a variable points to one
   pub variable_points : Kept m → (id : ℕ) → HasId (variables_in m code) id → (n : ℕ) × At (own id) n
   variable_points kept id h = elim (among_either h.position (value_variables m) (local_variables code) h.variable h.there) [
-    | inl value ↦ number_of (stays_pointed (globals m) count (local_variables code) bound id (omega arith) (subst (PointsBelow bound) (sym (unblocked m outer (block_variables m) id (unlike value)))
-        (pointed (constant_held m) 0 (value_variables m) bound id h.variable (omega arith) value h.same)))
+    | inl value ↦ number_of (stays_pointed (globals m) count (local_variables code) bound id (omega arith) (value_points m kept id h.variable bound (omega arith) value h.same))
     | inr local ↦ number_of (pointed (globals m) count (local_variables code) bound id h.variable (omega arith) local h.same)
   ]
     where
@@ -125,13 +139,6 @@ module _ (m : Module) (code : Code) where
       number_of : PointsBelow bound (own id) → (n : ℕ) × At (own id) n
       number_of p = (p.number, p.is)
 
-      unlike : Among h.variable (value_variables m) → (w : Variable) → Among w (block_variables m) → w.id ≡ id → ⊥
-      unlike value w among same =
-          let v = among_values m kept h.variable value in
-          let b = among_blocks m kept w among in
-          let e = same_variable m kept id h.variable w (ap (λ n. variable_is (defined_as m n)) (sym h.same) ∙ v.0) b.0 same in
-          true≢false (sym b.1 ∙ ap (λ x. is_block_class x.class) e ∙ v.1)
-
 -- ---- the numbers of names
 
 number_back : (held : Option Held) (n : ℕ) → number_in held ≡ Some n → At held n
@@ -141,7 +148,7 @@ number_back (Some (Points (InBlock variable offset pointee))) n is = absurd (cc)
 number_back (Some (Points (InVariable number []))) n is = let e : number ≡ n = cc in ap (λ k. Some (Points (InVariable k []))) e
 number_back (Some (Points (InVariable number (k ∷ path)))) n is = absurd (cc)
 
-seat_back : (own : Ids) (o : Option ℕ) (n : ℕ) → number_at own o ≡ Some n → (id : ℕ) × (o ≡ Some id) × At (own id) n
+pub seat_back : (own : Ids) (o : Option ℕ) (n : ℕ) → number_at own o ≡ Some n → (id : ℕ) × (o ≡ Some id) × At (own id) n
 seat_back own None n is = absurd (cc)
 seat_back own (Some id) n is = (id, refl, number_back (own id) n is)
 

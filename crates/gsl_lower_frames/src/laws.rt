@@ -9,10 +9,10 @@ ghost use Rattle.gsl_valid.specs.IdsDefinedOnce.{ids_defined_once};
 ghost use Rattle.gsl_valid.specs.Kinds.{Variable};
 ghost use Rattle.gsl_valid.specs.Placed.{Code, placed_from, words_from};
 ghost use Rattle.gsl_valid.specs.Valid.{Valid};
-ghost use Rattle.gsl_machine.specs.Functions.{from_label, function_at, own_ids};
+ghost use Rattle.gsl_machine.specs.Functions.{entered, from_label, function_at, own_ids};
 ghost use Rattle.gsl_machine.specs.Interfaces.{globals};
 ghost use Rattle.gsl_machine.specs.Machine.{entry_of, start};
-ghost use Rattle.gsl_machine.specs.State.{Held, InVariable, Points};
+ghost use Rattle.gsl_machine.specs.State.{Held, InVariable, Points, State, Waiting};
 ghost use Rattle.gsl_spv.specs.Calls.{imports_of};
 ghost use Rattle.gsl_spv.specs.Declarations.{instr};
 ghost use Rattle.gsl_spv.specs.Finished.{module_of};
@@ -20,6 +20,7 @@ ghost use Rattle.gsl_spv.specs.Sections.{Sections};
 ghost use Rattle.gsl_lower_holders.specs.declared.place.FlowPlace.{FlowPlace};
 ghost use Rattle.gsl_lower_law.specs.Values.{Text};
 ghost use Rattle.gsl_lower_text.specs.Written.{Written};
+ghost use Rattle.gsl_lower_frames.specs.Calling.{AreKnown, ArePassed};
 ghost use Rattle.gsl_lower_frames.specs.Standing.{EndsHere, StandsIn, begins, place_in};
 ghost use Rattle.gsl_lower_frames.specs.Starting.{HasFrame, IsEntered, Starts, ids_in, variables_in};
 
@@ -63,4 +64,10 @@ pub fn modules_enter_main()
 /// Where the module of a builder starts there is a frame of main, and the ids of the names that are known point to their variables.
 pub fn main_has_a_frame()
     ensures { (input : Input) (whole : Sections) (main : ℕ) (local_size : List ℕ) (code : Code) (place : FlowPlace) (stages : List Value) → IsEntered whole main local_size code place → HasFrame (module_of whole main local_size) input whole code place stages (start (module_of whole main local_size) input) }
+{}
+
+/// Where a function begins that is called, with pointers to variables that run, there is a frame of it, and the ids of the names that are
+/// known point to their variables.
+pub fn called_functions_have_frames()
+    ensures { (m : Module) (whole : Sections) (input : Input) (id : ℕ) (before code behind : Code) (place : FlowPlace) (stages : List Value) (held : List Held) (waiting : List Waiting) (state : State) → Valid m → Written m whole → (s : StandsIn m id code) → whole.functions ≡ before ++ (code ++ behind) → ArePassed m (placed_from (place_in m id code s) code) held (length state.variables) → AreKnown m (placed_from (place_in m id code s) code) place → HasFrame m input whole code place stages (entered m (globals m) (placed_from (place_in m id code s) code) held waiting state) }
 {}
