@@ -1,5 +1,5 @@
 -- The frame of a function that is called.
-use Rattle.std.proofs.Common.{◌≡◌, refl, sym, ap, ◌∙◌, subst, ℕ, ◌+◌, ◌<◌, List, [], ◌∷◌, ◌++◌, length, map, Some, inl, inr, arith, append_assoc}
+use Rattle.std.proofs.Common.{◌≡◌, refl, sym, ap, ◌∙◌, subst, ℕ, ◌+◌, ◌<◌, List, ◌++◌, length, map, Some, inl, inr, arith}
 use Rattle.std.proofs.lemmas.List.{length-append, length-map}
 use Rattle.gsl_base.specs.declared.input.Input.{Input}
 use Rattle.gsl_words.specs.declared.module.Module.{Module}
@@ -17,7 +17,7 @@ use Rattle.gsl_lower_follows.specs.Frames.{Frame, Name, id_of}
 use Rattle.gsl_lower_text.specs.Written.{Written}
 use Rattle.gsl_lower_frames.specs.Calling.{AreKnown, ArePassed}
 use Rattle.gsl_lower_frames.specs.Named.{number_at, number_in, seat_in}
-use Rattle.gsl_lower_frames.specs.Standing.{StandsIn, begins, place_in}
+use Rattle.gsl_lower_frames.specs.Standing.{StandsIn, place_in}
 use Rattle.gsl_lower_frames.specs.Starting.{HasFrame}
 use Rattle.gsl_lower_frames.proofs.Found.{code_short, label_found}
 use Rattle.gsl_lower_frames.proofs.Numbers.{At, among_either, seat_back, value_points}
@@ -41,12 +41,12 @@ module _ (m : Module) (body : List Placed) (held : List Held) (count : ℕ) (pla
   known_points kept name id is = elim (known.each name id is) [
     | inl h ↦ elim (among_either h.position (value_variables m) (variables_of body) h.variable h.there) [
       | inl value ↦ stays_pointed given count (variables_of body) bound id (omega arith)
-        (given_stays (globals m) (parameters_of body) held bound id (passed_point m body held count passed bound (omega arith))
-        (value_points m kept id h.variable bound (let room = passed.room in omega (arith, room)) value h.same))
+          (given_stays (globals m) (parameters_of body) held bound id (passed_point m body held count passed bound (omega arith))
+          (value_points m kept id h.variable bound (let room = passed.room in omega (arith, room)) value h.same))
       | inr local ↦ pointed given count (variables_of body) bound id h.variable (omega arith) local h.same
     ]
     | inr p ↦ stays_pointed given count (variables_of body) bound id (omega arith)
-      (given_points (globals m) (parameters_of body) held bound id p.0 (passed_point m body held count passed bound (omega arith)) passed.many p.1)
+        (given_points (globals m) (parameters_of body) held bound id p.0 (passed_point m body held count passed bound (omega arith)) passed.many p.1)
   ]
     where
       bound : ℕ
@@ -97,9 +97,10 @@ module _ (m : Module) (whole : Sections) (input : Input) (id : ℕ) (before code
     among = λ name number is. subst (λ n. number < n) (sym many) (seat_below m body held count place passed known name number is);
   }
 
-  pub called_framed : HasFrame m input whole code place stages (entered m (globals m) body held waiting state)
+  pub called_framed : HasFrame m input whole before code place stages (entered m (globals m) body held waiting state)
   called_framed = record {
     frame = frame_of;
+    front = refl;
     same = refl;
     rest = refl;
     within = refl;

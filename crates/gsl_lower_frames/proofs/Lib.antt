@@ -5,3 +5,4 @@ pub mod Numbers
 pub mod Starts
 pub mod Owners
 pub mod Calls
+pub mod Main

@@ -1,8 +1,7 @@
 -- The numbers of the variables that ids point to.
-use Rattle.std.proofs.Common.{◌≡◌, refl, sym, ap, ◌∙◌, subst, ℕ, zero, suc, ◌+◌, ◌<◌, ◌≤◌, Bool, true, false, if◌then◌else◌, List, [], ◌∷◌, ◌++◌, length, Option, Some, None, ◌⊎◌, inl, inr, arith}
+use Rattle.std.proofs.Common.{◌≡◌, refl, sym, ap, ◌∙◌, subst, ℕ, zero, suc, ◌+◌, ◌≤◌, Bool, true, false, if◌then◌else◌, List, [], ◌∷◌, ◌++◌, length, Option, Some, None, ◌⊎◌, inl, inr, arith}
 use Rattle.std.specs.Prelude.{◌==◌, slice_get}
 use Rattle.std.proofs.lemmas.Bool.{eqb-true, true≢false}
-use Rattle.std.proofs.lemmas.Option.{slice_get_within}
 use Rattle.gsl_words.specs.declared.module.Module.{Module}
 use Rattle.gsl_valid.specs.DecorationRules.{pointee}
 use Rattle.gsl_valid.specs.Kinds.{Value as Fixed, Variable, constant_is, variable_is}
@@ -14,10 +13,8 @@ use Rattle.gsl_machine.specs.Functions.{give_each, point_each}
 use Rattle.gsl_machine.specs.Interfaces.{block_variables, constant_held, globals, if_there, point_blocks, value_variables}
 use Rattle.gsl_machine.specs.State.{Held, Ids, InBlock, InVariable, Points, Whole, give}
 use Rattle.gsl_sound_code.proofs.Looks.{Kept}
-use Rattle.gsl_sound_ids.proofs.Globals.{Among, PointsBelow, among_blocks, among_values, pointed, same_variable, stays_pointed, unblocked}
-use Rattle.gsl_lower_holders.specs.declared.place.FlowPlace.{FlowPlace}
-use Rattle.gsl_lower_follows.specs.Frames.{Name, id_of}
-use Rattle.gsl_lower_frames.specs.Named.{AreNamed, HasId, number_at, number_in, seat_in}
+use Rattle.gsl_sound_ids.proofs.Globals.{Among, PointsBelow, among_blocks, among_values, pointed, same_variable, unblocked}
+use Rattle.gsl_lower_frames.specs.Named.{number_at, number_in}
 use Rattle.gsl_lower_frames.specs.Starting.{ids_in, local_variables, variables_in}
 
 abbrev pub At : Option Held → ℕ → Type 0
@@ -123,22 +120,6 @@ module _ (m : Module) (code : Code) where
     | inr f ↦ (f.variable, ap (slice_get (variables_in m code)) f.is ∙ got_later f.place (value_variables m) (local_variables code) ∙ f.there, f.same)
   ]
 
-  -- the id of a variable points to one
-  pub variable_points : Kept m → (id : ℕ) → HasId (variables_in m code) id → (n : ℕ) × At (own id) n
-  variable_points kept id h = elim (among_either h.position (value_variables m) (local_variables code) h.variable h.there) [
-    | inl value ↦ number_of (stays_pointed (globals m) count (local_variables code) bound id (omega arith) (value_points m kept id h.variable bound (omega arith) value h.same))
-    | inr local ↦ number_of (pointed (globals m) count (local_variables code) bound id h.variable (omega arith) local h.same)
-  ]
-    where
-      count : ℕ
-      count = length (value_variables m)
-
-      bound : ℕ
-      bound = length (value_variables m) + length (local_variables code)
-
-      number_of : PointsBelow bound (own id) → (n : ℕ) × At (own id) n
-      number_of p = (p.number, p.is)
-
 -- ---- the numbers of names
 
 number_back : (held : Option Held) (n : ℕ) → number_in held ≡ Some n → At held n
@@ -151,25 +132,3 @@ number_back (Some (Points (InVariable number (k ∷ path)))) n is = absurd (cc)
 pub seat_back : (own : Ids) (o : Option ℕ) (n : ℕ) → number_at own o ≡ Some n → (id : ℕ) × (o ≡ Some id) × At (own id) n
 seat_back own None n is = absurd (cc)
 seat_back own (Some id) n is = (id, refl, number_back (own id) n is)
-
-module _ (m : Module) (code : Code) (place : FlowPlace) (named : AreNamed (variables_in m code) place) where
-  pub seats_differ : (a b : Name) (n : ℕ) → seat_in (ids_in m code) place a ≡ Some n → seat_in (ids_in m code) place b ≡ Some n → a ≡ b
-  seats_differ a b n first second =
-      let x = seat_back (ids_in m code) (id_of place a) n first in
-      let y = seat_back (ids_in m code) (id_of place b) n second in
-      let v = number_is_position m code x.0 n x.2 in
-      let w = number_is_position m code y.0 n y.2 in
-      let both : Some v.0 ≡ Some w.0 = sym v.1 ∙ w.1 in
-      let e : v.0 ≡ w.0 = cc in
-      named.apart a b x.0 x.1 (y.1 ∙ ap Some (sym w.2 ∙ ap (λ z. z.id) (sym e) ∙ v.2))
-
-  pub seat_among : (name : Name) (n : ℕ) → seat_in (ids_in m code) place name ≡ Some n → n < length (variables_in m code)
-  seat_among name n is =
-      let x = seat_back (ids_in m code) (id_of place name) n is in
-      let v = number_is_position m code x.0 n x.2 in
-      slice_get_within (variables_in m code) n v.0 v.1
-
-  pub name_seated : Kept m → (name : Name) (id : ℕ) → id_of place name ≡ Some id → (n : ℕ) × (seat_in (ids_in m code) place name ≡ Some n) × At (ids_in m code id) n
-  name_seated kept name id is =
-      let p = variable_points m code kept id (named.each name id is) in
-      (p.0, ap (number_at (ids_in m code)) is ∙ ap number_in p.1, p.1)

@@ -1,13 +1,12 @@
 -- Where a module starts, and the frame there.
-use Rattle.std.proofs.Common.{◌≡◌, refl, sym, ap, ap₂, ◌∙◌, subst, ℕ, ◌+◌, ◌<◌, List, [], ◌∷◌, ◌++◌, length, map, Option, Some, None, append_assoc}
+use Rattle.std.proofs.Common.{◌≡◌, refl, sym, ap, ◌∙◌, subst, ℕ, ◌+◌, List, [], ◌∷◌, ◌++◌, length, map, Option, Some, None}
 use Rattle.std.specs.List.{cons_option}
-use Rattle.std.proofs.lemmas.List.{length-append, length-map}
+use Rattle.std.proofs.lemmas.List.{length-map}
 use Rattle.gsl_base.specs.declared.input.Input.{Input}
 use Rattle.gsl_base.specs.declared.stage.Stage.{Stage}
 use Rattle.gsl_instr.specs.Forms.{form_of}
 use Rattle.gsl_words.specs.Instructions.{word_count}
 use Rattle.gsl_words.specs.declared.module.Module.{Module}
-use Rattle.gsl_values.specs.declared.value.Value.{Value}
 use Rattle.gsl_valid.specs.IdsDefinedOnce.{ids_defined_once}
 use Rattle.gsl_valid.specs.Instruction.{read}
 use Rattle.gsl_valid.specs.Kinds.{variable_is}
@@ -15,25 +14,18 @@ use Rattle.gsl_valid.specs.Placed.{Code, placed_from}
 use Rattle.gsl_machine.specs.Functions.{begins_as, entered, own_ids, parameters_of, point_each, variables_of}
 use Rattle.gsl_machine.specs.Interfaces.{globals, value_variables, variable_begins}
 use Rattle.gsl_machine.specs.Machine.{before_entry, entering, entry_body, entry_of, start}
-use Rattle.gsl_sound_code.proofs.Looks.{kept}
 use Rattle.gsl_spv.specs.Calls.{imports_of}
 use Rattle.gsl_spv.specs.Finished.{capabilities, entry_point, memory_models, module_of, modes}
 use Rattle.gsl_spv.specs.Once.{interface_of}
 use Rattle.gsl_spv.specs.Sections.{Sections}
-use Rattle.gsl_lower_holders.specs.declared.place.FlowPlace.{FlowPlace}
-use Rattle.gsl_lower_follows.specs.Frames.{Frame}
-use Rattle.gsl_lower_law.specs.Values.{Text}
-use Rattle.gsl_lower_text.proofs.Finishes.{finished_written}
-use Rattle.gsl_lower_frames.specs.Named.{seat_in}
-use Rattle.gsl_lower_frames.specs.Standing.{StandsIn, begins, place_in}
-use Rattle.gsl_lower_frames.specs.Starting.{HasFrame, IsEntered, Starts, ids_in, local_variables, values_in, variables_in}
-use Rattle.gsl_lower_frames.proofs.Found.{code_found, code_short, label_found, section_held}
-use Rattle.gsl_lower_frames.proofs.Numbers.{given_none, name_seated, seat_among, seats_differ}
-use Rattle.gsl_lower_frames.proofs.Texts.{text_begun, valid_once}
+use Rattle.gsl_lower_frames.specs.Standing.{StandsIn, place_in}
+use Rattle.gsl_lower_frames.specs.Starting.{Starts, ids_in, local_variables}
+use Rattle.gsl_lower_frames.proofs.Found.{code_found}
+use Rattle.gsl_lower_frames.proofs.Numbers.{given_none}
 
 -- ---- the state
 
-variables_same : (at : ℕ) (code : Code) → variables_of (placed_from at code) ≡ local_variables code
+pub variables_same : (at : ℕ) (code : Code) → variables_of (placed_from at code) ≡ local_variables code
 variables_same at [] = refl
 variables_same at (i ∷ code) = ap (cons_option (variable_is (read i))) (variables_same (at + word_count i) code)
 
@@ -57,12 +49,15 @@ module _ (m : Module) (first : ℕ) (code : Code) where
         waiting = refl;
       }
 
-pub started : (m : Module) (input : Input) (id : ℕ) (code : Code) → ids_defined_once m ≡ None → entry_of m.instrs ≡ Some id → (s : StandsIn m id code) → Starts m input (place_in m id code s) code (start m input)
+-- the state in which a module starts is that in which the function begins
+pub start_is : (m : Module) (input : Input) (id : ℕ) (code : Code) → ids_defined_once m ≡ None → entry_of m.instrs ≡ Some id → (s : StandsIn m id code)
+    → start m input ≡ entered m (globals m) (placed_from (place_in m id code s) code) [] [] (before_entry m input)
 unfolding start
+start_is m input id code once entry s = ap (λ o. entering m input (entry_body m o)) entry ∙ ap (entering m input) (code_found m id code once s)
+
+pub started : (m : Module) (input : Input) (id : ℕ) (code : Code) → ids_defined_once m ≡ None → entry_of m.instrs ≡ Some id → (s : StandsIn m id code) → Starts m input (place_in m id code s) code (start m input)
 started m input id code once entry s =
-    subst (Starts m input (place_in m id code s) code)
-    (sym (ap (λ o. entering m input (entry_body m o)) entry ∙ ap (entering m input) (code_found m id code once s)))
-    (entered_starts m (place_in m id code s) code input)
+    subst (Starts m input (place_in m id code s) code) (sym (start_is m input id code once entry s)) (entered_starts m (place_in m id code s) code input)
 
 -- ---- the entry point
 
@@ -82,61 +77,3 @@ main_entered s main local_size set is =
     let later = modes s.stage main local_size in
     ap (λ l. entry_of (led l s.stage main interface later s.names s.decorations s.globals s.functions)) is
     ∙ led_entered s.stage main interface later s.names s.decorations s.globals s.functions set
-
--- ---- the frame
-
-module _ (input : Input) (whole : Sections) (main : ℕ) (local_size : List ℕ) (code : Code) (place : FlowPlace) (stages : List Value) (e : IsEntered whole main local_size code place) where
-  abbrev m : Module
-  m = module_of whole main local_size
-
-  stands : StandsIn m main code
-  stands = section_held whole main local_size e.before code e.behind main e.returned e.control e.function_type e.is e.ends
-
-  abbrev first : ℕ
-  first = place_in m main code stands
-
-  text : Text m whole (ids_in m code)
-  text = subst (Text m whole) (ids_same m first code)
-      (text_begun m whole main code e.valid (finished_written whole main local_size) stands [] (length (value_variables m)))
-
-  many : length (values_in m input code) ≡ length (variables_in m code)
-  many =
-      length-append (map (variable_begins m input) (value_variables m)) (map (begins_as m) (local_variables code))
-      ∙ ap₂ (λ a b. a + b) (length-map (value_variables m) (variable_begins m input)) (length-map (local_variables code) (begins_as m))
-      ∙ sym (length-append (value_variables m) (local_variables code))
-
-  abbrev frame_of : Frame m input whole
-  frame_of = record {
-    before = e.before ++ begins main e.returned e.control e.function_type ∷ [];
-    code = code;
-    behind = e.behind;
-    stands = e.is ∙ sym (append_assoc e.before (begins main e.returned e.control e.function_type ∷ []) (code ++ e.behind));
-    first = first;
-    own = ids_in m code;
-    text = text;
-    labels = label_found m main code first (valid_once m e.valid) stands;
-    short = code_short m main code stands;
-    waiting = [];
-    seat = seat_in (ids_in m code) place;
-    apart = seats_differ m code place e.named;
-    blocks = place.blocks;
-    stages = stages;
-    begun = values_in m input code;
-    among = λ name number is. subst (λ n. number < n) (sym many) (seat_among m code place e.named name number is);
-  }
-
-  pub main_framed : HasFrame m input whole code place stages (start m input)
-  main_framed =
-      let s = started m input main code (valid_once m e.valid) (main_entered whole main local_size e.set e.imports) stands in
-      record {
-        frame = frame_of;
-        same = refl;
-        rest = s.rest;
-        within = s.within;
-        own = s.own;
-        ids = s.ids;
-        waiting = s.waiting;
-        begun = s.variables;
-        given = refl;
-        seated = record { blocks = refl; each = name_seated m code place e.named (kept m e.valid) };
-      }

@@ -1,7 +1,7 @@
 -- A function that is called: what is passed to it, and its names.
-use Rattle.std.specs.Prelude.{◌≡◌, ℕ, ◌≤◌, ◌<◌, ◌⊎◌, List, [], slice_get, length, ◌++◌, Option, Some}
+use Rattle.std.specs.Prelude.{◌≡◌, ℕ, ◌≤◌, ◌<◌, ◌⊎◌, List, [], slice_get, length, ◌++◌, Some}
 use Rattle.gsl_words.specs.declared.module.Module.{Module}
-use Rattle.gsl_valid.specs.Placed.{Code, Placed}
+use Rattle.gsl_valid.specs.Placed.{Placed}
 use Rattle.gsl_machine.specs.Functions.{parameters_of, variables_of}
 use Rattle.gsl_machine.specs.Interfaces.{value_variables}
 use Rattle.gsl_machine.specs.State.{Held, InVariable, Points}

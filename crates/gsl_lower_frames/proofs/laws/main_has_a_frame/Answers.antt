@@ -1,4 +1,4 @@
-use Rattle.gsl_lower_frames.proofs.Starts.{main_framed}
+use Rattle.gsl_lower_frames.proofs.Main.{main_framed}
 use Rattle.gsl_lower_frames.proofs.laws.main_has_a_frame.Goals as goal
 
 pub returns : goal.returns
