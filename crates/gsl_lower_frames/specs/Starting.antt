@@ -47,8 +47,8 @@ pub record Starts (m : Module) (input : Input) (first : ℕ) (code : Code) (stat
   pub choices : state.choices ≡ input.choices
   pub waiting : state.waiting ≡ []
 
--- The function that the entry point names stands in the functions of a builder, behind others and before others; the module that the builder gives
--- is valid, and the names that are known at a place have its variables.
+-- The function that the entry point names stands in the functions of a builder, behind others and before others; the module that the
+-- builder gives is valid, and the names that are known at a place have its variables.
 pub record IsEntered (whole : Sections) (main : ℕ) (local_size : List ℕ) (code : Code) (place : FlowPlace) : Type 0 where
   pub set : Option ℕ
   pub imports : whole.imports ≡ imports_of set
@@ -62,8 +62,8 @@ pub record IsEntered (whole : Sections) (main : ℕ) (local_size : List ℕ) (co
   pub valid : Valid (module_of whole main local_size)
   pub named : AreNamed (variables_in (module_of whole main local_size) code) place
 
--- There is a frame of a function of this code behind other code, which runs in this state, where its first label is next, with the ids of a place for its
--- variables and with these values of the built-in variables.
+-- There is a frame of a function of this code behind other code, which runs in this state, where its first label is next, with the
+-- ids of a place for its variables and with these values of the built-in variables.
 pub record HasFrame (m : Module) (input : Input) (whole : Sections) (before code : Code) (place : FlowPlace) (stages : List Value) (state : State) : Type 0 where
   pub frame : Frame m input whole
   pub front : frame.before ≡ before
