@@ -1,0 +1,4 @@
+pub mod Standing
+pub mod Named
+pub mod Starting
+pub mod Calling
