@@ -25,7 +25,7 @@ abbrev pub left_with : shader.State → List ℕ → shader.State
 left_with s choices = record s { choices = choices }
 
 -- choices are no matter of variables
-pub value_left : (stages : List Value) (s : shader.State) (choices : List ℕ) (name : Name) → value_of stages (left_with s choices) name ≡ value_of stages s name
+pub value_left : (stages : List (Option Value)) (s : shader.State) (choices : List ℕ) (name : Name) → value_of stages (left_with s choices) name ≡ value_of stages s name
 value_left stages s choices (Global number) = refl
 value_left stages s choices (Interface number) = refl
 value_left stages s choices (Stage number) = refl
@@ -35,7 +35,7 @@ value_left stages s choices (Holder number) = refl
 
 module _ (m : Module) (input : Input) (whole : Sections) (f : Frame m input whole) (p : Program) (around : Around) where
   pub typed_left : (s : shader.State) (choices : List ℕ) → AreTyped m input whole f p around s → AreTyped m input whole f p around (left_with s choices)
-  typed_left s choices t = record { each = λ name. subst (HasType m input whole f p around (type_named around name)) (sym (value_left f.stages s choices name)) (t.each name) }
+  typed_left s choices t = record { each = λ name. subst (HasType m input whole f p around (type_named around name)) (sym (value_left f.stages s choices name)) (t.each name); stages = t.stages }
 
   -- behind a step that stores nothing
   pub good_drawn : (b : Flow) (s : shader.State) (state : State) (ids : Ids) (choices : List ℕ) (later : Sections) → Good m input whole f p around b s state → Inside m input whole f later → Ready later.last f.own ids

@@ -1,5 +1,5 @@
 -- A function that runs: where its code stands, where its variables are, and what its state has to do with the state of the shader.
-use Rattle.std.specs.Prelude.{◌≡◌, ◌≢◌, ℕ, ◌<◌, ◌-◌, Bool, true, false, List, [], ◌∷◌, ◌++◌, drop, length, map, slice_get, Option, Some, None}
+use Rattle.std.specs.Prelude.{◌≡◌, ◌≢◌, ℕ, zero, suc, ◌<◌, ◌-◌, Bool, true, false, List, [], ◌∷◌, ◌++◌, drop, length, map, slice_get, Option, Some, None}
 use Rattle.gsl_base.specs.declared.input.Input.{Input}
 use Rattle.gsl_instr.specs.declared.op.TheConstants as op
 use Rattle.gsl_types.specs.declared.ty.Direction.{Direction}
@@ -40,20 +40,31 @@ pub data Name : Type 0 where
   Local : (number : ℕ) → Name
   Holder : (number : ℕ) → Name
 
+-- an id, which is none where it is 0: a built-in variable that is not used has none
+abbrev pub id_if : Option ℕ → Option ℕ
+id_if None = None
+id_if (Some zero) = None
+id_if (Some (suc before)) = Some (suc before)
+
 -- the id of its variable
 abbrev pub id_of : FlowPlace → Name → Option ℕ
 id_of place (Global number) = slice_get place.globals number
 id_of place (Interface number) = slice_get place.interfaces number
-id_of place (Stage number) = slice_get place.stage_vars number
+id_of place (Stage number) = id_if (slice_get place.stage_vars number)
 id_of place (Param number) = slice_get place.params number
 id_of place (Local number) = slice_get place.locals number
 id_of place (Holder number) = slice_get place.holders number
 
+-- the value that a built-in variable has, where the module has that variable
+abbrev pub value_if : Option (Option Value) → Option Value
+value_if None = None
+value_if (Some v) = v
+
 -- Its value in a state of the shader, where the built-in variables have these. What a holder has is no matter of the shader.
-abbrev pub value_of : List Value → shader.State → Name → Option Value
+abbrev pub value_of : List (Option Value) → shader.State → Name → Option Value
 value_of stages s (Global number) = slice_get s.globals number
 value_of stages s (Interface number) = slice_get s.interfaces number
-value_of stages s (Stage number) = slice_get stages number
+value_of stages s (Stage number) = value_if (slice_get stages number)
 value_of stages s (Param number) = slice_get s.params number
 value_of stages s (Local number) = slice_get s.locals number
 value_of stages s (Holder number) = None
@@ -70,17 +81,17 @@ abbrev pub type_of_param : Option (Direction × Ty) → Option Ty
 type_of_param None = None
 type_of_param (Some param) = Some param.1
 
--- the type of its variable, where the shader has one
+-- the type of its variable, where the shader can change it
 abbrev pub type_named : Around → Name → Option Ty
 type_named around (Global number) = type_of_global (slice_get around.globals number)
 type_named around (Interface number) = type_of_interface (slice_get around.interfaces number)
-type_named around (Stage number) = slice_get stage_types number
+type_named around (Stage number) = None
 type_named around (Param number) = type_of_param (slice_get around.params number)
 type_named around (Local number) = slice_get around.locals number
 type_named around (Holder number) = None
 
 -- A call of a function: its code, which stands behind other functions and before others in the sections that the module is made of; what its
--- ids last for; the calls that wait; the numbers of its variables, and the ids of those of blocks; the values of the built-in variables; and all
+-- ids last for; the calls that wait; the numbers of its variables, and the ids of those of blocks; the values of the built-in variables that the module has; and all
 -- variables as they were when it began.
 pub record Frame (m : Module) (input : Input) (whole : Sections) : Type 0 where
   pub before : Code
@@ -97,7 +108,7 @@ pub record Frame (m : Module) (input : Input) (whole : Sections) : Type 0 where
   pub seat : Name → Option ℕ
   pub apart : (a b : Name) (number : ℕ) → seat a ≡ Some number → seat b ≡ Some number → a ≡ b
   pub blocks : List ℕ
-  pub stages : List Value
+  pub stages : List (Option Value)
   pub begun : List Value
   pub among : (name : Name) (number : ℕ) → seat name ≡ Some number → number < length begun
 
@@ -145,6 +156,7 @@ module _ (m : Module) (input : Input) (whole : Sections) (f : Frame m input whol
     -- Each variable of the shader has a value of its type.
     pub record AreTyped (s : shader.State) : Type 0 where
       pub each : (name : Name) → HasType (type_named around name) (value_of f.stages s name)
+      pub stages : (number : ℕ) (t : Ty) (v : Value) → slice_get stage_types number ≡ Some t → value_of f.stages s (Stage number) ≡ Some v → is_value_of p.structs t v ≡ true
 
     -- The function stands behind what a builder holds, and its state is that of the shader.
     pub record Good (b : Flow) (s : shader.State) (state : State) : Type 0 where

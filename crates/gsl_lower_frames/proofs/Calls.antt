@@ -62,7 +62,7 @@ module _ (m : Module) (body : List Placed) (held : List Held) (count : ℕ) (pla
 
 -- ---- the frame
 
-module _ (m : Module) (whole : Sections) (input : Input) (id : ℕ) (before code behind : Code) (place : FlowPlace) (stages : List Value) (held : List Held) (waiting : List Waiting) (state : State)
+module _ (m : Module) (whole : Sections) (input : Input) (id : ℕ) (before code behind : Code) (place : FlowPlace) (stages : List (Option Value)) (held : List Held) (waiting : List Waiting) (state : State)
     (valid : Valid m) (written : Written m whole) (s : StandsIn m id code) (is : whole.functions ≡ before ++ (code ++ behind))
     (passed : ArePassed m (placed_from (place_in m id code s) code) held (length state.variables)) (known : AreKnown m (placed_from (place_in m id code s) code) place) where
   abbrev body : List Placed

@@ -68,7 +68,7 @@ nothing : (k : ℕ) (it : Held) → slice_get [] k ≡ Some it → ⊥
 nothing zero it is = cc
 nothing (suc k) it is = cc
 
-module _ (input : Input) (whole : Sections) (main : ℕ) (local_size : List ℕ) (code : Code) (place : FlowPlace) (stages : List Value) (e : IsEntered whole main local_size code place) where
+module _ (input : Input) (whole : Sections) (main : ℕ) (local_size : List ℕ) (code : Code) (place : FlowPlace) (stages : List (Option Value)) (e : IsEntered whole main local_size code place) where
   abbrev m : Module
   m = module_of whole main local_size
 

@@ -64,7 +64,7 @@ pub record IsEntered (whole : Sections) (main : ℕ) (local_size : List ℕ) (co
 
 -- There is a frame of a function of this code behind other code, which runs in this state, where its first label is next, with the
 -- ids of a place for its variables and with these values of the built-in variables.
-pub record HasFrame (m : Module) (input : Input) (whole : Sections) (before code : Code) (place : FlowPlace) (stages : List Value) (state : State) : Type 0 where
+pub record HasFrame (m : Module) (input : Input) (whole : Sections) (before code : Code) (place : FlowPlace) (stages : List (Option Value)) (state : State) : Type 0 where
   pub frame : Frame m input whole
   pub front : frame.before ≡ before
   pub same : frame.code ≡ code

@@ -63,11 +63,11 @@ pub fn modules_enter_main()
 
 /// Where the module of a builder starts there is a frame of main, and the ids of the names that are known point to their variables.
 pub fn main_has_a_frame()
-    ensures { (input : Input) (whole : Sections) (main : ℕ) (local_size : List ℕ) (code : Code) (place : FlowPlace) (stages : List Value) → (e : IsEntered whole main local_size code place) → HasFrame (module_of whole main local_size) input whole (e.before ++ begins main e.returned e.control e.function_type ∷ []) code place stages (start (module_of whole main local_size) input) }
+    ensures { (input : Input) (whole : Sections) (main : ℕ) (local_size : List ℕ) (code : Code) (place : FlowPlace) (stages : List (Option Value)) → (e : IsEntered whole main local_size code place) → HasFrame (module_of whole main local_size) input whole (e.before ++ begins main e.returned e.control e.function_type ∷ []) code place stages (start (module_of whole main local_size) input) }
 {}
 
 /// Where a function begins that is called, with pointers to variables that run, there is a frame of it, and the ids of the names that are
 /// known point to their variables.
 pub fn called_functions_have_frames()
-    ensures { (m : Module) (whole : Sections) (input : Input) (id : ℕ) (before code behind : Code) (place : FlowPlace) (stages : List Value) (held : List Held) (waiting : List Waiting) (state : State) → Valid m → Written m whole → (s : StandsIn m id code) → whole.functions ≡ before ++ (code ++ behind) → ArePassed m (placed_from (place_in m id code s) code) held (length state.variables) → AreKnown m (placed_from (place_in m id code s) code) place → HasFrame m input whole before code place stages (entered m (globals m) (placed_from (place_in m id code s) code) held waiting state) }
+    ensures { (m : Module) (whole : Sections) (input : Input) (id : ℕ) (before code behind : Code) (place : FlowPlace) (stages : List (Option Value)) (held : List Held) (waiting : List Waiting) (state : State) → Valid m → Written m whole → (s : StandsIn m id code) → whole.functions ≡ before ++ (code ++ behind) → ArePassed m (placed_from (place_in m id code s) code) held (length state.variables) → AreKnown m (placed_from (place_in m id code s) code) place → HasFrame m input whole before code place stages (entered m (globals m) (placed_from (place_in m id code s) code) held waiting state) }
 {}

@@ -31,7 +31,7 @@ number_of (Param number) = number
 number_of (Local number) = number
 number_of (Holder number) = number
 
-set_global : (stages : List Value) (number : ℕ) (v : Value) (s : shader.State) → IsSet stages Global number v s (access.stored (access.whole (access.Global number)) v s)
+set_global : (stages : List (Option Value)) (number : ℕ) (v : Value) (s : shader.State) → IsSet stages Global number v s (access.stored (access.whole (access.Global number)) v s)
 set_global stages number v s = record { values = s.globals; sorts = sorts; was = λ k. refl; is = λ k. refl; blocks = refl; choices = refl }
   where
     sorts : (name : Name) → ((k : ℕ) × (name ≡ Global k)) ⊎ ((name ≢ Global number) × (value_of stages (access.stored (access.whole (access.Global number)) v s) name ≡ value_of stages s name))
@@ -42,7 +42,7 @@ set_global stages number v s = record { values = s.globals; sorts = sorts; was =
     sorts (Local k) = inr (λ e. absurd cc, refl)
     sorts (Holder k) = inr (λ e. absurd cc, refl)
 
-set_interface : (stages : List Value) (number : ℕ) (v : Value) (s : shader.State) → IsSet stages Passed number v s (access.stored (access.whole (access.Interface number)) v s)
+set_interface : (stages : List (Option Value)) (number : ℕ) (v : Value) (s : shader.State) → IsSet stages Passed number v s (access.stored (access.whole (access.Interface number)) v s)
 set_interface stages number v s = record { values = s.interfaces; sorts = sorts; was = λ k. refl; is = λ k. refl; blocks = refl; choices = refl }
   where
     sorts : (name : Name) → ((k : ℕ) × (name ≡ Passed k)) ⊎ ((name ≢ Passed number) × (value_of stages (access.stored (access.whole (access.Interface number)) v s) name ≡ value_of stages s name))
@@ -53,7 +53,7 @@ set_interface stages number v s = record { values = s.interfaces; sorts = sorts;
     sorts (Local k) = inr (λ e. absurd cc, refl)
     sorts (Holder k) = inr (λ e. absurd cc, refl)
 
-set_param : (stages : List Value) (number : ℕ) (v : Value) (s : shader.State) → IsSet stages Param number v s (access.stored (access.whole (access.Param number)) v s)
+set_param : (stages : List (Option Value)) (number : ℕ) (v : Value) (s : shader.State) → IsSet stages Param number v s (access.stored (access.whole (access.Param number)) v s)
 set_param stages number v s = record { values = s.params; sorts = sorts; was = λ k. refl; is = λ k. refl; blocks = refl; choices = refl }
   where
     sorts : (name : Name) → ((k : ℕ) × (name ≡ Param k)) ⊎ ((name ≢ Param number) × (value_of stages (access.stored (access.whole (access.Param number)) v s) name ≡ value_of stages s name))
@@ -64,7 +64,7 @@ set_param stages number v s = record { values = s.params; sorts = sorts; was = �
     sorts (Local k) = inr (λ e. absurd cc, refl)
     sorts (Holder k) = inr (λ e. absurd cc, refl)
 
-set_local : (stages : List Value) (number : ℕ) (v : Value) (s : shader.State) → IsSet stages Local number v s (access.stored (access.whole (access.Local number)) v s)
+set_local : (stages : List (Option Value)) (number : ℕ) (v : Value) (s : shader.State) → IsSet stages Local number v s (access.stored (access.whole (access.Local number)) v s)
 set_local stages number v s = record { values = s.locals; sorts = sorts; was = λ k. refl; is = λ k. refl; blocks = refl; choices = refl }
   where
     sorts : (name : Name) → ((k : ℕ) × (name ≡ Local k)) ⊎ ((name ≢ Local number) × (value_of stages (access.stored (access.whole (access.Local number)) v s) name ≡ value_of stages s name))

@@ -19,7 +19,7 @@ use Rattle.gsl_lower_follows.specs.Frames.{AreTyped, Frame, HasType, Holder, Hol
 use Rattle.gsl_lower_follows.proofs.Holding.{set_elsewhere, set_there}
 
 -- A state of the shader is another with a value in the variable of a name, which is one of a list of variables.
-pub record IsSet (stages : List Value) (kind : ℕ → Name) (number : ℕ) (v : Value) (s t : shader.State) : Type 0 where
+pub record IsSet (stages : List (Option Value)) (kind : ℕ → Name) (number : ℕ) (v : Value) (s t : shader.State) : Type 0 where
   pub values : List Value
   pub sorts : (name : Name) → ((k : ℕ) × (name ≡ kind k)) ⊎ ((name ≢ kind number) × (value_of stages t name ≡ value_of stages s name))
   pub was : (k : ℕ) → value_of stages s (kind k) ≡ slice_get values k
@@ -28,13 +28,13 @@ pub record IsSet (stages : List Value) (kind : ℕ → Name) (number : ℕ) (v :
   pub choices : t.choices ≡ s.choices
 
 -- what a variable has then
-pub record Other (stages : List Value) (kind : ℕ → Name) (number : ℕ) (v : Value) (s t : shader.State) (name : Name) : Type 0 where
+pub record Other (stages : List (Option Value)) (kind : ℕ → Name) (number : ℕ) (v : Value) (s t : shader.State) (name : Name) : Type 0 where
   pub side : ((name ≡ kind number) × (value_of stages t name ≡ Some v)) ⊎ ((name ≢ kind number) × (value_of stages t name ≡ value_of stages s name))
 
 self_same : (n : ℕ) → (n == n) ≡ true
 self_same n = grind arith
 
-module _ (stages : List Value) (kind : ℕ → Name) (number_of : Name → ℕ) (injective : (k : ℕ) → number_of (kind k) ≡ k) (number : ℕ) (v old : Value) (s t : shader.State) (sets : IsSet stages kind number v s t) (there : value_of stages s (kind number) ≡ Some old) where
+module _ (stages : List (Option Value)) (kind : ℕ → Name) (number_of : Name → ℕ) (injective : (k : ℕ) → number_of (kind k) ≡ k) (number : ℕ) (v old : Value) (s t : shader.State) (sets : IsSet stages kind number v s t) (there : value_of stages s (kind number) ≡ Some old) where
   within : number < length sets.values
   within = slice_get_within sets.values number old (sym (sets.was number) ∙ there)
 
@@ -81,7 +81,7 @@ module _ (m : Module) (input : Input) (sections : Sections) (f : Frame m input s
           (there.0, there.1, set_elsewhere state.variables seat there.0 v (λ same. e.0 (f.apart name (kind number) seat (there.1 ∙ ap Some same) at)) ∙ there.2)
 
   pub typed_set : (kind : ℕ → Name) (number : ℕ) (ty : Ty) (v : Value) (s t : shader.State) → ((name : Name) → Other f.stages kind number v s t name) → type_named around (kind number) ≡ Some ty → is_value_of p.structs ty v ≡ true → AreTyped m input sections f p around s → AreTyped m input sections f p around t
-  typed_set kind number ty v s t others has fits typed = record { each = λ name. by name (others name).side }
+  typed_set kind number ty v s t others has fits typed = record { each = λ name. by name (others name).side; stages = typed.stages }
     where
       by : (name : Name) → ((name ≡ kind number) × (value_of f.stages t name ≡ Some v)) ⊎ ((name ≢ kind number) × (value_of f.stages t name ≡ value_of f.stages s name)) → HasType m input sections f p around (type_named around name) (value_of f.stages t name)
       by name (inl e) = subst (λ o. HasType m input sections f p around o (value_of f.stages t name)) (sym (ap (type_named around) e.0 ∙ has)) (subst (HasType m input sections f p around (Some ty)) (sym e.1) fits)
