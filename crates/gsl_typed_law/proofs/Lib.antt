@@ -1,0 +1,3 @@
+pub mod Bounds
+pub mod Components
+pub mod Operators

@@ -1,0 +1,6 @@
+//! Laws: operations on values of types give values of the types that well typed expressions of their kind have.
+#![tactic(auto)]
+
+mod laws;
+
+pub use laws::{operators_give_values};
