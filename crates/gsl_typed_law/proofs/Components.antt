@@ -82,7 +82,7 @@ some_component count t shape sound is = by (out-Ty t) (roll-out-Ty t) is
 
 -- ---- a value of components
 
-scalar_word : (s : Scalar) (word : ℕ) → is_word_of s word ≡ true → is_scalar s (Word word) ≡ true
+pub scalar_word : (s : Scalar) (word : ℕ) → is_word_of s word ≡ true → is_scalar s (Word word) ≡ true
 scalar_word s word is = ap (is_scalar_layer s) (outs-Word word) ∙ is
 
 pub words_pass : (s : Scalar) (n : ℕ) (words : List ℕ) → Fill (s, n) words → all_pass (replicate n (is_scalar s)) (map Word words) ≡ true
@@ -106,3 +106,18 @@ filled_typed structs s n [] fill = ap (λ u. is_value_of structs u (Many [])) (s
 filled_typed structs s n (word ∷ []) fill = subst (λ k. is_value_of structs (of_shape (s, k)) (Word word) ≡ true) fill.0 (scalar_typed structs s word fill.1.0)
 filled_typed structs s n (word ∷ next ∷ words) fill =
     ap (λ u. is_value_of structs u (Many (map Word (word ∷ next ∷ words)))) (shape_vector s n (λ e. absurd (omega (arith, fill.0, e)))) ∙ vector_typed structs s n (word ∷ next ∷ words) fill
+
+-- a sound type with a shape is the type of the shape
+pub shape_again : (count : ℕ) (t : Ty) (shape : Shape) → IsSound count t → shape_of t ≡ Some shape → of_shape shape ≡ t
+shape_again count t shape sound is = by (out-Ty t) (roll-out-Ty t) is
+  where
+    by : (layer : Ty-F Ty) → roll-Ty layer ≡ t → shape_kind layer ≡ Some shape → of_shape shape ≡ t
+    by Ty-F.Void e is = absurd cc
+    by (Ty-F.One s) e is = ap of_shape (sym (some_same is)) ∙ sym (rolls-One s) ∙ e
+    by (Ty-F.Vector s n) e is =
+        let known : IsTrue (nat_le 2 n && nat_le n 4) = sym (fold-roll-Ty Bool (sound_kind count) (Ty-F.Vector s n)) ∙ subst (IsSound count) (sym e) sound in
+        let many = leb-true 2 n (and_parts (nat_le 2 n) (nat_le n 4) known).0 in
+        ap of_shape (sym (some_same is)) ∙ shape_vector s n (λ one. absurd (omega (arith, many, one))) ∙ sym (rolls-Vector s n) ∙ e
+    by (Ty-F.Array element n) e is = absurd cc
+    by (Ty-F.Runtime element) e is = absurd cc
+    by (Ty-F.Struct number) e is = absurd cc

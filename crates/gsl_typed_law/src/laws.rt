@@ -1,12 +1,18 @@
 //! Laws of the definitions: calls that do nothing, whose contracts are the laws.
 
-ghost use Rattle.std.specs.Prelude.{◌≡◌, Bool, List, ℕ, length, true};
+ghost use Rattle.std.specs.Prelude.{◌≡◌, Bool, IsTrue, List, ℕ, Some, length, true};
+ghost use Rattle.std.specs.List.{AllByRecursion};
 ghost use Rattle.gsl_tree.specs.Around.{Around};
 ghost use Rattle.gsl_tree.specs.Expressions.{IsBinary, IsUnary};
-ghost use Rattle.gsl_tree.specs.Operations.{binary_value, unary_value};
-ghost use Rattle.gsl_tree.specs.Values.{is_value_of};
+ghost use Rattle.gsl_tree.specs.Operations.{binary_value, step_value, unary_value};
+ghost use Rattle.gsl_tree.specs.Shapes.{Shape, is_integer, shape_of};
+ghost use Rattle.gsl_tree.specs.Values.{is_value_of, zero_value};
+ghost use Rattle.gsl_tree.specs.WellTyped.{IsStructDeclared, is_plain};
+ghost use Rattle.gsl_tree.specs.declared.expr.StepOp.{StepOp};
 ghost use Rattle.gsl_typed_law.specs.Given.{AreChoices, Gives};
-ghost use Rattle.gsl_types.specs.Known.{IsSound};
+ghost use Rattle.gsl_typed_law.specs.Plain.{ArePlain};
+ghost use Rattle.gsl_types.specs.Conversions.{converts};
+ghost use Rattle.gsl_types.specs.Known.{AreStructs, IsSound};
 ghost use Rattle.gsl_types.specs.declared.ty.StructType.{StructType};
 ghost use Rattle.gsl_types.specs.declared.ty.Ty.{Ty};
 ghost use Rattle.gsl_values.specs.declared.op.BinaryOp.{BinaryOp};
@@ -18,4 +24,18 @@ ghost use Rattle.gsl_values.specs.declared.value.Value.{Value};
 pub fn operators_give_values()
     ensures unary { (structs : List StructType) (op : UnaryOp) (a t : Ty) (v : Value) → IsUnary op a t → is_value_of structs a v ≡ true → is_value_of structs t (unary_value op v) ≡ true }
     ensures binary { (around : Around) (op : BinaryOp) (signed : Bool) (a b t : Ty) (v w : Value) (choices : List ℕ) → IsSound (length around.structs) a → IsSound (length around.structs) b → IsBinary around op a b t → is_value_of around.structs a v ≡ true → is_value_of around.structs b w ≡ true → AreChoices choices → Gives around.structs t (binary_value op signed v w choices) }
+{}
+
+/// A value of a type is one of the type to which it converts implicitly, and back (GLSL 4.50, 4.1.10): an `int` and a `uint` have the same words. What
+/// `++` and `--` make of a value of a type is one of the type.
+pub fn conversions_and_steps_keep_types()
+    ensures converts { (structs : List StructType) (from to : Ty) (v : Value) → IsTrue (converts from to) → is_value_of structs from v ≡ is_value_of structs to v }
+    ensures steps { (structs : List StructType) (op : StepOp) (t : Ty) (shape : Shape) (v : Value) → IsSound (length structs) t → shape_of t ≡ Some shape → IsTrue (is_integer shape.0) → is_value_of structs t v ≡ true → is_value_of structs t (step_value op v) ≡ true }
+{}
+
+/// The value of a type whose leaves are all zero is one of the type, where neither it nor the structs have a `void` or a runtime array in them; declared structs
+/// have none.
+pub fn zeros_are_values()
+    ensures zero { (structs : List StructType) (t : Ty) → AreStructs structs → ArePlain structs → IsSound (length structs) t → IsTrue (is_plain t) → is_value_of structs t (zero_value structs t) ≡ true }
+    ensures declared { (structs : List StructType) → AllByRecursion (IsStructDeclared structs) structs → ArePlain structs }
 {}

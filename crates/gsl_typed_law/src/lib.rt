@@ -3,4 +3,4 @@
 
 mod laws;
 
-pub use laws::{operators_give_values};
+pub use laws::{conversions_and_steps_keep_types, operators_give_values, zeros_are_values};
