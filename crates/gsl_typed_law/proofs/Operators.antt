@@ -135,7 +135,7 @@ each_fill op signed s one (x ∷ xs) (y ∷ ys) choices (suc n) first second are
 pub words_given : (structs : List StructType) (shape : Shape) (t : Ty) (each : List ℕ × List ℕ) → of_shape shape ≡ t → FillLeft shape each → Gives structs t (of_words each)
 words_given structs shape t each gives fill = subst (λ u. Gives structs u (of_words each)) gives (record { typed = filled_typed structs shape.0 shape.1 each.0 fill.0; left = fill.1 })
 
-truth_given : (structs : List StructType) (b : Bool) (choices : List ℕ) → AreChoices choices → Gives structs boolean (Word (word_of_bool b), choices)
+pub truth_given : (structs : List StructType) (b : Bool) (choices : List ℕ) → AreChoices choices → Gives structs boolean (Word (word_of_bool b), choices)
 truth_given structs b choices are = record { typed = scalar_typed structs Boolean (word_of_bool b) (truth_fits b); left = are }
 
 module _ (structs : List StructType) (signed : Bool) (a b t : Ty) (v w : Value) (choices : List ℕ) (sound_a : IsSound (length structs) a) (sound_b : IsSound (length structs) b)

@@ -1,13 +1,14 @@
 //! Laws of the definitions: calls that do nothing, whose contracts are the laws.
 
-ghost use Rattle.std.specs.Prelude.{◌≡◌, Bool, IsTrue, List, ℕ, Some, length, true};
+ghost use Rattle.std.specs.Prelude.{◌≡◌, Bool, IsTrue, List, ℕ, Some, length, map, true};
 ghost use Rattle.std.specs.List.{AllByRecursion};
 ghost use Rattle.gsl_tree.specs.Around.{Around};
-ghost use Rattle.gsl_tree.specs.Expressions.{IsBinary, IsUnary};
-ghost use Rattle.gsl_tree.specs.Operations.{binary_value, step_value, unary_value};
+ghost use Rattle.gsl_tree.specs.Expressions.{IsBinary, IsBuilt, IsUnary, types_of};
+ghost use Rattle.gsl_tree.specs.Operations.{binary_value, builtin_value, step_value, unary_value};
 ghost use Rattle.gsl_tree.specs.Shapes.{Shape, is_integer, shape_of};
-ghost use Rattle.gsl_tree.specs.Values.{is_value_of, zero_value};
+ghost use Rattle.gsl_tree.specs.Values.{all_pass, is_value_of, zero_value};
 ghost use Rattle.gsl_tree.specs.WellTyped.{IsStructDeclared, is_plain};
+ghost use Rattle.gsl_tree.specs.declared.expr.Expr.{Expr};
 ghost use Rattle.gsl_tree.specs.declared.expr.StepOp.{StepOp};
 ghost use Rattle.gsl_typed_law.specs.Given.{AreChoices, Gives};
 ghost use Rattle.gsl_typed_law.specs.Plain.{ArePlain};
@@ -15,6 +16,7 @@ ghost use Rattle.gsl_types.specs.Conversions.{converts};
 ghost use Rattle.gsl_types.specs.Known.{AreStructs, IsSound};
 ghost use Rattle.gsl_types.specs.declared.ty.StructType.{StructType};
 ghost use Rattle.gsl_types.specs.declared.ty.Ty.{Ty};
+ghost use Rattle.gsl_values.specs.declared.function.Builtin.{Builtin};
 ghost use Rattle.gsl_values.specs.declared.op.BinaryOp.{BinaryOp};
 ghost use Rattle.gsl_values.specs.declared.op.UnaryOp.{UnaryOp};
 ghost use Rattle.gsl_values.specs.declared.value.Value.{Value};
@@ -38,4 +40,10 @@ pub fn conversions_and_steps_keep_types()
 pub fn zeros_are_values()
     ensures zero { (structs : List StructType) (t : Ty) → AreStructs structs → ArePlain structs → IsSound (length structs) t → IsTrue (is_plain t) → is_value_of structs t (zero_value structs t) ≡ true }
     ensures declared { (structs : List StructType) → AllByRecursion (IsStructDeclared structs) structs → ArePlain structs }
+{}
+
+/// A built-in function on values of its arguments' types gives a value of its own type (GLSL 4.50, 8.3, 8.7 and 8.8), whatever is drawn where the language
+/// leaves a component open.
+pub fn functions_give_values()
+    ensures { (structs : List StructType) (which : Builtin) (signed : Bool) (args : List Expr) (t : Ty) (vs : List Value) (choices : List ℕ) → IsBuilt which args t → all_pass (map (is_value_of structs) (types_of args)) vs ≡ true → AreChoices choices → Gives structs t (builtin_value which signed vs choices) }
 {}

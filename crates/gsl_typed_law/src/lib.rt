@@ -3,4 +3,6 @@
 
 mod laws;
 
-pub use laws::{conversions_and_steps_keep_types, operators_give_values, zeros_are_values};
+pub use laws::{
+    conversions_and_steps_keep_types, functions_give_values, operators_give_values, zeros_are_values,
+};
