@@ -4,5 +4,6 @@
 mod laws;
 
 pub use laws::{
-    conversions_and_steps_keep_types, functions_give_values, operators_give_values, zeros_are_values,
+    constructors_give_values, conversions_and_steps_keep_types, functions_give_values,
+    operators_give_values, parts_are_values, zeros_are_values,
 };
