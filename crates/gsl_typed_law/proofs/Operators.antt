@@ -1,5 +1,5 @@
 -- Operators on values of types give values of their types.
-use Rattle.std.proofs.Common.{◌≡◌, refl, sym, ap, ◌∙◌, subst, ℕ, zero, suc, ◌≤◌, ◌⊎◌, inl, inr, max, Bool, true, false, not, ◌&&◌, ◌||◌, List, [], ◌∷◌, map, length, Some, arith}
+use Rattle.std.proofs.Common.{◌≡◌, refl, sym, ap, ap₂, ◌∙◌, subst, ℕ, zero, suc, ◌≤◌, ◌⊎◌, inl, inr, max, Bool, true, false, not, ◌&&◌, ◌||◌, List, [], ◌∷◌, map, length, Some, arith}
 use Rattle.std.specs.Prelude.{nat_eq}
 use Rattle.std.proofs.lemmas.Bool.{and_parts, eqb-true, or_cases, false≢true}
 use Rattle.std.proofs.lemmas.List.{length-replicate}
@@ -13,14 +13,15 @@ use Rattle.gsl_values.specs.declared.op.BinaryOp.TheVariants.{Add, Sub, Mul, Div
 use Rattle.gsl_values.specs.declared.op.UnaryOp.{UnaryOp}
 use Rattle.gsl_values.specs.declared.value.Value.{Value}
 use Rattle.gsl_values.specs.declared.value.Value.TheVariants.{Word}
-use Rattle.gsl_values.specs.Operators.{binary_answer, unary_word}
+use Rattle.gsl_values.specs.Choices.{answer}
+use Rattle.gsl_values.specs.Operators.{binary_answer, binary_word, is_free, unary_word}
 use Rattle.gsl_values.specs.Vectors.{binary_each}
 use Rattle.gsl_values.specs.Word.{word_of_bool}
 use Rattle.gsl_tree.specs.Around.{Around}
 use Rattle.gsl_tree.specs.Expressions.{IsBinary, IsOperation, IsUnary, boolean}
 use Rattle.gsl_tree.specs.Operations.{binary_value, binary_words, of_words, spread, unary_value}
 use Rattle.gsl_tree.specs.Shapes.{Shape, arithmetic_shape, binary_shape, flag, is_equality, is_integer, of_shape, relation_shape, same_scalar, serves_beside, shape_of, shift_shape, unary_shape}
-use Rattle.gsl_tree.specs.Values.{components_in, is_value_of, is_word_of, same_value}
+use Rattle.gsl_tree.specs.Values.{components_in, is_value_of, is_word_of, of_components, same_value}
 use Rattle.gsl_typed_law.specs.Given.{AreChoices, Gives}
 use Rattle.gsl_typed_law.proofs.Bounds.{Fits, binary_fits, truth_fits, unary_fits, when_is}
 use Rattle.gsl_typed_law.proofs.Components.{Fill, components_fill, filled_typed, scalar_typed, some_component}
@@ -138,6 +139,11 @@ words_given structs shape t each gives fill = subst (λ u. Gives structs u (of_w
 pub truth_given : (structs : List StructType) (b : Bool) (choices : List ℕ) → AreChoices choices → Gives structs boolean (Word (word_of_bool b), choices)
 truth_given structs b choices are = record { typed = scalar_typed structs Boolean (word_of_bool b) (truth_fits b); left = are }
 
+each_given : (op : BinaryOp) (signed : Bool) (v w : Value) (choices : List ℕ) → is_equality op ≡ false → binary_value op signed v w choices ≡ of_words (binary_words op signed (components_in v) (components_in w) choices)
+each_given Equal signed v w choices is = absurd (false≢true (sym is))
+each_given Unequal signed v w choices is = absurd (false≢true (sym is))
+each_given _ signed v w choices is = refl
+
 module _ (structs : List StructType) (signed : Bool) (a b t : Ty) (v w : Value) (choices : List ℕ) (sound_a : IsSound (length structs) a) (sound_b : IsSound (length structs) b)
     (fits_v : is_value_of structs a v ≡ true) (fits_w : is_value_of structs b w ≡ true) (are : AreChoices choices) where
   operation_fill : (op : BinaryOp) (x y z : Shape) → shape_of a ≡ Some x → shape_of b ≡ Some y → binary_shape op x y ≡ Some z → FillLeft z (binary_words op signed (components_in v) (components_in w) choices)
@@ -148,11 +154,6 @@ module _ (structs : List StructType) (signed : Bool) (a b t : Ty) (v w : Value) 
       let counted = spread_counted (components_in v) (components_in w) z.1 (subst (λ n. Count (length (components_in v)) n z.1) (sym second) (subst (λ m. Count m y.1 z.1) (sym first) count)) in
       each_fill op signed z.0 (λ a b choices are. binary_fits signed a b choices are x y z op takes) (spread (length (components_in w)) (components_in v)) (spread (length (components_in v)) (components_in w)) choices z.1 counted.0 counted.1 are
 
-  each_given : (op : BinaryOp) → is_equality op ≡ false → binary_value op signed v w choices ≡ of_words (binary_words op signed (components_in v) (components_in w) choices)
-  each_given Equal is = absurd (false≢true (sym is))
-  each_given Unequal is = absurd (false≢true (sym is))
-  each_given _ is = refl
-
   no_equality : (op : BinaryOp) (x y z : Shape) → binary_shape op x y ≡ Some z → is_equality op ≡ false
   no_equality Equal x y z is = absurd cc
   no_equality Unequal x y z is = absurd cc
@@ -160,7 +161,7 @@ module _ (structs : List StructType) (signed : Bool) (a b t : Ty) (v w : Value) 
 
   pub operation_typed : (op : BinaryOp) → IsOperation op a b t → Gives structs t (binary_value op signed v w choices)
   operation_typed op (x, y, z, is_x, is_y, takes, gives) =
-      subst (Gives structs t) (sym (each_given op (no_equality op x y z takes))) (words_given structs z t _ gives (operation_fill op x y z is_x is_y takes))
+      subst (Gives structs t) (sym (each_given op signed v w choices (no_equality op x y z takes))) (words_given structs z t _ gives (operation_fill op x y z is_x is_y takes))
 
   equality_typed : (op : BinaryOp) → is_equality op ≡ true → t ≡ boolean → Gives structs t (binary_value op signed v w choices)
   equality_typed Equal is e = subst (λ u. Gives structs u (binary_value Equal signed v w choices)) (sym e) (truth_given structs (same_value v w) choices are)
@@ -171,3 +172,38 @@ pub binary_typed : (around : Around) (op : BinaryOp) (signed : Bool) (a b t : Ty
     → is_value_of around.structs a v ≡ true → is_value_of around.structs b w ≡ true → AreChoices choices → Gives around.structs t (binary_value op signed v w choices)
 binary_typed around op signed a b t v w choices sound_a sound_b (inl (equal, is)) fits_v fits_w are = equality_typed around.structs signed a b t v w choices sound_a sound_b fits_v fits_w are op equal is.1
 binary_typed around op signed a b t v w choices sound_a sound_b (inr is) fits_v fits_w are = operation_typed around.structs signed a b t v w choices sound_a sound_b fits_v fits_w are op is
+
+-- ---- where nothing is left open
+
+not_drawn : (op : BinaryOp) (signed : Bool) (a b : ℕ) (choices : List ℕ) → is_free op signed a b ≡ false → binary_answer op signed a b choices ≡ (binary_word op signed a b, choices)
+unfolding binary_answer
+not_drawn op signed a b choices none = ap (λ free. answer free (binary_word op signed a b) choices) none
+
+module _ (op : BinaryOp) (signed : Bool) (none : (a b : ℕ) → is_free op signed a b ≡ false) where
+  same_each : (xs ys choices others : List ℕ) → (binary_each op signed xs ys choices).0 ≡ (binary_each op signed xs ys others).0
+  same_each [] ys choices others = refl
+  same_each (x ∷ xs) [] choices others = refl
+  same_each (x ∷ xs) (y ∷ ys) choices others =
+      ap₂ (λ word words. word ∷ words) (ap (λ (g : ℕ × List ℕ). g.0) (not_drawn op signed x y choices (none x y)) ∙ sym (ap (λ (g : ℕ × List ℕ). g.0) (not_drawn op signed x y others (none x y))))
+      (same_each xs ys (binary_answer op signed x y choices).1 (binary_answer op signed x y others).1)
+
+  same_equality : (which : BinaryOp) (v w : Value) (choices : List ℕ) → is_equality which ≡ true → (binary_value which signed v w choices).0 ≡ (binary_value which signed v w []).0
+  same_equality Equal v w choices is = refl
+  same_equality Unequal v w choices is = refl
+  same_equality _ v w choices is = absurd (false≢true is)
+
+  same_value_given : (v w : Value) (choices : List ℕ) → (binary_value op signed v w choices).0 ≡ (binary_value op signed v w []).0
+  same_value_given v w choices = by (is_equality op) refl
+    where
+      by : (b : Bool) → is_equality op ≡ b → (binary_value op signed v w choices).0 ≡ (binary_value op signed v w []).0
+      by true is = same_equality op v w choices is
+      by false is =
+          ap (λ (g : Value × List ℕ). g.0) (each_given op signed v w choices is)
+          ∙ ap of_components (same_each (spread (length (components_in w)) (components_in v)) (spread (length (components_in v)) (components_in w)) choices [])
+          ∙ sym (ap (λ (g : Value × List ℕ). g.0) (each_given op signed v w [] is))
+
+-- an operator that leaves nothing open gives a value of its type whatever the choices are
+pub undrawn_typed : (around : Around) (op : BinaryOp) (signed : Bool) (a b t : Ty) (v w : Value) (choices : List ℕ) → ((x y : ℕ) → is_free op signed x y ≡ false) → IsSound (length around.structs) a → IsSound (length around.structs) b → IsBinary around op a b t
+    → is_value_of around.structs a v ≡ true → is_value_of around.structs b w ≡ true → is_value_of around.structs t (binary_value op signed v w choices).0 ≡ true
+undrawn_typed around op signed a b t v w choices none sound_a sound_b is fits_v fits_w =
+    ap (is_value_of around.structs t) (same_value_given op signed none v w choices) ∙ Gives.typed (binary_typed around op signed a b t v w [] sound_a sound_b is fits_v fits_w tt)

@@ -1,6 +1,6 @@
 //! Laws of the definitions: calls that do nothing, whose contracts are the laws.
 
-ghost use Rattle.std.specs.Prelude.{◌≡◌, ◌≤◌, Bool, IsTrue, List, ℕ, Some, length, map, true};
+ghost use Rattle.std.specs.Prelude.{◌≡◌, ◌≤◌, Bool, IsTrue, List, ℕ, Some, false, length, map, true};
 ghost use Rattle.std.specs.List.{AllByRecursion};
 ghost use Rattle.gsl_tree.specs.Around.{Around};
 ghost use Rattle.gsl_tree.specs.Expressions.{IsBinary, IsBuild, IsBuilt, IsSwizzle, IsUnary, types_of};
@@ -17,6 +17,7 @@ ghost use Rattle.gsl_types.specs.Conversions.{converts};
 ghost use Rattle.gsl_types.specs.Known.{AreStructs, IsSound};
 ghost use Rattle.gsl_types.specs.declared.ty.StructType.{StructType};
 ghost use Rattle.gsl_types.specs.declared.ty.Ty.{Ty};
+ghost use Rattle.gsl_values.specs.Operators.{is_free};
 ghost use Rattle.gsl_values.specs.declared.function.Builtin.{Builtin};
 ghost use Rattle.gsl_values.specs.declared.lane.Lanes.{Lanes};
 ghost use Rattle.gsl_values.specs.declared.op.BinaryOp.{BinaryOp};
@@ -24,10 +25,11 @@ ghost use Rattle.gsl_values.specs.declared.op.UnaryOp.{UnaryOp};
 ghost use Rattle.gsl_values.specs.declared.value.Value.{Value};
 
 /// An operator on values of its operands' types gives a value of its own type (GLSL 4.50, 5.9), whatever is drawn where the language leaves a
-/// component open: choices are words.
+/// component open, since choices are words; an operator that leaves nothing open does so by any choices.
 pub fn operators_give_values()
     ensures unary { (structs : List StructType) (op : UnaryOp) (a t : Ty) (v : Value) → IsUnary op a t → is_value_of structs a v ≡ true → is_value_of structs t (unary_value op v) ≡ true }
     ensures binary { (around : Around) (op : BinaryOp) (signed : Bool) (a b t : Ty) (v w : Value) (choices : List ℕ) → IsSound (length around.structs) a → IsSound (length around.structs) b → IsBinary around op a b t → is_value_of around.structs a v ≡ true → is_value_of around.structs b w ≡ true → AreChoices choices → Gives around.structs t (binary_value op signed v w choices) }
+    ensures undrawn { (around : Around) (op : BinaryOp) (signed : Bool) (a b t : Ty) (v w : Value) (choices : List ℕ) → ((x y : ℕ) → is_free op signed x y ≡ false) → IsSound (length around.structs) a → IsSound (length around.structs) b → IsBinary around op a b t → is_value_of around.structs a v ≡ true → is_value_of around.structs b w ≡ true → is_value_of around.structs t (binary_value op signed v w choices).0 ≡ true }
 {}
 
 /// A value of a type is one of the type to which it converts implicitly, and back (GLSL 4.50, 4.1.10): an `int` and a `uint` have the same words. What
