@@ -1,0 +1,9 @@
+pub mod Bounds
+pub mod Built
+pub mod Builtins
+pub mod Components
+pub mod Conversions
+pub mod Functions
+pub mod Operators
+pub mod Parts
+pub mod Zeros
