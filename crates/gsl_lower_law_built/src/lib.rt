@@ -1,0 +1,6 @@
+//! Do `,`, built-in functions, constructors and selected values as they are lowered do what they mean?
+#![tactic(auto)]
+
+mod laws;
+
+pub use laws::sequence_gives;
