@@ -1,1 +1,4 @@
 pub mod Sequence
+pub mod Together
+pub mod Steps
+pub mod Called

@@ -3,4 +3,4 @@
 
 mod laws;
 
-pub use laws::sequence_gives;
+pub use laws::{built_gives, sequence_gives};
