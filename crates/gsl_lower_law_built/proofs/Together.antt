@@ -25,7 +25,7 @@ use Rattle.gsl_lower_law_expr.specs.Rows.{HasAll}
 use Rattle.gsl_lower_law_expr.proofs.Lists.{adds_operands, operands_do}
 use Rattle.gsl_lower_law_expr.proofs.Operands.{given_behind}
 
-none_more : (c : Bool) → c ≡ false → (c || false) ≡ false
+pub none_more : (c : Bool) → c ≡ false → (c || false) ≡ false
 none_more true e = absurd cc
 none_more false e = e
 

@@ -1,11 +1,11 @@
 -- What is known of the parts of `,`, of the arguments of built-in functions and constructors, and of their types.
-use Rattle.std.specs.Prelude.{◌≡◌, ℕ, Bool, true, false, List, [], ◌∷◌, length, map, Option, Some, None}
+use Rattle.std.specs.Prelude.{◌≡◌, ℕ, ◌+◌, ◌≤◌, ◌⊎◌, Bool, true, false, List, [], ◌∷◌, length, map, Option, Some, None}
 use Rattle.gsl_types.specs.Known.{AreStructs, IsSound}
 use Rattle.gsl_types.specs.declared.ty.Ty.{Ty}
 use Rattle.gsl_values.specs.declared.function.Builtin.{Builtin}
 use Rattle.gsl_values.specs.declared.value.Value.{Value}
-use Rattle.gsl_tree.specs.Operations.{builtin_value, is_signed}
-use Rattle.gsl_tree.specs.Shapes.{Shape, built_shape, shape_of}
+use Rattle.gsl_tree.specs.Operations.{build_value, builtin_value, is_signed}
+use Rattle.gsl_tree.specs.Shapes.{Shape, built_shape, of_shape, shape_of}
 use Rattle.gsl_tree.specs.Values.{is_value_of}
 use Rattle.gsl_tree.specs.declared.program.Program.{Program}
 use Rattle.gsl_meaning.specs.Expressions.{Meant, in_order, is_signed_first, last_of}
@@ -60,3 +60,30 @@ pub record Answers (p : Program) (which : Builtin) (args : List Lower) (ty : Ty)
 -- what a built-in function does
 abbrev pub built_means : Builtin → List Meant → Run Value
 built_means which xs = in_order xs >>= (λ vs. drawing (builtin_value which (is_signed_first xs) vs))
+
+-- ---- constructors
+
+-- how many components shapes have in a row
+abbrev pub components : List Shape → ℕ
+components [] = 0
+components (shape ∷ shapes) = shape.1 + components shapes
+
+-- A constructor of a scalar or vector takes arguments that have as many components, or one that fills all of them, and gives values of its type.
+pub record Constructs (p : Program) (args : List Lower) (ty : Ty) : Type 0 where
+  pub are : AreStructs p.structs
+  pub shapes : List Shape
+  pub shaped : AreShaped p args shapes
+  pub shape : Shape
+  pub some : 1 ≤ shape.1
+  pub is : of_shape shape ≡ ty
+  pub enough : (shape.1 ≤ components shapes) ⊎ (components shapes ≡ 1)
+  pub gives : (vs : List Value) → AllTyped p args vs → is_value_of p.structs ty (build_value ty vs) ≡ true
+
+-- A constructor of an array or a struct gives values of its type.
+pub record Composes (p : Program) (args : List Lower) (ty : Ty) : Type 0 where
+  pub whole : shape_of ty ≡ None
+  pub gives : (vs : List Value) → AllTyped p args vs → is_value_of p.structs ty (build_value ty vs) ≡ true
+
+-- what a constructor does
+abbrev pub constructed_means : Ty → List Meant → Run Value
+constructed_means ty xs = in_order xs >>= (λ vs. given (build_value ty vs))

@@ -3,4 +3,4 @@
 
 mod laws;
 
-pub use laws::{built_gives, sequence_gives};
+pub use laws::{built_gives, composed_gives, constructed_gives, selected_gives, sequence_gives};
