@@ -1,5 +1,5 @@
 -- Built-in functions on the values of expressions.
-use Rattle.std.proofs.Common.{◌≡◌, refl, sym, ap, ap₂, ◌∙◌, subst, ℕ, ◌≤◌, Bool, true, false, List, [], ◌∷◌, map, Some}
+use Rattle.std.proofs.Common.{◌≡◌, refl, sym, ap, ap₂, ◌∙◌, subst, ℕ, ◌≤◌, List, [], ◌∷◌, map}
 use Rattle.std.specs.List.{AllByRecursion}
 use Rattle.gsl_base.specs.declared.input.Input.{Input}
 use Rattle.gsl_types.specs.Known.{AreStructs}
@@ -10,7 +10,6 @@ use Rattle.gsl_values.specs.declared.value.Value.{Value}
 use Rattle.gsl_tree.specs.Around.{Around}
 use Rattle.gsl_tree.specs.Operations.{builtin_value, is_signed, is_signed_scalar}
 use Rattle.gsl_tree.specs.Shapes.{Shape, built_shape}
-use Rattle.gsl_tree.specs.Values.{is_value_of}
 use Rattle.gsl_tree.specs.declared.program.Program.{Program}
 use Rattle.gsl_meaning.specs.Expressions.{Meant, in_order, is_signed_first}
 use Rattle.gsl_meaning.specs.Running.{drawing}
@@ -24,7 +23,7 @@ use Rattle.gsl_lower_law.specs.Operands.{AllStand, first_signed as operands_sign
 use Rattle.gsl_lower_law.specs.Values.{IsOf, StandEach}
 use Rattle.gsl_lower_law_calls.proofs.Called.{called_computes}
 use Rattle.gsl_lower_holders.specs.Flow.{lift}
-use Rattle.gsl_lower_expr.specs.Parts.{Lower, any_splits, called_of, shape_or, typed}
+use Rattle.gsl_lower_expr.specs.Parts.{Lower, any_splits, called_of, typed}
 use Rattle.gsl_lower_follows.specs.Frames.{Frame}
 use Rattle.gsl_lower_follows.specs.Giving.{GivesValue}
 use Rattle.gsl_lower_follows.proofs.Drawn.{computed_given}

@@ -1,5 +1,5 @@
 -- Constructors of arrays and structs.
-use Rattle.std.proofs.Common.{◌≡◌, refl, sym, ap, ◌∙◌, subst, ℕ, Bool, true, false, List, [], ◌∷◌, Option, Some, None}
+use Rattle.std.proofs.Common.{◌≡◌, refl, sym, ap, ◌∙◌, subst, ℕ, true, false, List, Option, Some, None}
 use Rattle.gsl_base.specs.declared.input.Input.{Input}
 use Rattle.gsl_instr.specs.Forms.{form_of}
 use Rattle.gsl_instr.specs.declared.op.TheConstants as op
@@ -11,7 +11,7 @@ use Rattle.gsl_values.specs.declared.value.Value.{Value}
 use Rattle.gsl_values.specs.declared.value.Value.TheVariants.{Many}
 use Rattle.gsl_tree.specs.Around.{Around}
 use Rattle.gsl_tree.specs.Operations.{build_kind, build_value}
-use Rattle.gsl_tree.specs.Shapes.{Shape, shape_kind, shape_of}
+use Rattle.gsl_tree.specs.Shapes.{shape_kind, shape_of}
 use Rattle.gsl_tree.specs.Values.{is_value_of}
 use Rattle.gsl_tree.specs.declared.program.Program.{Program}
 use Rattle.gsl_meaning.specs.Expressions.{Meant}
@@ -27,15 +27,15 @@ use Rattle.gsl_lower_values.specs.Building.{giving}
 use Rattle.gsl_lower_law.specs.Values.{StandEach}
 use Rattle.gsl_lower_law.proofs.Gathers.{all_there}
 use Rattle.gsl_lower_law.proofs.Giving.{Performs, giving_does, giving_grows}
-use Rattle.gsl_lower_holders.specs.Flow.{Emit, Flow, behind, find_type, giving_here, id_at, type_by, type_id, ◌>>=◌}
+use Rattle.gsl_lower_holders.specs.Flow.{Flow, behind, find_type, giving_here, id_at, type_by, type_id, ◌>>=◌}
 use Rattle.gsl_lower_holders.specs.declared.place.FlowPlace.{FlowPlace}
 use Rattle.gsl_lower_expr.specs.Parts.{Lower, any_splits, built_from, constructed, operands, typed}
 use Rattle.gsl_lower_follows.specs.Frames.{Frame, Good}
-use Rattle.gsl_lower_follows.specs.Giving.{Adds, Does, GivesValue, Grown, HasGiven, none_waits}
+use Rattle.gsl_lower_follows.specs.Giving.{Adds, Does, GivesValue, HasGiven, none_waits}
 use Rattle.gsl_lower_follows.proofs.Drawn.{computed_given}
 use Rattle.gsl_lower_follows.proofs.Fetching.{adds_giving, adds_type_id}
 use Rattle.gsl_lower_follows.proofs.Growing.{adds_then}
-use Rattle.gsl_lower_law_expr.specs.Known.{AllGive, AllTyped}
+use Rattle.gsl_lower_law_expr.specs.Known.{AllGive}
 use Rattle.gsl_lower_law_built.specs.Arguments.{Composes, constructed_means}
 use Rattle.gsl_lower_law_built.specs.Places.{GivesWhere, NoVector}
 use Rattle.gsl_lower_law_built.proofs.Together.{adds_all, all_do}

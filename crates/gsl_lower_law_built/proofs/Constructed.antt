@@ -13,9 +13,8 @@ use Rattle.gsl_tree.specs.Around.{Around}
 use Rattle.gsl_tree.specs.Operations.{build_value}
 use Rattle.gsl_tree.specs.Shapes.{Shape, of_shape, shape_kind, shape_of}
 use Rattle.gsl_tree.specs.declared.program.Program.{Program}
-use Rattle.gsl_meaning.specs.Expressions.{Meant, in_order}
+use Rattle.gsl_meaning.specs.Expressions.{Meant}
 use Rattle.gsl_meaning.specs.Running.{given as shader_given}
-use Rattle.gsl_meaning.specs.Running as shader_run
 use Rattle.gsl_machine.specs.State.{State}
 use Rattle.gsl_spv.specs.Sections.{Sections}
 use Rattle.gsl_lower_values.specs.Constructors.{built}
@@ -34,7 +33,7 @@ use Rattle.gsl_lower_follows.proofs.Growing.{adds_lift}
 use Rattle.gsl_lower_law_expr.specs.Known.{AllGive, AllTyped}
 use Rattle.gsl_lower_law_built.specs.Arguments.{Constructs, components, constructed_means}
 use Rattle.gsl_lower_law_built.proofs.Building.{always_built}
-use Rattle.gsl_lower_law_built.proofs.Called.{Stood, stood}
+use Rattle.gsl_lower_law_built.proofs.Called.{stood}
 use Rattle.gsl_lower_law_built.proofs.Together.{all_give}
 
 shape_back_by : (s : Scalar) (n : ℕ) (b : Bool) → nat_eq n 1 ≡ b → shape_of (if b then ty.One s else ty.Vector s n) ≡ Some (s, n)

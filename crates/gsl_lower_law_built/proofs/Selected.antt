@@ -1,10 +1,9 @@
 -- `?:` where both values may be evaluated: one of two scalars is selected, and no block ends.
-use Rattle.std.proofs.Common.{◌≡◌, ◌≢◌, refl, sym, ap, ◌∙◌, subst, ℕ, Bool, true, false, ◌||◌, ◌==◌, List, [], ◌∷◌, Some, if◌then◌else◌}
+use Rattle.std.proofs.Common.{◌≡◌, ◌≢◌, refl, sym, ap, ◌∙◌, subst, ℕ, Bool, true, false, ◌==◌, List, [], ◌∷◌, if◌then◌else◌}
 use Rattle.std.proofs.lemmas.Bool.{false≢true}
 use Rattle.gsl_base.specs.declared.input.Input.{Input}
 use Rattle.gsl_types.specs.declared.ty.Scalar.{Scalar}
 use Rattle.gsl_types.specs.declared.ty.StructType.{StructType}
-use Rattle.gsl_types.specs.declared.ty.Ty.{Ty}
 use Rattle.gsl_types.specs.declared.ty.Ty.TheOpen.{Ty-F}
 use Rattle.gsl_types.specs.declared.ty.Ty.TheVariants.{One, Void, outs-One, outs-Void}
 use Rattle.gsl_types.specs.declared.ty.Ty.TheViews.{out-Ty}
@@ -33,14 +32,14 @@ use Rattle.gsl_lower_law.proofs.Components.{components_of}
 use Rattle.gsl_lower_law_operators.proofs.Straights.{selected_computes}
 use Rattle.gsl_lower_holders.specs.Flow.{Emit, Flow, lift, ◌>>=◌}
 use Rattle.gsl_lower_expr.specs.Parts.{Lower, picked_one, shape_or}
-use Rattle.gsl_lower_follows.specs.Frames.{AreTyped, Frame, Good, Inside}
-use Rattle.gsl_lower_follows.specs.Giving.{Adds, After, Does, GivesValue, Grown, HasGiven, none_waits}
+use Rattle.gsl_lower_follows.specs.Frames.{AreTyped, Frame, Good}
+use Rattle.gsl_lower_follows.specs.Giving.{Adds, Does, GivesValue, HasGiven, none_waits}
 use Rattle.gsl_lower_follows.proofs.Doing.{does_then}
 use Rattle.gsl_lower_follows.proofs.Drawn.{computed_given}
-use Rattle.gsl_lower_follows.proofs.Growing.{adds_lift, adds_then, grown_then}
-use Rattle.gsl_lower_follows.proofs.Holding.{after_then, does_so}
+use Rattle.gsl_lower_follows.proofs.Growing.{adds_lift, adds_then}
+use Rattle.gsl_lower_follows.proofs.Holding.{does_so}
 use Rattle.gsl_lower_law_expr.specs.Known.{IsQuiet, choice_means, choice_value}
-use Rattle.gsl_lower_law_expr.proofs.Logic.{IsTruth, real_boolean, truth_of}
+use Rattle.gsl_lower_law_expr.proofs.Logic.{real_boolean, truth_of}
 use Rattle.gsl_lower_law_expr.proofs.Operands.{given_behind, given_value}
 use Rattle.gsl_lower_law_expr.proofs.Steps.{always_selected}
 use Rattle.gsl_lower_law_built.proofs.Together.{none_more}

@@ -10,9 +10,8 @@ use Rattle.gsl_meaning.specs.Expressions.{Meant, in_order, last_of}
 use Rattle.gsl_meaning.specs.Running.{Got, Ran, Run, given as shader_given}
 use Rattle.gsl_meaning.specs.Running as shader_run
 use Rattle.gsl_meaning.specs.State as shader
-use Rattle.gsl_machine.specs.State.{State}
 use Rattle.gsl_spv.specs.Sections.{Sections}
-use Rattle.gsl_lower_holders.specs.Flow.{Emit, Flow, given, ◌>>=◌}
+use Rattle.gsl_lower_holders.specs.Flow.{Emit, given, ◌>>=◌}
 use Rattle.gsl_lower_expr.specs.Parts.{Lower, any_splits, sequence}
 use Rattle.gsl_lower_follows.specs.Frames.{Frame}
 use Rattle.gsl_lower_follows.specs.Giving.{Does, GivesValue, HasGiven, none_waits}
