@@ -41,7 +41,7 @@ use Rattle.gsl_lower_law_built.specs.Places.{GivesWhere, NoVector}
 use Rattle.gsl_lower_law_built.proofs.Together.{adds_all, all_do}
 
 -- what is no scalar and no vector has its arguments as its parts
-parts_are : (t : Ty) (vs : List Value) → shape_of t ≡ None → build_value t vs ≡ Many vs
+pub parts_are : (t : Ty) (vs : List Value) → shape_of t ≡ None → build_value t vs ≡ Many vs
 parts_are t vs is = by (out-Ty t) is
   where
     by : (layer : Ty-F Ty) → shape_kind layer ≡ None → build_kind layer vs ≡ Many vs

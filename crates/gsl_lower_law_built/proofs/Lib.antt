@@ -5,4 +5,5 @@ pub mod Called
 pub mod Building
 pub mod Constructed
 pub mod Composed
+pub mod Fitting
 pub mod Selected

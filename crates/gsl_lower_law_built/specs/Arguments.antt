@@ -32,9 +32,13 @@ sequence_means xs = in_order xs >>= (λ vs. given (last_of vs))
 
 -- ---- built-in functions
 
+-- the types of parts
+abbrev pub types_of : List Lower → List Ty
+types_of es = map (λ e. e.ty) es
+
 -- The types of parts are those of what they mean.
 abbrev pub SameTypes : List Lower → List Meant → Type 0
-SameTypes es xs = map (λ e. e.ty) es ≡ map (λ x. x.ty) xs
+SameTypes es xs = types_of es ≡ map (λ x. x.ty) xs
 
 -- Arguments are scalars and vectors of these shapes, of types that a program may have.
 abbrev pub AreShaped : Program → List Lower → List Shape → Type 0

@@ -1,15 +1,17 @@
 //! Laws of the definitions: calls that do nothing, whose contracts are the laws.
 
-ghost use Rattle.std.specs.Prelude.{◌≡◌, List, Some, false};
+ghost use Rattle.std.specs.Prelude.{◌≡◌, ℕ, List, Some, false, replicate, slice_get};
 ghost use Rattle.gsl_base.specs.declared.input.Input.{Input};
+ghost use Rattle.gsl_types.specs.Known.{AreStructs};
 ghost use Rattle.gsl_types.specs.declared.ty.Scalar.{Scalar};
+ghost use Rattle.gsl_types.specs.declared.ty.StructType.{StructType};
 ghost use Rattle.gsl_types.specs.declared.ty.Ty.{Ty};
-ghost use Rattle.gsl_types.specs.declared.ty.Ty.TheVariants.{One};
+ghost use Rattle.gsl_types.specs.declared.ty.Ty.TheVariants.{Array, One, Struct};
 ghost use Rattle.gsl_words.specs.declared.module.Module.{Module};
 ghost use Rattle.gsl_values.specs.declared.function.Builtin.{Builtin};
 ghost use Rattle.gsl_tree.specs.Around.{Around};
 ghost use Rattle.gsl_values.specs.declared.value.Value.{Value};
-ghost use Rattle.gsl_tree.specs.Expressions.{boolean};
+ghost use Rattle.gsl_tree.specs.Expressions.{boolean, member_types};
 ghost use Rattle.gsl_tree.specs.Values.{is_value_of};
 ghost use Rattle.gsl_tree.specs.declared.program.Program.{Program};
 ghost use Rattle.gsl_meaning.specs.Expressions.{Meant};
@@ -19,7 +21,7 @@ ghost use Rattle.gsl_lower_expr.specs.Parts.{Lower, any_splits, called_of, const
 ghost use Rattle.gsl_lower_follows.specs.Frames.{AreTyped, Frame};
 ghost use Rattle.gsl_lower_follows.specs.Giving.{GivesValue};
 ghost use Rattle.gsl_lower_law_expr.specs.Known.{AllGive, IsQuiet, choice_means};
-ghost use Rattle.gsl_lower_law_built.specs.Arguments.{Answers, Composes, Constructs, EachGives, SameTypes, built_means, constructed_means, last_type, sequence_means};
+ghost use Rattle.gsl_lower_law_built.specs.Arguments.{Answers, Composes, Constructs, EachGives, SameTypes, built_means, constructed_means, last_type, sequence_means, types_of};
 ghost use Rattle.gsl_lower_law_built.specs.Places.{GivesWhere, NoVector};
 
 /// `,`: each part is done in its turn, one without a value too, and the last has the value.
@@ -40,6 +42,16 @@ pub fn constructed_gives()
 /// A constructor of an array or a struct on the values of expressions, where what stands for its type is no vector in the module.
 pub fn composed_gives()
     ensures { (m : Module) (input : Input) (whole : Sections) (f : Frame m input whole) (p : Program) (around : Around) (args : List Lower) (xs : List Meant) (ty : Ty) → Composes p args ty → AllGive (GivesValue m input whole f p around) args xs → GivesWhere m input whole f p around (NoVector m ty) (any_splits args) ty (constructed ty args) (constructed_means ty xs) }
+{}
+
+/// Elements of the type that an array has are what its constructor takes.
+pub fn array_composes()
+    ensures { (p : Program) (args : List Lower) (element : Ty) (n : ℕ) → types_of args ≡ replicate n element → Composes p args (Array element n) }
+{}
+
+/// Members of the types that a struct has are what its constructor takes.
+pub fn struct_composes()
+    ensures { (p : Program) (args : List Lower) (number : ℕ) (struct : StructType) → AreStructs p.structs → slice_get p.structs number ≡ Some struct → types_of args ≡ member_types struct.members → Composes p args (Struct number) }
 {}
 
 /// `?:` of two scalars that may be evaluated whether they count or not: both are, and no block ends.

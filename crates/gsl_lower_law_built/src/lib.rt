@@ -3,4 +3,7 @@
 
 mod laws;
 
-pub use laws::{built_gives, composed_gives, constructed_gives, selected_gives, sequence_gives};
+pub use laws::{
+    array_composes, built_gives, composed_gives, constructed_gives, selected_gives, sequence_gives,
+    struct_composes,
+};
