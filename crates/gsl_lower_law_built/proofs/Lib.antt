@@ -6,4 +6,5 @@ pub mod Building
 pub mod Constructed
 pub mod Composed
 pub mod Fitting
+pub mod Filling
 pub mod Selected

@@ -1,6 +1,6 @@
 //! Laws of the definitions: calls that do nothing, whose contracts are the laws.
 
-ghost use Rattle.std.specs.Prelude.{◌≡◌, ℕ, List, Some, false, replicate, slice_get};
+ghost use Rattle.std.specs.Prelude.{◌≡◌, ◌≤◌, ◌⊎◌, ℕ, List, Some, false, replicate, slice_get};
 ghost use Rattle.gsl_base.specs.declared.input.Input.{Input};
 ghost use Rattle.gsl_types.specs.Known.{AreStructs};
 ghost use Rattle.gsl_types.specs.declared.ty.Scalar.{Scalar};
@@ -12,6 +12,7 @@ ghost use Rattle.gsl_values.specs.declared.function.Builtin.{Builtin};
 ghost use Rattle.gsl_tree.specs.Around.{Around};
 ghost use Rattle.gsl_values.specs.declared.value.Value.{Value};
 ghost use Rattle.gsl_tree.specs.Expressions.{boolean, member_types};
+ghost use Rattle.gsl_tree.specs.Shapes.{Shape, of_shape};
 ghost use Rattle.gsl_tree.specs.Values.{is_value_of};
 ghost use Rattle.gsl_tree.specs.declared.program.Program.{Program};
 ghost use Rattle.gsl_meaning.specs.Expressions.{Meant};
@@ -21,7 +22,7 @@ ghost use Rattle.gsl_lower_expr.specs.Parts.{Lower, any_splits, called_of, const
 ghost use Rattle.gsl_lower_follows.specs.Frames.{AreTyped, Frame};
 ghost use Rattle.gsl_lower_follows.specs.Giving.{GivesValue};
 ghost use Rattle.gsl_lower_law_expr.specs.Known.{AllGive, IsQuiet, choice_means};
-ghost use Rattle.gsl_lower_law_built.specs.Arguments.{Answers, Composes, Constructs, EachGives, SameTypes, built_means, constructed_means, last_type, sequence_means, types_of};
+ghost use Rattle.gsl_lower_law_built.specs.Arguments.{Answers, AreShaped, Composes, Constructs, EachGives, SameTypes, built_means, components, constructed_means, last_type, sequence_means, types_of};
 ghost use Rattle.gsl_lower_law_built.specs.Places.{GivesWhere, NoVector};
 
 /// `,`: each part is done in its turn, one without a value too, and the last has the value.
@@ -42,6 +43,11 @@ pub fn constructed_gives()
 /// A constructor of an array or a struct on the values of expressions, where what stands for its type is no vector in the module.
 pub fn composed_gives()
     ensures { (m : Module) (input : Input) (whole : Sections) (f : Frame m input whole) (p : Program) (around : Around) (args : List Lower) (xs : List Meant) (ty : Ty) → Composes p args ty → AllGive (GivesValue m input whole f p around) args xs → GivesWhere m input whole f p around (NoVector m ty) (any_splits args) ty (constructed ty args) (constructed_means ty xs) }
+{}
+
+/// Scalars and vectors that have as many components, or one that fills all of them, are what the constructor of a scalar or vector takes.
+pub fn shape_constructs()
+    ensures { (p : Program) (args : List Lower) (shapes : List Shape) (shape : Shape) → AreStructs p.structs → AreShaped p args shapes → 1 ≤ shape.1 → (shape.1 ≤ components shapes) ⊎ (components shapes ≡ 1) → Constructs p args (of_shape shape) }
 {}
 
 /// Elements of the type that an array has are what its constructor takes.

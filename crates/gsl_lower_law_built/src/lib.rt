@@ -5,5 +5,5 @@ mod laws;
 
 pub use laws::{
     array_composes, built_gives, composed_gives, constructed_gives, selected_gives, sequence_gives,
-    struct_composes,
+    shape_constructs, struct_composes,
 };
