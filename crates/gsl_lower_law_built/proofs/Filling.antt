@@ -1,9 +1,8 @@
 -- Scalars and vectors of arguments that have as many components.
-use Rattle.std.proofs.Common.{◌≡◌, refl, sym, ap, ap₂, ◌∙◌, subst, inl, inr, ℕ, zero, suc, ◌+◌, ◌^◌, ◌<◌, ◌≤◌, ◌⊎◌, Bool, true, false, not, ◌&&◌, ◌==◌, List, [], ◌∷◌, ◌++◌, length, map, replicate, take, arith, if◌then◌else◌}
+use Rattle.std.proofs.Common.{◌≡◌, refl, sym, ap, ap₂, ◌∙◌, subst, inl, inr, ℕ, zero, suc, ◌+◌, ◌≤◌, ◌⊎◌, Bool, true, false, not, ◌&&◌, ◌==◌, List, [], ◌∷◌, ◌++◌, length, map, replicate, take, arith, if◌then◌else◌}
 use Rattle.std.specs.Prelude.{nat_eq, nat_lt, slice_index}
-use Rattle.std.specs.List.{AllByRecursion}
 use Rattle.std.proofs.lemmas.Bool.{ltb-true}
-use Rattle.std.proofs.lemmas.List.{length-append}
+use Rattle.std.proofs.lemmas.List.{length-append, length-replicate}
 use Rattle.gsl_types.specs.Known.{AreStructs}
 use Rattle.gsl_types.specs.declared.ty.Scalar.{Scalar}
 use Rattle.gsl_types.specs.declared.ty.Scalar.TheVariants.{Bool as Boolean, Int, Uint}
@@ -13,7 +12,7 @@ use Rattle.gsl_types.specs.declared.ty.Ty.TheVariants.{outs-One, outs-Vector}
 use Rattle.gsl_values.specs.Word.{word_of_bool}
 use Rattle.gsl_values.specs.declared.value.Value.{Value}
 use Rattle.gsl_values.specs.declared.value.Value.TheVariants.{Many, Word, outs-Many, outs-Word}
-use Rattle.gsl_tree.specs.Operations.{all_components, build_kind, build_value, converted, filled, scalar_from, spread, vector_from}
+use Rattle.gsl_tree.specs.Operations.{all_components, build_kind, build_value, converted, filled}
 use Rattle.gsl_tree.specs.Shapes.{Shape, of_shape}
 use Rattle.gsl_tree.specs.Values.{all_pass, components_in, has_parts_layer, is_scalar, is_scalar_layer, is_value_of, is_word_of}
 use Rattle.gsl_tree.specs.declared.program.Program.{Program}
@@ -57,10 +56,6 @@ replicated_words : (n word : ℕ) → is_word_of Int word ≡ true → AreWords 
 replicated_words zero word e = tt
 replicated_words (suc n) word e = (e, replicated_words n word e)
 
-replicated_length : (n word : ℕ) → length (replicate n word) ≡ n
-replicated_length zero word = refl
-replicated_length (suc n) word = ap suc (replicated_length n word)
-
 -- the words of arguments: they have as many as their shapes say
 pub record Supplied (count : ℕ) (words : List ℕ) : Type 0 where
   pub length_is : length words ≡ count
@@ -94,7 +89,7 @@ row_fits s (suc n) (word ∷ words) enough small = ap₂ (λ a b. a && b) (ap (i
 filled_fits : (s : Scalar) (n : ℕ) (words : List ℕ) → 1 ≤ n → (n ≤ length words) ⊎ (length words ≡ 1) → AreWords Int words → all_pass (replicate n (is_scalar s)) (map Word (filled s n words)) ≡ true
 filled_fits s n [] some (inl enough) small = absurd (omega (arith, some, enough))
 filled_fits s n [] some (inr one) small = absurd (omega (arith, one))
-filled_fits s n (word ∷ []) some enough small = row_fits s n (replicate n word) (omega (arith, replicated_length n word)) (replicated_words n word small.0)
+filled_fits s n (word ∷ []) some enough small = row_fits s n (replicate n word) (omega (arith, length-replicate n word)) (replicated_words n word small.0)
 filled_fits s n (word ∷ next ∷ words) some (inl enough) small = row_fits s n (word ∷ next ∷ words) enough small
 filled_fits s n (word ∷ next ∷ words) some (inr one) small = absurd (omega (arith, one))
 

@@ -9,16 +9,16 @@ use Rattle.gsl_tree.specs.declared.program.Program.{Program}
 use Rattle.gsl_meaning.specs.Expressions.{Meant, in_order, last_of}
 use Rattle.gsl_meaning.specs.Running.{Got, Ran, Run, given as shader_given}
 use Rattle.gsl_meaning.specs.Running as shader_run
-use Rattle.gsl_meaning.specs.State as shader
 use Rattle.gsl_spv.specs.Sections.{Sections}
 use Rattle.gsl_lower_holders.specs.Flow.{Emit, given, ◌>>=◌}
 use Rattle.gsl_lower_expr.specs.Parts.{Lower, any_splits, sequence}
 use Rattle.gsl_lower_follows.specs.Frames.{Frame}
-use Rattle.gsl_lower_follows.specs.Giving.{Does, GivesValue, HasGiven, none_waits}
+use Rattle.gsl_lower_follows.specs.Giving.{GivesValue, HasGiven, none_waits}
 use Rattle.gsl_lower_follows.proofs.Doing.{does_then}
 use Rattle.gsl_lower_follows.proofs.Growing.{adds_given, adds_then}
 use Rattle.gsl_lower_follows.proofs.Holding.{does_map, does_so}
 use Rattle.gsl_lower_law_expr.proofs.Operands.{after_less, given_behind}
+use Rattle.gsl_lower_law_expr.proofs.Single.{gives_same}
 use Rattle.gsl_lower_law_built.specs.Arguments.{EachGives, last_type}
 
 -- ---- what parts in a row give
@@ -61,11 +61,6 @@ some_same : {A : Type 0} {a b : A} → Some a ≡ Some b → a ≡ b
 some_same e = cc
 
 module _ (m : Module) (input : Input) (whole : Sections) (f : Frame m input whole) (p : Program) (around : Around) where
-  -- What does the same, gives the same.
-  gives_same : (splits : Bool) (ty : Ty) (emit : Emit ℕ) (run other : Run Value) → ((s : shader.State) (units : ℕ) → run s units ≡ other s units) → GivesValue m input whole f p around splits ty emit run → GivesValue m input whole f p around splits ty emit other
-  gives_same splits ty emit run other same g =
-      record { adds = g.adds; does = λ b s units state good. subst (λ ran. Does m input whole f p 0 units state (HasGiven m input whole f p around splits ty b state) none_waits ran (emit b)) (same s units) (g.does b s units state good) }
-
   -- A part whose value is not used, and what gives the value behind it.
   part_then : (sa sb : Bool) (ta ty : Ty) (a : Emit ℕ) (next : ℕ → Emit ℕ) (x y : Run Value) → GivesValue m input whole f p around sa ta a x → ((i : ℕ) → GivesValue m input whole f p around sb ty (next i) y)
       → GivesValue m input whole f p around (sa || sb) ty (a >>= next) (shader_run.◌>>=◌ x (λ v. y))
@@ -100,12 +95,12 @@ module _ (m : Module) (input : Input) (whole : Sections) (f : Frame m input whol
   parts_give last ty [] xs each is = absurd cc
   parts_give last ty (e ∷ es) [] each is = absurd each
   parts_give last ty (e ∷ []) (x ∷ []) each is =
-      gives_same (e.traits.splits || false) ty (e.value >>= given) x.value (shader_run.◌>>=◌ (in_order (x ∷ [])) last_given) (λ s units. only_one (x.value s units))
+      gives_same m input whole f p around (e.traits.splits || false) ty (e.value >>= given) x.value (shader_run.◌>>=◌ (in_order (x ∷ [])) last_given) (λ s units. only_one (x.value s units))
       (one_part e.traits.splits ty e.value x.value (subst (λ t. GivesValue m input whole f p around e.traits.splits t e.value x.value) (some_same is) each.0))
   parts_give last ty (e ∷ []) (x ∷ y ∷ xs) each is = absurd each.1
   parts_give last ty (e ∷ next ∷ es) (x ∷ []) each is = absurd each.1
   parts_give last ty (e ∷ next ∷ es) (x ∷ y ∷ xs) each is =
-      gives_same (e.traits.splits || any_splits (next ∷ es)) ty (e.value >>= (λ id. sequence id (next ∷ es))) (shader_run.◌>>=◌ x.value (λ v. shader_run.◌>>=◌ (in_order (y ∷ xs)) last_given)) (shader_run.◌>>=◌ (in_order (x ∷ y ∷ xs)) last_given)
+      gives_same m input whole f p around (e.traits.splits || any_splits (next ∷ es)) ty (e.value >>= (λ id. sequence id (next ∷ es))) (shader_run.◌>>=◌ x.value (λ v. shader_run.◌>>=◌ (in_order (y ∷ xs)) last_given)) (shader_run.◌>>=◌ (in_order (x ∷ y ∷ xs)) last_given)
       (λ s units. first_done y xs (x.value s units))
       (part_then e.traits.splits (any_splits (next ∷ es)) e.ty ty e.value (λ id. sequence id (next ∷ es)) x.value (shader_run.◌>>=◌ (in_order (y ∷ xs)) last_given) each.0 (λ id. parts_give id ty (next ∷ es) (y ∷ xs) each.1 is))
 
