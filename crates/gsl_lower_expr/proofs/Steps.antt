@@ -1,7 +1,7 @@
 -- What is found of each kind of expression, from what is known and found of its parts.
 use Rattle.std.proofs.Common.{◌≡◌, refl, sym, ap, subst, ◌∙◌, ℕ, List, [], ◌∷◌, map, arith}
 use Rattle.std.proofs.lemmas.Bool.Decides.{nat_tests}
-use Rattle.std.specs.Prelude.{Bool, true, false, ◌||◌, ◌+◌, nat_lt}
+use Rattle.std.specs.Prelude.{Bool, true, false, ◌||◌, ◌+◌, nat_lt, slice_get}
 use Rattle.gsl_types.specs.declared.ty.Ty.{Ty}
 use Rattle.gsl_values.specs.declared.function.Builtin.{Builtin}
 use Rattle.gsl_values.specs.declared.lane.Lanes.{Lanes}
@@ -27,7 +27,14 @@ use Rattle.gsl_lower_holders.specs.Flow.{Emit, Flow, Lowered, Gives, Lacks, ◌>
 use Rattle.gsl_lower_traits.specs.Traits.{Known, known, known_by, traits_by, traits_of}
 use Rattle.gsl_lower_expr.specs.Parts.{Lower, any_splits, built_from, fetches, keeps, known_of, loose_value, reads, sequence, shape_or, typed}
 use Rattle.gsl_lower_expr.specs.Lowering.{Setting, kind_lowers, lowered_by, lowers, typed_by}
-use Rattle.gsl_lower_expr.specs.Coming.{evaluates, finds, found_by, gave, keeps_all, leads, led, length_from, lengths, reached_from, reaches, sequence_of, valued_from}
+use Rattle.gsl_types.specs.declared.ty.Direction.{Direction}
+use Rattle.gsl_types.specs.declared.ty.Direction.TheVariants.{In, Out, InOut}
+use Rattle.gsl_types.specs.declared.ty.StructType.{StructType}
+use Rattle.gsl_tree.specs.Weights.{params_of}
+use Rattle.gsl_tree.specs.declared.unit.Interface.{Interface}
+use Rattle.gsl_tree.specs.declared.unit.Prototype.{Prototype}
+use Rattle.gsl_lower_expr.specs.Calls.{called_with as passed_with, going_in, passed_both, passed_out, passing, passing_all, tys}
+use Rattle.gsl_lower_expr.specs.Coming.{calls, passes, passes_all, setting_of, evaluates, finds, found_by, gave, keeps_all, leads, led, length_from, lengths, reached_from, reaches, sequence_of, valued_from}
 use Rattle.gsl_lower_expr.specs.Rows.{called_with, constructed_with, count_splits, fetches_all, one_if, typed_all, waits_for}
 use Rattle.gsl_lower_holders.specs.Waiting.{fetch, hold}
 use Rattle.gsl_lower_values.specs.Builtins.{called}
@@ -284,9 +291,9 @@ module _ (s : Setting) where
   unfolding kind_lowers
   finds-Step o a ty flow = finds_by (kind.Step o a) (ExprKind-F.Step o a) ty (step (ExprKind-F.Step o (into a)) ty) flow (outs-Step o a) (ap (λ (f : Codes). f ty) (at.at-Step Codes Lower step typed_by o a)) ∙ ap (λ (x : Lower). gave (step (ExprKind-F.Step o x) ty).value flow) (named a)
 
-  pub finds-Call : (n : ℕ) (es : List Expr) (ty : Ty) (flow : Flow) → finds s (kind.Call n es) ty flow ≡ gave (step (ExprKind-F.Call n (map said es)) ty).value flow
-  unfolding kind_lowers
-  finds-Call n es ty flow = finds_by (kind.Call n es) (ExprKind-F.Call n es) ty (step (ExprKind-F.Call n (map into es)) ty) flow (outs-Call n es) (ap (λ (f : Codes). f ty) (at.at-Call Codes Lower step typed_by n es)) ∙ ap (λ (x : List Lower). gave (step (ExprKind-F.Call n x) ty).value flow) (all_named es)
+  pub finds-Call : (n : ℕ) (es : List Expr) (ty : Ty) (flow : Flow) → finds s (kind.Call n es) ty flow ≡ gave (calls s n es ty) flow
+  unfolding kind_lowers calls lowers
+  finds-Call n es ty flow = finds_by (kind.Call n es) (ExprKind-F.Call n es) ty (step (ExprKind-F.Call n (map into es)) ty) flow (outs-Call n es) (ap (λ (f : Codes). f ty) (at.at-Call Codes Lower step typed_by n es))
 
   pub finds-Convert : (a : Expr) (ty : Ty) (flow : Flow) → finds s (kind.Convert a) ty flow ≡ gave (step (ExprKind-F.Convert (said a)) ty).value flow
   unfolding kind_lowers
@@ -364,5 +371,44 @@ module _ (s : Setting) where
   unfolding kind_lowers sequence_of lowers
   finds-Comma es ty flow =
       finds_by (kind.Comma es) (ExprKind-F.Comma es) ty (step (ExprKind-F.Comma (map into es)) ty) flow (outs-Comma es) (ap (λ (g : Codes). g ty) (at.at-Comma Codes Lower step typed_by es))
+
+  -- ---- arguments and calls
+
+  pub passes-In : (waits : Bool) (t : Ty) (e : Expr) (flow : Flow) → passes s waits In t e flow ≡ behind (evaluates s e flow) going_in
+  unfolding passes evaluates
+  passes-In waits t e flow = refl
+
+  pub passes-Out : (waits : Bool) (t : Ty) (e : Expr) (flow : Flow) → passes s waits Out t e flow ≡ behind (reaches s e flow) (passed_out s.structs waits t (type_of e))
+  unfolding passes reaches lowers
+  passes-Out waits t e flow = ap (λ (x : Lower). behind ((into e).reach flow) (passed_out s.structs waits t x.ty)) (named e)
+
+  pub passes-InOut : (waits : Bool) (t : Ty) (e : Expr) (flow : Flow) → passes s waits InOut t e flow ≡ behind (reaches s e flow) (passed_both s.structs waits (type_of e))
+  unfolding passes reaches lowers
+  passes-InOut waits t e flow = ap (λ (x : Lower). behind ((into e).reach flow) (passed_both s.structs waits x.ty)) (named e)
+
+  pub passes_all-ends : (params : List (Direction × Ty)) (flow : Flow) → passes_all s [] params flow ≡ Gives [] flow
+  unfolding passes_all passing_all
+  passes_all-ends params flow = refl
+
+  pub passes_all-opens : (e : Expr) (es : List Expr) (param : Direction × Ty) (params : List (Direction × Ty)) (flow : Flow)
+      → passes_all s (e ∷ es) (param ∷ params) flow ≡ behind (passes s (waits_for es) param.0 param.1 e flow) (λ p. passes_all s es params >>= (λ ps. given (p ∷ ps)))
+  unfolding passes_all passing_all passes lowers
+  passes_all-opens e es param params flow =
+      ap (λ b. behind (passing s.structs b param.0 param.1 (into e) flow) (λ p. passing_all s.structs (map into es) params >>= (λ ps. given (p ∷ ps)))) (any_same es)
+
+  pub tys_same : (es : List Expr) → tys (map into es) ≡ map type_of es
+  tys_same [] = refl
+  tys_same (e ∷ es) = ap (λ (x : Lower). x.ty ∷ tys (map into es)) (named e) ∙ ap (λ l. type_of e ∷ l) (tys_same es)
+
+-- a call of the function of a head, by the types of the trees
+pub calls-opens : (structs : List StructType) (interfaces : List Interface) (prototypes : List Prototype) (n : ℕ) (es : List Expr) (t : Ty) (flow : Flow)
+    → calls (setting_of structs interfaces prototypes) n es t flow
+    ≡ behind (passes_all (setting_of structs interfaces prototypes) es (params_of (slice_get prototypes n)) flow) (passed_with structs n (params_of (slice_get prototypes n)) (map type_of es) t)
+unfolding calls passes_all lowers
+calls-opens structs interfaces prototypes n es t flow =
+    let s = setting_of structs interfaces prototypes in
+    ap (λ l. behind (passing_all structs (map (into s) es) (params_of (slice_get prototypes n)) flow) (passed_with structs n (params_of (slice_get prototypes n)) l t)) (tys_same s es)
+
+pub ruleset calls_step = (passes-In, passes-Out, passes-InOut, calls-opens, evaluates-opens, reaches-opens)
 
 pub ruleset finds_step = (evaluates-opens, reaches-opens, lengths-opens, finds-Const, finds-Local, finds-Global, finds-Param, finds-BlockMember, finds-Stage, finds-Interface, finds-Member, finds-Index, finds-Swizzle, finds-Length, finds-Unary, finds-Binary, finds-Logic, finds-Choose, finds-Assign, finds-Update, finds-Step, finds-Call, finds-Convert, finds-Built, finds-Build, finds-Comma)

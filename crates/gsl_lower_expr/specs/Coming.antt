@@ -9,6 +9,10 @@ use Rattle.gsl_tree.specs.declared.expr.Expr.{Expr}
 use Rattle.gsl_tree.specs.declared.expr.ExprKind.{ExprKind, out-ExprKind}
 use Rattle.gsl_tree.specs.declared.expr.ExprKind.TheOpen.{ExprKind-F}
 use Rattle.gsl_tree.specs.declared.unit.Interface.{Interface}
+use Rattle.gsl_tree.specs.declared.unit.Prototype.{Prototype}
+use Rattle.gsl_types.specs.declared.ty.Direction.{Direction}
+use Rattle.gsl_lower_expr.specs.Calls.{calling, passing, passing_all}
+use Rattle.gsl_lower_expr.specs.declared.calls.Passed.{Passed}
 use Rattle.gsl_lower_places.specs.declared.reached.Part.{Part}
 use Rattle.gsl_lower_places.specs.declared.reached.Part.TheVariants.{Fixed, By}
 use Rattle.gsl_lower_places.specs.declared.reached.Reached.{Reached}
@@ -19,9 +23,8 @@ use Rattle.gsl_lower_expr.specs.Parts.{Lower, block_length, keeps, loose_value, 
 use Rattle.gsl_lower_expr.specs.declared.found.Found.{Found}
 use Rattle.gsl_lower_expr.specs.declared.found.Found.TheVariants.{Place, Value}
 
--- Calls of functions of the program are not lowered yet.
-abbrev pub setting_of : List StructType → List Interface → Setting
-setting_of structs interfaces = record { structs = structs; interfaces = interfaces; call = λ number args t. lacking }
+abbrev pub setting_of : List StructType → List Interface → List Prototype → Setting
+setting_of structs interfaces prototypes = record { structs = structs; interfaces = interfaces; call = calling structs prototypes }
 
 -- whether an expression leads to a variable or a part of one
 abbrev pub leads : {K E : Type 0} → ExprKind-F K E → Bool
@@ -88,3 +91,15 @@ sequence_of s last es = sequence last (map (lowers s) es)
 abbrev pub index_of : Setting → Expr → Option ℕ → Emit Part
 index_of s i (Some number) = given (Fixed number)
 index_of s i None = evaluates s i >>= (λ id. given (By (scalar_of (type_of i)) id))
+
+-- an argument
+unfoldable pub passes : Setting → Bool → Direction → Ty → Expr → Emit Passed
+passes s waits way t e = passing s.structs waits way t (lowers s e)
+
+-- the arguments of a call
+unfoldable pub passes_all : Setting → List Expr → List (Direction × Ty) → Emit (List Passed)
+passes_all s es params = passing_all s.structs (map (lowers s) es) params
+
+-- a call of the function of a head
+unfoldable pub calls : Setting → ℕ → List Expr → Ty → Emit ℕ
+calls s number es t = s.call number (map (lowers s) es) t

@@ -1,4 +1,5 @@
 pub mod Parts
+pub mod Calls
 pub mod Lowering
 pub mod Coming
 pub mod Rows

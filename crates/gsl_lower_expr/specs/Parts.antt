@@ -116,15 +116,20 @@ leaf_of r one = record { base = r.base; path = r.path ++ one.path; picked = None
 abbrev pub dropped : steps.Step ℕ → steps.Step (Unit {0})
 dropped step = steps.◌>>=◌ step (λ v. steps.given tt)
 
+-- In a variable a pointer is enough, which is allowed where nothing may be read.
+abbrev pub tested : Base → Shape → Reached → steps.Step (Unit {0})
+tested (Variable id class) shape r = steps.◌>>=◌ (pointed shape r) (λ to. steps.given tt)
+tested (Loose id of_whole) shape r = dropped (read shape r)
+
 abbrev pub first_leaf : Reached → List Leaf → steps.Step (Unit {0})
 first_leaf r [] = steps.given tt
-first_leaf r (one ∷ more) = dropped (read one.shape (leaf_of r one))
+first_leaf r (one ∷ more) = tested r.base one.shape (leaf_of r one)
 
 abbrev pub probe_by : List StructType → Ty → Reached → Option Shape → steps.Step (Unit {0})
-probe_by structs t r (Some shape) = dropped (read shape r)
+probe_by structs t r (Some shape) = tested r.base shape r
 probe_by structs t r None = first_leaf r (leaves_of structs t)
 
--- a leaf is read where what follows has calls, so that an index that is out of bounds strays here
+-- a leaf is reached where what follows has calls, so that an index that is out of bounds strays here
 unfoldable pub probe : List StructType → Bool → Ty → Reached → steps.Step (Unit {0})
 probe structs false t r = steps.given tt
 probe structs true t r = probe_by structs t r (shape_of t)

@@ -17,7 +17,7 @@ use gsl_instr::op;
 use gsl_lower_holders::{FlowPlace, holder, keep, type_id};
 use gsl_lower_leaves::{Leaf, Leaves, leaves_of, read_whole, store_whole};
 use gsl_lower_places::{
-    Base, Part, Reached, extracted, is_block_class, pointed, pointer, read, stored,
+    Base, Part, Picked, Reached, extracted, is_block_class, pointed, pointer, read, stored,
 };
 use gsl_lower_values::{Operand, Shape, give};
 use gsl_spv::{BuildRefusal, Builder};
@@ -26,7 +26,7 @@ use gsl_typing::shape_of;
 use std::alloc::Global;
 
 /// The shape of a scalar or vector; of any other type that of `int`.
-pub(crate) fn shape_or(ty: &Ty) -> Shape
+pub fn shape_or(ty: &Ty) -> Shape
     ensures { result ≡ spec.shape_or ty.now }
 {
     match shape_of(ty) {
@@ -43,6 +43,42 @@ pub(crate) fn operand(ty: &Ty, id: u32) -> Operand
         shape: shape_or(ty),
         id,
     }
+}
+
+fn copied_picked(alloc: Global, one: &Picked) -> Result<Picked, Memory>
+    ensures { IfOk result (λ x. x ≡ one.now) }
+{
+    let positions = List::from_slice(alloc, one.positions.as_slice())?;
+    Ok(Picked {
+        shape: one.shape,
+        by: one.by,
+        positions,
+    })
+}
+
+fn copied_if(alloc: Global, picked: &Option<Picked>) -> Result<Option<Picked>, Memory>
+    ensures { IfOk result (λ x. x ≡ picked.now) }
+{
+    match picked {
+        None => Ok(None),
+        Some(one) => {
+            let same = copied_picked(alloc, one)?;
+            Ok(Some(same))
+        }
+    }
+}
+
+/// The same once more.
+pub(crate) fn copied(alloc: Global, r: &Reached) -> Result<Reached, Memory>
+    ensures { IfOk result (λ x. x ≡ r.now) }
+{
+    let path = List::from_slice(alloc, r.path.as_slice())?;
+    let picked = copied_if(alloc, &r.picked)?;
+    Ok(Reached {
+        base: r.base,
+        path,
+        picked,
+    })
 }
 
 impl<'a> Lowerer<'a> {
@@ -228,6 +264,28 @@ impl<'a> Lowerer<'a> {
         })
     }
 
+    /// Whether an index is out of bounds, on the way to a scalar or vector.
+    fn tested(
+        &self,
+        b: &mut Builder,
+        base: Base,
+        shape: Shape,
+        r: Reached,
+    ) -> Result<(), BuildRefusal>
+        ensures { steps.Does result b.new (spec.tested base shape r b.old) }
+    {
+        match base {
+            Base::Variable(_, _) => {
+                pointed(self.alloc, b, shape, r)?;
+                Ok(())
+            }
+            Base::Value(_, _) => {
+                read(self.alloc, b, shape, &r)?;
+                Ok(())
+            }
+        }
+    }
+
     fn first_leaf(&self, b: &mut Builder, r: &Reached, leaves: &[Leaf]) -> Result<(), BuildRefusal>
         ensures { steps.Does result b.new (spec.first_leaf r.now leaves.now b.old) }
     {
@@ -235,11 +293,10 @@ impl<'a> Lowerer<'a> {
             return Ok(());
         }
         let first = self.leaf_of(r, &leaves[0])?;
-        read(self.alloc, b, leaves[0].shape, &first)?;
-        Ok(())
+        self.tested(b, r.base, leaves[0].shape, first)
     }
 
-    /// A leaf is read where what follows has calls, so that an index that is out of bounds strays there.
+    /// A leaf is reached where what follows has calls, so that an index that is out of bounds strays there.
     #[tactic(auto, unfolding(crate::specs::Parts::probe))]
     pub(crate) fn probe(
         &self,
@@ -255,8 +312,8 @@ impl<'a> Lowerer<'a> {
         }
         match shape_of(ty) {
             Some(shape) => {
-                read(self.alloc, b, shape, r)?;
-                Ok(())
+                let same = copied(self.alloc, r)?;
+                self.tested(b, r.base, shape, same)
             }
             None => {
                 let all = self.leaves(ty)?;

@@ -5,12 +5,16 @@
 #![tactic(auto)]
 
 mod access;
+mod calls;
 mod found;
 mod lowerer;
 mod names;
 mod rows;
 mod updates;
 
+pub use access::shape_or;
+pub use calls::{result_type, zeros};
 pub use found::Found;
 pub use lowerer::Lowerer;
 pub use names::stage_number;
+pub use rows::{count_splits, left_behind};

@@ -6,6 +6,7 @@ ghost use Rattle.gsl_lower_expr.specs.Coming as coming;
 ghost use Rattle.gsl_lower_holders.specs.Flow.{Does, flow_of};
 
 use crate::access::{operand, shape_or};
+use crate::calls::{Passed, Passing, going_in, param_at};
 use crate::found::Found;
 use crate::rows::{count_splits, left_behind, swizzled};
 use gsl_base::List;
@@ -15,17 +16,18 @@ use gsl_lower_traits::{is_selected, is_short, traits_of};
 use gsl_lower_values::{converted, logical, selected, unary};
 use gsl_shapes::Shapes;
 use gsl_spv::{BuildRefusal, Builder};
-use gsl_tree::{Expr, ExprKind, Exprs, Interfaces};
-use gsl_types::{Scalar, Ty};
+use gsl_tree::{Expr, ExprKind, Exprs, Interfaces, Params, Prototypes};
+use gsl_types::{Direction, Scalar, Ty};
 use gsl_words::Args;
 use std::alloc::Global;
 
-/// What expressions are lowered in: the struct types and the inputs and outputs of their program.
+/// What expressions are lowered in: the struct types, the inputs and outputs, and the heads of functions of their program.
 #[derive(Clone, Copy)]
 pub struct Lowerer<'a> {
     pub alloc: Global,
     pub shapes: &'a Shapes<'a>,
     pub interfaces: &'a Interfaces,
+    pub prototypes: &'a Prototypes,
 }
 
 impl<'a> Lowerer<'a> {
@@ -33,7 +35,7 @@ impl<'a> Lowerer<'a> {
     #[cycle(expressions)]
     #[tactic(auto, using(crate::proofs::Steps::finds_step))]
     pub fn value(&self, b: &mut Builder, p: &mut FlowPlace, e: &Expr) -> Result<u32, BuildRefusal>
-        ensures { Does result b.new p.new (coming.evaluates (coming.setting_of self.now.shapes.now self.now.interfaces.now) e.now (flow_of b.old p.old)) }
+        ensures { Does result b.new p.new (coming.evaluates (coming.setting_of self.now.shapes.now self.now.interfaces.now self.now.prototypes.now) e.now (flow_of b.old p.old)) }
     {
         let found = self.found(b, p, &e.kind, &e.ty)?;
         self.value_from(b, p, &e.ty, found)
@@ -48,7 +50,7 @@ impl<'a> Lowerer<'a> {
         p: &mut FlowPlace,
         e: &Expr,
     ) -> Result<Reached, BuildRefusal>
-        ensures { Does result b.new p.new (coming.reaches (coming.setting_of self.now.shapes.now self.now.interfaces.now) e.now (flow_of b.old p.old)) }
+        ensures { Does result b.new p.new (coming.reaches (coming.setting_of self.now.shapes.now self.now.interfaces.now self.now.prototypes.now) e.now (flow_of b.old p.old)) }
     {
         let found = self.found(b, p, &e.kind, &e.ty)?;
         self.reached_from(b, p, &e.ty, found)
@@ -64,7 +66,7 @@ impl<'a> Lowerer<'a> {
         kind: &ExprKind,
         ty: &Ty,
     ) -> Result<Found, BuildRefusal>
-        ensures { Does result b.new p.new (coming.finds (coming.setting_of self.now.shapes.now self.now.interfaces.now) kind.now ty.now (flow_of b.old p.old)) }
+        ensures { Does result b.new p.new (coming.finds (coming.setting_of self.now.shapes.now self.now.interfaces.now self.now.prototypes.now) kind.now ty.now (flow_of b.old p.old)) }
     {
         match kind {
             ExprKind::Const(v) => Ok(Found::Value(self.constant(b, ty, v)?)),
@@ -92,7 +94,7 @@ impl<'a> Lowerer<'a> {
         kind: &ExprKind,
         ty: &Ty,
     ) -> Result<Found, BuildRefusal>
-        ensures { Does result b.new p.new (coming.finds (coming.setting_of self.now.shapes.now self.now.interfaces.now) kind.now ty.now (flow_of b.old p.old)) }
+        ensures { Does result b.new p.new (coming.finds (coming.setting_of self.now.shapes.now self.now.interfaces.now self.now.prototypes.now) kind.now ty.now (flow_of b.old p.old)) }
     {
         match kind {
             ExprKind::Member(a, number) => {
@@ -127,7 +129,7 @@ impl<'a> Lowerer<'a> {
         i: &Expr,
         literal: Option<u32>,
     ) -> Result<Part, BuildRefusal>
-        ensures { Does result b.new p.new (coming.index_of (coming.setting_of self.now.shapes.now self.now.interfaces.now) i.now literal (flow_of b.old p.old)) }
+        ensures { Does result b.new p.new (coming.index_of (coming.setting_of self.now.shapes.now self.now.interfaces.now self.now.prototypes.now) i.now literal (flow_of b.old p.old)) }
     {
         match literal {
             Some(number) => Ok(Part::Fixed(number)),
@@ -148,7 +150,7 @@ impl<'a> Lowerer<'a> {
         kind: &ExprKind,
         ty: &Ty,
     ) -> Result<Found, BuildRefusal>
-        ensures { Does result b.new p.new (coming.finds (coming.setting_of self.now.shapes.now self.now.interfaces.now) kind.now ty.now (flow_of b.old p.old)) }
+        ensures { Does result b.new p.new (coming.finds (coming.setting_of self.now.shapes.now self.now.interfaces.now self.now.prototypes.now) kind.now ty.now (flow_of b.old p.old)) }
     {
         match kind {
             ExprKind::Unary(op, a) => {
@@ -186,7 +188,7 @@ impl<'a> Lowerer<'a> {
         kind: &ExprKind,
         ty: &Ty,
     ) -> Result<Found, BuildRefusal>
-        ensures { Does result b.new p.new (coming.finds (coming.setting_of self.now.shapes.now self.now.interfaces.now) kind.now ty.now (flow_of b.old p.old)) }
+        ensures { Does result b.new p.new (coming.finds (coming.setting_of self.now.shapes.now self.now.interfaces.now self.now.prototypes.now) kind.now ty.now (flow_of b.old p.old)) }
     {
         match kind {
             ExprKind::Logic(op, left, right) => {
@@ -235,7 +237,7 @@ impl<'a> Lowerer<'a> {
         kind: &ExprKind,
         ty: &Ty,
     ) -> Result<Found, BuildRefusal>
-        ensures { Does result b.new p.new (coming.finds (coming.setting_of self.now.shapes.now self.now.interfaces.now) kind.now ty.now (flow_of b.old p.old)) }
+        ensures { Does result b.new p.new (coming.finds (coming.setting_of self.now.shapes.now self.now.interfaces.now self.now.prototypes.now) kind.now ty.now (flow_of b.old p.old)) }
     {
         match kind {
             ExprKind::Assign(left, right) => {
@@ -275,7 +277,7 @@ impl<'a> Lowerer<'a> {
         kind: &ExprKind,
         ty: &Ty,
     ) -> Result<Found, BuildRefusal>
-        ensures { Does result b.new p.new (coming.finds (coming.setting_of self.now.shapes.now self.now.interfaces.now) kind.now ty.now (flow_of b.old p.old)) }
+        ensures { Does result b.new p.new (coming.finds (coming.setting_of self.now.shapes.now self.now.interfaces.now self.now.prototypes.now) kind.now ty.now (flow_of b.old p.old)) }
     {
         match kind {
             ExprKind::Built(which, args) => {
@@ -287,6 +289,9 @@ impl<'a> Lowerer<'a> {
                 Ok(Found::Value(self.constructed(b, p, ty, args, kept.as_slice())?))
             }
             ExprKind::Comma(items) => Ok(Found::Value(self.sequence(b, p, items)?)),
+            ExprKind::Call(number, args) => {
+                Ok(Found::Value(self.call(b, p, *number, args, ty)?))
+            }
             _ => Err(BuildRefusal::Memory),
         }
     }
@@ -294,7 +299,7 @@ impl<'a> Lowerer<'a> {
     /// The values of expressions from left to right, each kept where it has to wait.
     #[cycle(expressions)]
     fn keeps(&self, b: &mut Builder, p: &mut FlowPlace, es: &Exprs) -> Result<Args, BuildRefusal>
-        ensures { Does result b.new p.new (coming.keeps_all (coming.setting_of self.now.shapes.now self.now.interfaces.now) es.now (flow_of b.old p.old)) }
+        ensures { Does result b.new p.new (coming.keeps_all (coming.setting_of self.now.shapes.now self.now.interfaces.now self.now.prototypes.now) es.now (flow_of b.old p.old)) }
     {
         let mut left = count_splits(es)?;
         let mut kept = List::new(self.alloc);
@@ -314,12 +319,88 @@ impl<'a> Lowerer<'a> {
         p: &mut FlowPlace,
         items: &Exprs,
     ) -> Result<u32, BuildRefusal>
-        ensures { Does result b.new p.new (coming.sequence_of (coming.setting_of self.now.shapes.now self.now.interfaces.now) 0 items.now (flow_of b.old p.old)) }
+        ensures { Does result b.new p.new (coming.sequence_of (coming.setting_of self.now.shapes.now self.now.interfaces.now self.now.prototypes.now) 0 items.now (flow_of b.old p.old)) }
     {
         let mut last = 0;
         for k in 0..items.len() {
             last = self.value(b, p, &items[k])?;
         }
         Ok(last)
+    }
+
+    /// A call of a function of the program, by its head.
+    #[cycle(expressions)]
+    #[tactic(auto, using(crate::proofs::Steps::calls_step))]
+    fn call(
+        &self,
+        b: &mut Builder,
+        p: &mut FlowPlace,
+        number: u32,
+        args: &Exprs,
+        ty: &Ty,
+    ) -> Result<u32, BuildRefusal>
+        ensures { Does result b.new p.new (coming.calls (coming.setting_of self.now.shapes.now self.now.interfaces.now self.now.prototypes.now) number args.now ty.now (flow_of b.old p.old)) }
+    {
+        if number as usize >= self.prototypes.len() {
+            return Err(BuildRefusal::Memory);
+        }
+        let params = &self.prototypes[number as usize].params;
+        let passed = self.passes_all(b, p, args, params)?;
+        self.called_with(b, p, number, params, args, ty, passed.as_slice())
+    }
+
+    /// The arguments of a call from left to right.
+    #[cycle(expressions)]
+    fn passes_all(
+        &self,
+        b: &mut Builder,
+        p: &mut FlowPlace,
+        es: &Exprs,
+        params: &Params,
+    ) -> Result<Passing, BuildRefusal>
+        ensures { Does result b.new p.new (coming.passes_all (coming.setting_of self.now.shapes.now self.now.interfaces.now self.now.prototypes.now) es.now params.now (flow_of b.old p.old)) }
+    {
+        let mut left = count_splits(es)?;
+        let mut passed = List::new(self.alloc);
+        for k in 0..es.len() {
+            left = left_behind(left, &es[k])?;
+            if k >= params.len() {
+                return Err(BuildRefusal::Memory);
+            }
+            let param = param_at(params, k);
+            let one = self.passes(b, p, &es[k], left > 0, param.0, &param.1)?;
+            passed.push(one)?;
+        }
+        Ok(passed)
+    }
+
+    /// An argument of a call.
+    #[cycle(expressions)]
+    #[tactic(auto, using(crate::proofs::Steps::calls_step))]
+    fn passes(
+        &self,
+        b: &mut Builder,
+        p: &mut FlowPlace,
+        arg: &Expr,
+        waits: bool,
+        way: Direction,
+        ty: &Ty,
+    ) -> Result<Passed, BuildRefusal>
+        ensures { Does result b.new p.new (coming.passes (coming.setting_of self.now.shapes.now self.now.interfaces.now self.now.prototypes.now) waits way ty.now arg.now (flow_of b.old p.old)) }
+    {
+        match way {
+            Direction::In => {
+                let v = self.value(b, p, arg)?;
+                going_in(b, p, v)
+            }
+            Direction::Out => {
+                let r = self.reach(b, p, arg)?;
+                self.passed_out(b, p, waits, ty, &arg.ty, r)
+            }
+            Direction::InOut => {
+                let r = self.reach(b, p, arg)?;
+                self.passed_both(b, p, waits, &arg.ty, r)
+            }
+        }
     }
 }

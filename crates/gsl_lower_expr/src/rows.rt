@@ -44,7 +44,7 @@ fn own_split(e: &Expr) -> Result<usize, Memory>
 }
 
 /// An expression by its place.
-fn expr_at(es: &Exprs, k: usize) -> &Expr
+pub(crate) fn expr_at(es: &Exprs, k: usize) -> &Expr
     requires { k < length es.now }
     ensures { slice_get es.now k ≡ Some result.now }
 {
@@ -52,7 +52,7 @@ fn expr_at(es: &Exprs, k: usize) -> &Expr
 }
 
 /// How many of some expressions have labels in their code.
-pub(crate) fn count_splits(es: &Exprs) -> Result<usize, Memory>
+pub fn count_splits(es: &Exprs) -> Result<usize, Memory>
     ensures { IfOk result (λ n. n ≡ rows.count_splits es.now) }
 {
     let mut count = 0usize;
@@ -67,7 +67,7 @@ pub(crate) fn count_splits(es: &Exprs) -> Result<usize, Memory>
 }
 
 /// How many are left behind one.
-pub(crate) fn left_behind(left: usize, e: &Expr) -> Result<usize, Memory>
+pub fn left_behind(left: usize, e: &Expr) -> Result<usize, Memory>
     ensures { IfOk result (λ n. n + rows.own_split e.now ≡ left) }
 {
     let own = own_split(e)?;

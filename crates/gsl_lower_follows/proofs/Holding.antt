@@ -64,7 +64,7 @@ holder_number (Param number) = 0
 holder_number (Local number) = 0
 holder_number (Holder number) = number
 
-id_moved : (place : FlowPlace) (label used : ℕ) (name : Name) → id_of (record place { label = label; used = used }) name ≡ id_of place name
+pub id_moved : (place : FlowPlace) (label used : ℕ) (name : Name) → id_of (record place { label = label; used = used }) name ≡ id_of place name
 id_moved place label used (Global number) = refl
 id_moved place label used (Interface number) = refl
 id_moved place label used (Stage number) = refl
@@ -137,7 +137,7 @@ module _ (m : Module) (input : Input) (whole : Sections) (f : Frame m input whol
         no_holder : (name : Name) (w : Value) → value_of f.stages s name ≡ Some w → name ≢ Holder holder
         no_holder name w is e = absurd (let none : value_of f.stages s (Holder holder) ≡ Some w = subst (λ n. value_of f.stages s n ≡ Some w) e is in cc)
 
-    stores_whole : (number : ℕ) (v : Value) (state : State) → number < length state.variables → Stores m input state (InVariable number []) v (set state.variables number v) state.buffers
+    pub stores_whole : (number : ℕ) (v : Value) (state : State) → number < length state.variables → Stores m input state (InVariable number []) v (set state.variables number v) state.buffers
     stores_whole number v state less ids choices rest go =
         let old = found_among state.variables number less in
         ap (λ o. on o (λ old. go (with_variable (record state { ids = ids; choices = choices; rest = rest }) number (with_value_at old [] v)))) old.1

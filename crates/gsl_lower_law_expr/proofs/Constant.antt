@@ -31,7 +31,7 @@ use Rattle.gsl_lower_follows.proofs.Growing.{adds_lift}
 use Rattle.gsl_lower_law_expr.proofs.Steps.{Always}
 
 -- a word of a type is its own
-word_same : (s : Scalar) (word : ℕ) → is_word_of s word ≡ true → converted s word ≡ word
+pub word_same : (s : Scalar) (word : ℕ) → is_word_of s word ≡ true → converted s word ≡ word
 word_same Boolean word fits = small word (ltb-true word 2 fits)
   where
     small : (word : ℕ) → word < 2 → converted Boolean word ≡ word

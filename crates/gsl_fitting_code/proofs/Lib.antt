@@ -1,0 +1,15 @@
+pub mod Roles
+pub mod Ordered
+pub mod Structured
+pub mod Fronts
+pub mod Labels
+pub mod Nests
+pub mod Places
+pub mod Walk
+pub mod Typed
+pub mod Shape
+pub mod Near
+pub mod Deep
+pub mod Quiet
+pub mod Ranks
+pub mod Calls

@@ -1,0 +1,6 @@
+use Rattle.gsl_fitting_code.proofs.Near.{uses_pass}
+use Rattle.gsl_fitting_code.proofs.Walk.{functions_pass}
+use Rattle.gsl_fitting_code.proofs.laws.functions_use_what_is_defined.Goals as goal
+
+pub returns : goal.returns
+returns c = λ m rank front functions stands. functions_pass stands _ (uses_pass stands)

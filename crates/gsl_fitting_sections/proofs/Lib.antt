@@ -1,0 +1,11 @@
+pub mod Parts
+pub mod Once
+pub mod Outside
+pub mod Plain
+pub mod Heads
+pub mod Whole
+pub mod Firsts
+pub mod Marks
+pub mod Heights
+pub mod Layouts
+pub mod Kept

@@ -1,0 +1,5 @@
+pub mod Entry
+pub mod Interface
+pub mod Entering
+pub mod Valid
+mod Example

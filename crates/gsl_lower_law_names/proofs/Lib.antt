@@ -1,0 +1,5 @@
+pub mod Reading
+pub mod Names
+pub mod Storing
+pub mod Assigning
+pub mod Assigned

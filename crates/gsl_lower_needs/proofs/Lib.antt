@@ -1,0 +1,3 @@
+mod StmtSteps
+mod Steps
+mod Turns
