@@ -53,7 +53,7 @@ same_value_as to shape v is of = ap of_components (same_words to is (components_
 
 module _ (m : Module) (input : Input) (whole : Sections) (f : Frame m input whole) (p : Program) (around : Around) where
   -- what does the same, gives the same
-  gives_same : (splits : Bool) (ty : Ty) (emit : Emit ℕ) (run other : Run Value) → ((s : shader.State) (units : ℕ) → run s units ≡ other s units) → GivesValue m input whole f p around splits ty emit run → GivesValue m input whole f p around splits ty emit other
+  pub gives_same : (splits : Bool) (ty : Ty) (emit : Emit ℕ) (run other : Run Value) → ((s : shader.State) (units : ℕ) → run s units ≡ other s units) → GivesValue m input whole f p around splits ty emit run → GivesValue m input whole f p around splits ty emit other
   gives_same splits ty emit run other same g =
       record { adds = g.adds; does = λ b s units state good. subst (λ ran. Does m input whole f p 0 units state (HasGiven m input whole f p around splits ty b state) none_waits ran (emit b)) (same s units) (g.does b s units state good) }
 
