@@ -32,7 +32,7 @@ use Rattle.gsl_lower_follows.specs.Giving.{After, Does, Grown, GrownTo, none_wai
 use Rattle.gsl_lower_follows.specs.Stretching.{Stretch}
 use Rattle.gsl_lower_follows.proofs.Behind.{follows_behind}
 use Rattle.gsl_lower_follows.proofs.Doing.{does_lift}
-use Rattle.gsl_lower_follows.proofs.Drawn.{after_drawn, left_with}
+use Rattle.gsl_lower_follows.proofs.Drawn.{after_drawn, choices_are, left_with}
 use Rattle.gsl_lower_follows.proofs.Holding.{Unchanged, seated_moved}
 use Rattle.gsl_lower_follows.proofs.Jumping.{begun_at, jumps}
 use Rattle.gsl_lower_follows.proofs.Placing.{coming_before, inside_between}
@@ -63,7 +63,7 @@ module _ (m : Module) (input : Input) (whole : Sections) (f : Frame m input whol
     does_aside Is units b s state step good does =
         does_lift m input whole f p around units b s state Is (drawing state state.choices) (Unchanged m input whole f p around b state) none_waits tt s step good does
         (λ a later l inside extends. subst (λ t. After m input whole f p around false b state (flow_of later b.place) t (record (leaving state (drawing state state.choices) l.ids) { rest = coming m input whole f later })) (ap (left_with s) good.holds.choices)
-        (after_drawn m input whole f p around b s state l.ids state.choices later good inside l.ready l.keeps))
+        (after_drawn m input whole f p around b s state l.ids state.choices later (choices_are m input whole f p around b s state good) good inside l.ready l.keeps))
 
     pub does_fresh : (units : ℕ) (b : Flow) (s : shader.State) (state : State) → Good m input whole f p around b s state → Does m input whole f p 0 units state (Unchanged m input whole f p around b state) none_waits (Got tt s units) (fresh b)
     does_fresh units b s state good = does_aside (λ id ids. Unit {0}) units b s state (id_by take) good (asking_does m input whole (λ id ids. Unit {0}) take state b.sections (extends_take b.sections) refl (λ inside text keeps. tt))

@@ -33,7 +33,7 @@ use Rattle.gsl_lower_follows.specs.Frames.{Frame, Global, Good, HeldAs, Holder, 
 use Rattle.gsl_lower_follows.specs.Giving.{After, Does, Grown, none_waits}
 use Rattle.gsl_lower_follows.proofs.Behind.{follows_so, reaches_here}
 use Rattle.gsl_lower_follows.proofs.Doing.{does_lift}
-use Rattle.gsl_lower_follows.proofs.Drawn.{after_drawn, left_with}
+use Rattle.gsl_lower_follows.proofs.Drawn.{after_drawn, choices_are, left_with}
 
 -- ---- lists with another item
 
@@ -226,7 +226,7 @@ module _ (m : Module) (input : Input) (whole : Sections) (f : Frame m input whol
         (giving_does m input whole op.LOAD (h ∷ []) type state v state.choices b.sections (λ text. loads m input type h (InVariable w.number []) v state (good.ready.lasting.same h _ w.points) (λ go. ap (λ o. on o (λ x. go (value_at x []))) w.value)))
         (λ id later l inside extends. (
           subst (λ t. After m input whole f p around false b state (flow_of later b.place) t (record (leaving state (drawing state state.choices) l.ids) { rest = coming m input whole f later })) (ap (left_with s) good.holds.choices)
-              (after_drawn m input whole f p around b s state l.ids state.choices later good inside l.ready l.keeps),
+              (after_drawn m input whole f p around b s state l.ids state.choices later (choices_are m input whole f p around b s state good) good inside l.ready l.keeps),
           l.is,
         ))
 
@@ -245,7 +245,7 @@ module _ (m : Module) (input : Input) (whole : Sections) (f : Frame m input whol
         by (Some shape) =
             does_lift m input whole f p around units b s state (IsType m input whole shape) (drawing state state.choices) (Unchanged b state) none_waits tt s (type_of shape) good (type_does m input whole shape state b.sections)
             (λ type later l inside extends. subst (λ t. After m input whole f p around false b state (flow_of later b.place) t (record (leaving state (drawing state state.choices) l.ids) { rest = coming m input whole f later })) (ap (left_with s) good.holds.choices)
-            (after_drawn m input whole f p around b s state l.ids state.choices later good inside l.ready l.keeps))
+            (after_drawn m input whole f p around b s state l.ids state.choices later (choices_are m input whole f p around b s state good) good inside l.ready l.keeps))
 
     -- ---- values that may have to wait
 

@@ -13,6 +13,7 @@ use Rattle.gsl_tree.specs.declared.program.Program.{Program}
 use Rattle.gsl_tree.specs.declared.unit.Block.{Block}
 use Rattle.gsl_tree.specs.declared.unit.GlobalVar.{GlobalVar}
 use Rattle.gsl_tree.specs.declared.unit.Interface.{Interface as Passed}
+use Rattle.gsl_typed_law.specs.Given.{AreChoices}
 use Rattle.gsl_meaning.specs.Blocks.{put_blocks, words_in}
 use Rattle.gsl_meaning.specs.State as shader
 use Rattle.gsl_valid.specs.Placed.{Code, Placed, placed_from, words_from}
@@ -153,9 +154,10 @@ module _ (m : Module) (input : Input) (whole : Sections) (f : Frame m input whol
     HasType (Some t) None = ⊥
     HasType (Some t) (Some v) = is_value_of p.structs t v ≡ true
 
-    -- Each variable of the shader has a value of its type.
+    -- Each variable of the shader has a value of its type, and the choices are words.
     pub record AreTyped (s : shader.State) : Type 0 where
       pub each : (name : Name) → HasType (type_named around name) (value_of f.stages s name)
+      pub choices : AreChoices s.choices
       pub stages : (number : ℕ) (t : Ty) (v : Value) → slice_get stage_types number ≡ Some t → value_of f.stages s (Stage number) ≡ Some v → is_value_of p.structs t v ≡ true
 
     -- The function stands behind what a builder holds, and its state is that of the shader.

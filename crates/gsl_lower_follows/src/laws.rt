@@ -9,8 +9,9 @@ ghost use Rattle.gsl_words.specs.declared.module.Module.{Module};
 ghost use Rattle.gsl_values.specs.declared.value.Value.{Value};
 ghost use Rattle.gsl_tree.specs.Around.{Around};
 ghost use Rattle.gsl_tree.specs.Operations.{Given};
-ghost use Rattle.gsl_tree.specs.Values.{is_value_of, word_in};
+ghost use Rattle.gsl_tree.specs.Values.{word_in};
 ghost use Rattle.gsl_tree.specs.declared.program.Program.{Program};
+ghost use Rattle.gsl_typed_law.specs.Given.{AreChoices, Gives};
 ghost use Rattle.gsl_meaning.specs.Running.{Got, drawing};
 ghost use Rattle.gsl_meaning.specs.State as shader;
 ghost use Rattle.gsl_valid.specs.Instruction.{read};
@@ -38,7 +39,7 @@ pub fn stretches_compose()
 
 /// A step of the builder that computes a value gives that of an expression.
 pub fn computed_values_are_given()
-    ensures { (m : Module) (input : Input) (whole : Sections) (f : Frame m input whole) (p : Program) (around : Around) (ty : Ty) (answer : List ℕ → Given) (step : Step ℕ) → ((choices : List ℕ) → is_value_of p.structs ty (answer choices).0 ≡ true) → ((state : State) (before : Sections) → Computes m input whole (answer state.choices) state before step) → (state : State) → GivesValue m input whole f p around false ty (lift step) (drawing answer) }
+    ensures { (m : Module) (input : Input) (whole : Sections) (f : Frame m input whole) (p : Program) (around : Around) (ty : Ty) (answer : List ℕ → Given) (step : Step ℕ) → ((choices : List ℕ) → AreChoices choices → Gives p.structs ty (answer choices)) → ((state : State) (before : Sections) → Computes m input whole (answer state.choices) state before step) → (state : State) → GivesValue m input whole f p around false ty (lift step) (drawing answer) }
 {}
 
 /// A value that has to wait is kept in a holder, and the state is that of the shader all the same.

@@ -94,5 +94,5 @@ module _ (m : Module) (input : Input) (whole : Sections) (f : Frame m input whol
       subst (λ signed. GivesValue m input whole f p around (any_splits args) ty (called_of which args) (shader_run.◌>>=◌ (in_order xs) (λ vs. drawing (builtin_value which signed vs)))) (signed_first args xs same)
       (all_give m input whole f p around args xs ty (λ ids. lift (called which (typed args ids))) (λ vs. drawing (builtin_value which (first_signed args) vs)) all (λ ids. adds_lift (called which (typed args ids)) (λ b. always_called m input whole which (typed args ids) b.sections))
       (λ b0 ids vs b s units state grown good fits stand.
-      computed_given m input whole f p around ty (builtin_value which (first_signed args) vs) (called which (typed args ids)) (λ b. always_called m input whole which (typed args ids) b.sections) (λ choices. known.gives vs choices fits) b s units state good
+      computed_given m input whole f p around ty (builtin_value which (first_signed args) vs) (called which (typed args ids)) (λ b. always_called m input whole which (typed args ids) b.sections) (λ choices are. known.gives vs choices are fits) b s units state good
       (call_computes which args ty known ids vs state b.sections fits stand)))

@@ -79,7 +79,7 @@ module _ (m : Module) (input : Input) (whole : Sections) (f : Frame m input whol
           → Does m input whole f p 0 units state (HasGiven m input whole f p around false ty b state) none_waits (shader_given (Many vs) s units) (behind (id_at o b) (giving_here op.COMPOSITE_CONSTRUCT ids))
       by None other = tt
       by (Some type) other =
-          computed_given m input whole f p around ty (λ choices. (Many vs, choices)) (giving op.COMPOSITE_CONSTRUCT ids type) (λ b. giving_grows m input whole op.COMPOSITE_CONSTRUCT ids type b.sections) (λ choices. fits) b s units state good
+          computed_given m input whole f p around ty (λ choices. (Many vs, choices)) (giving op.COMPOSITE_CONSTRUCT ids type) (λ b. giving_grows m input whole op.COMPOSITE_CONSTRUCT ids type b.sections) (λ choices are. record { typed = fits; left = are }) b s units state good
           (giving_does m input whole op.COMPOSITE_CONSTRUCT ids type state (Many vs) state.choices b.sections (λ text. composes m input type ids vs state (other type refl) stand))
 
   -- A constructor of an array or a struct on the values of expressions, where its type is found.

@@ -65,5 +65,5 @@ module _ (m : Module) (input : Input) (whole : Sections) (f : Frame m input whol
       subst (λ o. GivesValue m input whole f p around (any_splits args) ty (operands args >>= (λ ids. built_from ty o ids (typed args ids))) (constructed_means ty xs)) (sym (ap shape_of (sym known.is) ∙ shape_back known.shape))
       (all_give m input whole f p around args xs ty (λ ids. lift (built known.shape (typed args ids))) (λ vs. shader_given (build_value ty vs)) all (λ ids. adds_lift (built known.shape (typed args ids)) (λ b. always_built m input whole known.shape (typed args ids) b.sections))
       (λ b0 ids vs b s units state grown good fits stand.
-      computed_given m input whole f p around ty (λ choices. (build_value ty vs, choices)) (built known.shape (typed args ids)) (λ b. always_built m input whole known.shape (typed args ids) b.sections) (λ choices. known.gives vs fits) b s units state good
+      computed_given m input whole f p around ty (λ choices. (build_value ty vs, choices)) (built known.shape (typed args ids)) (λ b. always_built m input whole known.shape (typed args ids) b.sections) (λ choices are. record { typed = known.gives vs fits; left = are }) b s units state good
       (build_computes args ty known ids vs state b.sections fits stand)))

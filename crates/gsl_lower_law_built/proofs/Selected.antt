@@ -129,7 +129,7 @@ module _ (m : Module) (input : Input) (whole : Sections) (f : Frame m input whol
   last_does : (i j k : ℕ) (truth v w : Value) (b : Flow) (t : shader.State) (units : ℕ) (state : State) → Good m input whole f p around b t state → truth ≡ Word (word_in truth) → is_value_of p.structs (One s) v ≡ true → is_value_of p.structs (One s) w ≡ true
       → Stands state.ids i truth → Stands state.ids j v → Stands state.ids k w → Does m input whole f p 0 units state (HasGiven m input whole f p around false (One s) b state) none_waits (shader_given (chosen truth v w) t units) (select_last i j k b)
   last_does i j k truth v w b t units state good is typed_v typed_w stands_i stands_j stands_k =
-      computed_given m input whole f p around (One s) (λ choices. (chosen truth v w, choices)) (selected (shape_or (One s)) i j k) (λ b. always_selected m input whole (shape_or (One s)) i j k b.sections) (λ choices. chosen_typed (word_in truth == 0) v w typed_v typed_w) b t units state good
+      computed_given m input whole f p around (One s) (λ choices. (chosen truth v w, choices)) (selected (shape_or (One s)) i j k) (λ b. always_selected m input whole (shape_or (One s)) i j k b.sections) (λ choices are. record { typed = chosen_typed (word_in truth == 0) v w typed_v typed_w; left = are }) b t units state good
       (subst (λ value. Computes m input whole (value, state.choices) state b.sections (selected (shape_or (One s)) i j k)) (mix_chooses v w truth (scalar_is p.structs s v typed_v) (scalar_is p.structs s w typed_w) is)
       (selected_computes m input whole (shape_or (One s)) i j k truth v w state b.sections stands_i stands_j stands_k))
 

@@ -8,6 +8,7 @@ use Rattle.gsl_tree.specs.Operations.{build_value, builtin_value, is_signed}
 use Rattle.gsl_tree.specs.Shapes.{Shape, built_shape, of_shape, shape_of}
 use Rattle.gsl_tree.specs.Values.{is_value_of}
 use Rattle.gsl_tree.specs.declared.program.Program.{Program}
+use Rattle.gsl_typed_law.specs.Given.{AreChoices, Gives}
 use Rattle.gsl_meaning.specs.Expressions.{Meant, in_order, is_signed_first, last_of}
 use Rattle.gsl_meaning.specs.Running.{Run, drawing, given, ◌>>=◌}
 use Rattle.gsl_lower_expr.specs.Parts.{Lower}
@@ -15,10 +16,10 @@ use Rattle.gsl_lower_law_expr.specs.Known.{AllTyped, Giving}
 
 -- Each of some parts gives its value, or is done where it has none.
 abbrev pub EachGives : Giving → List Lower → List Meant → Type 0
-EachGives Gives [] [] = Unit {0}
-EachGives Gives [] (x ∷ xs) = ⊥
-EachGives Gives (e ∷ es) [] = ⊥
-EachGives Gives (e ∷ es) (x ∷ xs) = Gives e.traits.splits e.ty e.value x.value × EachGives Gives es xs
+EachGives Give [] [] = Unit {0}
+EachGives Give [] (x ∷ xs) = ⊥
+EachGives Give (e ∷ es) [] = ⊥
+EachGives Give (e ∷ es) (x ∷ xs) = Give e.traits.splits e.ty e.value x.value × EachGives Give es xs
 
 -- the type of the last of some parts
 abbrev pub last_type : List Lower → Option Ty
@@ -59,7 +60,7 @@ pub record Answers (p : Program) (which : Builtin) (args : List Lower) (ty : Ty)
   pub shaped : AreShaped p args shapes
   pub shape : Shape
   pub takes : built_shape which shapes ≡ Some shape
-  pub gives : (vs : List Value) (choices : List ℕ) → AllTyped p args vs → is_value_of p.structs ty (builtin_value which (first_signed args) vs choices).0 ≡ true
+  pub gives : (vs : List Value) (choices : List ℕ) → AreChoices choices → AllTyped p args vs → Gives p.structs ty (builtin_value which (first_signed args) vs choices)
 
 -- what a built-in function does
 abbrev pub built_means : Builtin → List Meant → Run Value

@@ -126,7 +126,7 @@ module _ (m : Module) (input : Input) (whole : Sections) where
       operated : (i j : ℕ) (v w : Value) (b : Flow) (s : shader.State) (units : ℕ) (state : State) → Good m input whole f p around b s state → is_value_of p.structs left v ≡ true → is_value_of p.structs right w ≡ true → Stands state.ids i v → Stands state.ids j w
           → Does m input whole f p 0 units state (HasGiven m input whole f p around false ty b state) none_waits (drawing (binary_value which (is_signed left) v w) s units) (lift (binary_of p.structs which left right i j) b)
       operated i j v w b s units state good typed_v typed_w stands_v stands_w =
-          computed_given m input whole f p around ty (binary_value which (is_signed left) v w) (binary_of p.structs which left right i j) (λ b. always_of p.structs which left right i j b.sections) (λ choices. known.gives v w choices typed_v typed_w) b s units state good
+          computed_given m input whole f p around ty (binary_value which (is_signed left) v w) (binary_of p.structs which left right i j) (λ b. always_of p.structs which left right i j b.sections) (λ choices are. known.gives v w choices are typed_v typed_w) b s units state good
           (computes_of i j v w state b.sections typed_v typed_w stands_v stands_w)
 
     -- An operator on the values of two expressions.

@@ -84,5 +84,5 @@ module _ (m : Module) (input : Input) (whole : Sections) where
   pub constant_gives : (f : Frame m input whole) (p : Program) (around : Around) (shape : Shape) (ty : Ty) (v : Value) → 1 ≤ shape.1 → IsOf shape v → is_value_of p.structs ty v ≡ true → GivesValue m input whole f p around false ty (lift (constant_by shape v)) (shader_given v)
   constant_gives f p around shape ty v some of typed = record {
     adds = adds_lift (constant_by shape v) (λ b. always_constant shape v b.sections);
-    does = λ b s units state good. computed_given m input whole f p around ty (λ choices. (v, choices)) (constant_by shape v) (λ b. always_constant shape v b.sections) (λ choices. typed) b s units state good (constant_computes shape v state b.sections some of);
+    does = λ b s units state good. computed_given m input whole f p around ty (λ choices. (v, choices)) (constant_by shape v) (λ b. always_constant shape v b.sections) (λ choices are. record { typed = typed; left = are }) b s units state good (constant_computes shape v state b.sections some of);
   }

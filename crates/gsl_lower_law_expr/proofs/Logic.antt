@@ -91,7 +91,7 @@ module _ (m : Module) (input : Input) (whole : Sections) (f : Frame m input whol
       let x = truth_of p.structs v typed_v in
       let y = truth_of p.structs w typed_w in
       computed_given m input whole f p around boolean (λ choices. (Word (logic_answer which (word_in v) (word_in w)), choices)) (logical which i j) (λ b. always_logical m input whole which i j b.sections)
-      (λ choices. truth_typed p.structs (logic_answer which (word_in v) (word_in w)) (small_answer which (word_in v) (word_in w) x.small y.small)) b s units state good
+      (λ choices are. record { typed = truth_typed p.structs (logic_answer which (word_in v) (word_in w)) (small_answer which (word_in v) (word_in w) x.small y.small); left = are }) b s units state good
       (logical_computes m input whole which i j (word_in v) (word_in w) state b.sections x.small y.small (subst (Stands state.ids i) x.is stands_v) (subst (Stands state.ids j) y.is stands_w))
 
   -- Where the second may be evaluated whether it counts or not, both are there.

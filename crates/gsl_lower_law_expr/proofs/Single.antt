@@ -63,7 +63,7 @@ module _ (m : Module) (input : Input) (whole : Sections) (f : Frame m input whol
   unary_gives which a ty x real typed first =
       one_give m input whole f p around a.traits.splits a.ty ty a.value x (λ i. lift (unary which (of_type a i))) (λ v. shader_given (unary_value which v)) real first (λ i. adds_lift (unary which (of_type a i)) (λ b. always_unary m input whole which (of_type a i) b.sections))
       (λ i v b s units state good typed_v stands.
-      computed_given m input whole f p around ty (λ choices. (unary_value which v, choices)) (unary which (of_type a i)) (λ b. always_unary m input whole which (of_type a i) b.sections) (λ choices. typed v typed_v) b s units state good
+      computed_given m input whole f p around ty (λ choices. (unary_value which v, choices)) (unary which (of_type a i)) (λ b. always_unary m input whole which (of_type a i) b.sections) (λ choices are. record { typed = typed v typed_v; left = are }) b s units state good
       (unary_computes m input whole which (of_type a i) v state b.sections stands))
 
   -- A conversion of integers, which have the same words.
@@ -75,6 +75,6 @@ module _ (m : Module) (input : Input) (whole : Sections) (f : Frame m input whol
       (one_give m input whole f p around a.traits.splits a.ty ty a.value x (λ i. lift (converted to (of_type a i))) shader_given real first (λ i. adds_lift (converted to (of_type a i)) (λ b. always_converted m input whole to (of_type a i) b.sections))
       (λ i v b s units state good typed_v stands.
       let of = (value_shape p.structs a.ty shape v are sound is typed_v).1 in
-      computed_given m input whole f p around ty (λ choices. (v, choices)) (converted to (of_type a i)) (λ b. always_converted m input whole to (of_type a i) b.sections) (λ choices. typed v typed_v) b s units state good
+      computed_given m input whole f p around ty (λ choices. (v, choices)) (converted to (of_type a i)) (λ b. always_converted m input whole to (of_type a i) b.sections) (λ choices are. record { typed = typed v typed_v; left = are }) b s units state good
       (subst (λ value. Computes m input whole (value, state.choices) state b.sections (converted to (of_type a i))) (same_value_as to shape v integer of)
       (converted_computes m input whole (of_type a i) v (subst (λ s. IsOf s v) (sym (shape_is a.ty shape is)) of) to state b.sections stands))))

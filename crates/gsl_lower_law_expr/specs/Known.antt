@@ -14,6 +14,7 @@ use Rattle.gsl_tree.specs.Values.{is_value_of, word_in}
 use Rattle.gsl_tree.specs.declared.expr.LogicOp.{LogicOp}
 use Rattle.gsl_tree.specs.declared.expr.LogicOp.TheVariants as logic
 use Rattle.gsl_tree.specs.declared.program.Program.{Program}
+use Rattle.gsl_typed_law.specs.Given.{AreChoices, Gives}
 use Rattle.gsl_meaning.specs.Expressions.{Meant}
 use Rattle.gsl_meaning.specs.Running.{Got, Run, given, ◌>>=◌}
 use Rattle.gsl_meaning.specs.State.{State}
@@ -28,7 +29,7 @@ pub record Operates (p : Program) (around : Around) (which : BinaryOp) (left rig
   pub real_left : left ≢ Void
   pub real_right : right ≢ Void
   pub operands : IsBinary around which left right ty
-  pub gives : (v w : Value) (choices : List ℕ) → is_value_of p.structs left v ≡ true → is_value_of p.structs right w ≡ true → is_value_of p.structs ty (binary_value which (is_signed left) v w choices).0 ≡ true
+  pub gives : (v w : Value) (choices : List ℕ) → AreChoices choices → is_value_of p.structs left v ≡ true → is_value_of p.structs right w ≡ true → Gives p.structs ty (binary_value which (is_signed left) v w choices)
 
 -- What an operand gives is there at once, in whatever typed state, and nothing else is done: it may be evaluated where it does not count.
 pub record IsQuiet (AreTyped : State → Type 0) (is_typed : Value → Bool) (run : Run Value) : Type 0 where
@@ -66,10 +67,10 @@ Giving = Bool → Ty → Emit ℕ → Run Value → Type 0
 
 -- Each of some parts has a value, and gives it.
 abbrev pub AllGive : Giving → List Lower → List Meant → Type 0
-AllGive Gives [] [] = Unit {0}
-AllGive Gives [] (x ∷ xs) = ⊥
-AllGive Gives (e ∷ es) [] = ⊥
-AllGive Gives (e ∷ es) (x ∷ xs) = ((e.ty ≢ Void) × Gives e.traits.splits e.ty e.value x.value) × AllGive Gives es xs
+AllGive Give [] [] = Unit {0}
+AllGive Give [] (x ∷ xs) = ⊥
+AllGive Give (e ∷ es) [] = ⊥
+AllGive Give (e ∷ es) (x ∷ xs) = ((e.ty ≢ Void) × Give e.traits.splits e.ty e.value x.value) × AllGive Give es xs
 
 -- Values are of the types of parts.
 abbrev pub AllTyped : Program → List Lower → List Value → Type 0

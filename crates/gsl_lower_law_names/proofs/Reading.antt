@@ -39,7 +39,7 @@ use Rattle.gsl_lower_expr.specs.Parts.{read_block, read_by, read_own, reads}
 use Rattle.gsl_lower_follows.specs.Frames.{Frame, Good, Name, coming, value_of}
 use Rattle.gsl_lower_follows.specs.Giving.{Adds, After, Does, HasGiven, none_waits}
 use Rattle.gsl_lower_follows.proofs.Doing.{does_lift, does_then}
-use Rattle.gsl_lower_follows.proofs.Drawn.{after_drawn, computed_given, left_with}
+use Rattle.gsl_lower_follows.proofs.Drawn.{after_drawn, choices_are, computed_given, left_with}
 use Rattle.gsl_lower_follows.proofs.Fetching.{adds_giving, adds_type_id, no_state}
 use Rattle.gsl_lower_follows.proofs.Growing.{adds_lift, adds_then}
 use Rattle.gsl_lower_follows.proofs.Holding.{Unchanged, after_then, does_so, does_type_id}
@@ -106,7 +106,7 @@ module _ (m : Module) (input : Input) (whole_sections : Sections) where
         (λ given later l inside extends. record {
           given = inr (typed, l.is);
           after = subst (λ t. After m input whole_sections f p around false b state (flow_of later b.place) t (record (leaving state (drawing state state.choices) l.ids) { rest = coming m input whole_sections f later })) (ap (left_with s) good.holds.choices)
-              (after_drawn m input whole_sections f p around b s state l.ids state.choices later good inside l.ready l.keeps);
+              (after_drawn m input whole_sections f p around b s state l.ids state.choices later (choices_are m input whole_sections f p around b s state good) good inside l.ready l.keeps);
         })
 
     some_same : {a b : ℕ} → Some a ≡ Some b → a ≡ b
@@ -146,7 +146,7 @@ module _ (m : Module) (input : Input) (whole_sections : Sections) where
         shaped : (shape : Shape) → shape_of t ≡ Some shape → Does m input whole_sections f p 0 units state (HasGiven m input whole_sections f p around false t b state) none_waits (Got v s units) (lift (loaded id class shape []) b)
         shaped shape has =
             let of = (value_shape p.structs t shape v are sound has typed).1 in
-            computed_given m input whole_sections f p around t (λ choices. (v, choices)) (loaded id class shape []) (λ b. always_loaded id class shape b.sections) (λ choices. typed) b s units state good
+            computed_given m input whole_sections f p around t (λ choices. (v, choices)) (loaded id class shape []) (λ b. always_loaded id class shape b.sections) (λ choices are. record { typed = typed; left = are }) b s units state good
             (subst (λ value. Computes m input whole_sections (value, state.choices) state b.sections (loaded id class shape [])) (value_as_it_is shape v of)
             (loaded_computes m input whole_sections id class shape [] [] (InVariable number []) (InVariable number []) v state b.sections (good.ready.lasting.same id _ points) tt (λ place go. refl) (holds_value number v state (variable_there name number v b s state good seat is))
             (subst (λ lying. IsOf lying v) (sym (outside_blocks class shape outside)) of)))

@@ -1,5 +1,5 @@
 -- States of the shader and of the module with another value in a variable.
-use Rattle.std.proofs.Common.{◌≡◌, ◌≢◌, refl, sym, ap, ◌∙◌, subst, inl, inr, ℕ, ◌<◌, ◌⊎◌, Bool, true, false, List, length, Some, ◌==◌, arith}
+use Rattle.std.proofs.Common.{◌≡◌, ◌≢◌, refl, sym, ap, ◌∙◌, subst, inl, inr, ℕ, ◌<◌, ◌⊎◌, Bool, true, false, List, length, Some, ◌==◌, arith, Option}
 use Rattle.std.specs.Prelude.{set, slice_get}
 use Rattle.std.proofs.lemmas.Bool.{eqb-true}
 use Rattle.std.proofs.lemmas.List.{length-set}
@@ -11,6 +11,7 @@ use Rattle.gsl_values.specs.declared.value.Value.{Value}
 use Rattle.gsl_tree.specs.Around.{Around}
 use Rattle.gsl_tree.specs.Values.{is_value_of}
 use Rattle.gsl_tree.specs.declared.program.Program.{Program}
+use Rattle.gsl_typed_law.specs.Given.{AreChoices}
 use Rattle.gsl_meaning.specs.Blocks.{put_blocks}
 use Rattle.gsl_meaning.specs.State as shader
 use Rattle.gsl_machine.specs.State.{State}
@@ -80,8 +81,8 @@ module _ (m : Module) (input : Input) (sections : Sections) (f : Frame m input s
           let there = holds.values name w (sym e.1 ∙ is) in
           (there.0, there.1, set_elsewhere state.variables seat there.0 v (λ same. e.0 (f.apart name (kind number) seat (there.1 ∙ ap Some same) at)) ∙ there.2)
 
-  pub typed_set : (kind : ℕ → Name) (number : ℕ) (ty : Ty) (v : Value) (s t : shader.State) → ((name : Name) → Other f.stages kind number v s t name) → type_named around (kind number) ≡ Some ty → is_value_of p.structs ty v ≡ true → AreTyped m input sections f p around s → AreTyped m input sections f p around t
-  typed_set kind number ty v s t others has fits typed = record { each = λ name. by name (others name).side; stages = typed.stages }
+  pub typed_set : (kind : ℕ → Name) (number : ℕ) (ty : Ty) (v : Value) (s t : shader.State) → t.choices ≡ s.choices → ((name : Name) → Other f.stages kind number v s t name) → type_named around (kind number) ≡ Some ty → is_value_of p.structs ty v ≡ true → AreTyped m input sections f p around s → AreTyped m input sections f p around t
+  typed_set kind number ty v s t same others has fits typed = record { choices = subst AreChoices (sym same) typed.choices; each = λ name. by name (others name).side; stages = typed.stages }
     where
       by : (name : Name) → ((name ≡ kind number) × (value_of f.stages t name ≡ Some v)) ⊎ ((name ≢ kind number) × (value_of f.stages t name ≡ value_of f.stages s name)) → HasType m input sections f p around (type_named around name) (value_of f.stages t name)
       by name (inl e) = subst (λ o. HasType m input sections f p around o (value_of f.stages t name)) (sym (ap (type_named around) e.0 ∙ has)) (subst (HasType m input sections f p around (Some ty)) (sym e.1) fits)
