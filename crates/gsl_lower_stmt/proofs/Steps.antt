@@ -9,7 +9,7 @@ use Rattle.gsl_tree.specs.declared.stmt.Arm.{Arm, out-Arm}
 use Rattle.gsl_tree.specs.declared.stmt.Stmt.{Stmt}
 use Rattle.gsl_tree.specs.declared.stmt.Stmt.TheFolds.{fold-Stmt, fold-roll-Arm}
 use Rattle.gsl_tree.specs.declared.stmt.Stmt.TheOpen.{Stmt-F, Arm-F}
-use Rattle.gsl_tree.specs.declared.stmt.Stmt.TheVariants as s
+use Rattle.gsl_tree.specs.declared.stmt.Stmt.TheVariants as kind
 use Rattle.gsl_tree.specs.declared.stmt.Stmt.TheViews.{roll-out-Arm}
 use Rattle.gsl_tree.proofs.StmtFolds as at
 use Rattle.gsl_lower_holders.specs.Flow.{Emit, Flow, Lowered, Gives, Lacks, behind, ◌>>=◌, given, opening, putting_here}
@@ -99,20 +99,20 @@ module _ (s : Setting) where
     abbrev whole : LowerStmt → Exits → Emit Bool
     whole x exits = and_leaves (x.run exits) x.leaves
 
-    pub puts-Empty : (exits : Exits) (flow : Flow) → puts s locals s.Empty exits flow ≡ Gives false flow
+    pub puts-Empty : (exits : Exits) (flow : Flow) → puts s locals kind.Empty exits flow ≡ Gives false flow
     unfolding puts lowers_stmt
     puts-Empty exits flow = ap (λ (x : LowerStmt). whole x exits flow) (at.at-Empty LowerStmt LowerArm step arm_by)
 
-    pub puts-Eval : (e : Expr) (exits : Exits) (flow : Flow) → puts s locals (s.Eval e) exits flow ≡ behind (evaluates s e flow) (λ v. given false)
+    pub puts-Eval : (e : Expr) (exits : Exits) (flow : Flow) → puts s locals (kind.Eval e) exits flow ≡ behind (evaluates s e flow) (λ v. given false)
     unfolding puts lowers_stmt evaluates
     puts-Eval e exits flow =
         ap (λ (x : LowerStmt). whole x exits flow) (at.at-Eval LowerStmt LowerArm step arm_by e) ∙ assoc (value_of s e flow) (λ v. given tt) (λ done. given false)
 
-    pub puts-Declare : (number : ℕ) (init : Option Expr) (exits : Exits) (flow : Flow) → puts s locals (s.Declare number init) exits flow ≡ behind (declares s locals number init flow) (λ done. given false)
+    pub puts-Declare : (number : ℕ) (init : Option Expr) (exits : Exits) (flow : Flow) → puts s locals (kind.Declare number init) exits flow ≡ behind (declares s locals number init flow) (λ done. given false)
     unfolding puts lowers_stmt declares begins
     puts-Declare number init exits flow = ap (λ (x : LowerStmt). whole x exits flow) (at.at-Declare LowerStmt LowerArm step arm_by number init)
 
-    pub puts-Group : (ss : List Stmt) (exits : Exits) (flow : Flow) → puts s locals (s.Group ss) exits flow ≡ row s locals ss exits flow
+    pub puts-Group : (ss : List Stmt) (exits : Exits) (flow : Flow) → puts s locals (kind.Group ss) exits flow ≡ row s locals ss exits flow
     unfolding puts row lowers_stmt
     puts-Group ss exits flow = ap (λ (x : LowerStmt). whole x exits flow) (at.at-Group LowerStmt LowerArm step arm_by ss)
 
@@ -135,19 +135,19 @@ module _ (s : Setting) where
         ∙ sym (assoc (other.run exits at_else) (λ c. given other.leaves) (λ last. end_if f last >>= (λ done. given false)))))
         ∙ sym (assoc (first.run exits at_fork) (λ a. given first.leaves) (λ left. begin_else f left >>= (λ b. whole other exits >>= (λ last. end_if f last >>= (λ done. given false)))))))
 
-    pub puts-If : (t : Expr) (a : Stmt) (exits : Exits) (flow : Flow) → puts s locals (s.If t a None) exits flow
+    pub puts-If : (t : Expr) (a : Stmt) (exits : Exits) (flow : Flow) → puts s locals (kind.If t a None) exits flow
         ≡ behind (evaluates s t flow) (λ x. begin_if x >>= (λ f. puts s locals a exits >>= (λ left. begin_else f left >>= (λ b. end_if f false >>= (λ done. given false)))))
     unfolding puts lowers_stmt evaluates
     puts-If t a exits flow =
         ap (λ (x : LowerStmt). whole x exits flow) (at.at-If LowerStmt LowerArm step arm_by t a None) ∙ forked_same (value_of s t flow) (lowers_stmt s locals a) (or_nothing None) exits
 
-    pub puts-Else : (t : Expr) (a b : Stmt) (exits : Exits) (flow : Flow) → puts s locals (s.If t a (Some b)) exits flow
+    pub puts-Else : (t : Expr) (a b : Stmt) (exits : Exits) (flow : Flow) → puts s locals (kind.If t a (Some b)) exits flow
         ≡ behind (evaluates s t flow) (λ x. begin_if x >>= (λ f. puts s locals a exits >>= (λ left. begin_else f left >>= (λ c. puts s locals b exits >>= (λ last. end_if f last >>= (λ done. given false))))))
     unfolding puts lowers_stmt evaluates
     puts-Else t a b exits flow =
         ap (λ (x : LowerStmt). whole x exits flow) (at.at-If LowerStmt LowerArm step arm_by t a (Some b)) ∙ forked_same (value_of s t flow) (lowers_stmt s locals a) (lowers_stmt s locals b) exits
 
-    pub puts-Loop : (t : Option Expr) (e : Option Expr) (b : Stmt) (last : Bool) (exits : Exits) (flow : Flow) → puts s locals (s.Loop t e b last) exits flow
+    pub puts-Loop : (t : Option Expr) (e : Option Expr) (b : Stmt) (last : Bool) (exits : Exits) (flow : Flow) → puts s locals (kind.Loop t e b last) exits flow
         ≡ behind (loops s locals t e b last flow) (λ done. given false)
     unfolding puts lowers_stmt loops
     puts-Loop t e b last exits flow = ap (λ (x : LowerStmt). whole x exits flow) (at.at-Loop LowerStmt LowerArm step arm_by t e b last)
@@ -171,19 +171,19 @@ module _ (s : Setting) where
         same (begin_loop flow) _ _ (λ l at_head.
         turning_same (before_body last (value_if_any s t) l) (stepped (value_if_any s e)) (behind_step last (value_if_any s t) l) (lowers_stmt s locals b) l at_head)
 
-    pub puts-Break : (exits : Exits) (flow : Flow) → puts s locals s.Break exits flow ≡ behind (leave_by exits.break_to flow) (λ done. given true)
+    pub puts-Break : (exits : Exits) (flow : Flow) → puts s locals kind.Break exits flow ≡ behind (leave_by exits.break_to flow) (λ done. given true)
     unfolding puts lowers_stmt
     puts-Break exits flow = ap (λ (x : LowerStmt). whole x exits flow) (at.at-Break LowerStmt LowerArm step arm_by)
 
-    pub puts-Continue : (exits : Exits) (flow : Flow) → puts s locals s.Continue exits flow ≡ behind (leave_by exits.continue_to flow) (λ done. given true)
+    pub puts-Continue : (exits : Exits) (flow : Flow) → puts s locals kind.Continue exits flow ≡ behind (leave_by exits.continue_to flow) (λ done. given true)
     unfolding puts lowers_stmt
     puts-Continue exits flow = ap (λ (x : LowerStmt). whole x exits flow) (at.at-Continue LowerStmt LowerArm step arm_by)
 
-    pub puts-Return : (e : Option Expr) (exits : Exits) (flow : Flow) → puts s locals (s.Return e) exits flow ≡ behind (returns s e flow) (λ done. given true)
+    pub puts-Return : (e : Option Expr) (exits : Exits) (flow : Flow) → puts s locals (kind.Return e) exits flow ≡ behind (returns s e flow) (λ done. given true)
     unfolding puts lowers_stmt returns
     puts-Return e exits flow = ap (λ (x : LowerStmt). whole x exits flow) (at.at-Return LowerStmt LowerArm step arm_by e)
 
-    pub puts-Discard : (exits : Exits) (flow : Flow) → puts s locals s.Discard exits flow ≡ behind (putting_here op.KILL [] flow) (λ done. given true)
+    pub puts-Discard : (exits : Exits) (flow : Flow) → puts s locals kind.Discard exits flow ≡ behind (putting_here op.KILL [] flow) (λ done. given true)
     unfolding puts lowers_stmt
     puts-Discard exits flow = ap (λ (x : LowerStmt). whole x exits flow) (at.at-Discard LowerStmt LowerArm step arm_by)
 
@@ -209,7 +209,7 @@ module _ (s : Setting) where
         ∙ assoc value begin (λ l. (arms l >>= (λ done. opening l.end)) >>= (λ done. given false))
         ∙ same value _ _ (λ x at_value. same (begin x at_value) _ _ (λ l at_arms. assoc (arms l at_arms) (λ done. opening l.end) (λ done. given false)))
 
-    pub puts-Switch : (e : Expr) (arms : List Arm) (exits : Exits) (flow : Flow) → puts s locals (s.Switch e arms) exits flow
+    pub puts-Switch : (e : Expr) (arms : List Arm) (exits : Exits) (flow : Flow) → puts s locals (kind.Switch e arms) exits flow
         ≡ behind (evaluates s e flow) (λ x. begins_switch arms x >>= (λ l. falls s locals l.end l.arms arms exits >>= (λ a. opening l.end >>= (λ done. given false))))
     unfolding puts lowers_stmt lowers_arm evaluates begins_switch falls
     puts-Switch e arms exits flow =

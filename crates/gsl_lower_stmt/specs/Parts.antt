@@ -36,7 +36,7 @@ leave_by (Some label) = branch label
 
 -- a block ends in a choice between two, and one begins
 abbrev pub choosing : ℕ → ℕ → ℕ → ℕ → Emit (Unit {0})
-choosing x yes other end = putting_here op.SELECTION_MERGE (end ∷ 0 ∷ []) >>= (λ done. putting_here op.BRANCH_CONDITIONAL (x ∷ yes ∷ other ∷ []) >>= (λ done. opening yes))
+choosing x first other end = putting_here op.SELECTION_MERGE (end ∷ 0 ∷ []) >>= (λ done. putting_here op.BRANCH_CONDITIONAL (x ∷ first ∷ other ∷ []) >>= (λ done. opening first))
 
 -- ---- one behind the other
 
@@ -53,7 +53,7 @@ in_turn (s ∷ ss) exits = s.run exits >>= (λ done. unless s.leaves (in_turn ss
 
 -- two blocks that meet behind it
 unfoldable pub begin_if : ℕ → Emit Fork
-begin_if x = fresh >>= (λ yes. fresh >>= (λ other. fresh >>= (λ end. choosing x yes other end >>= (λ done. given (record { other = other; end = end })))))
+begin_if x = fresh >>= (λ first. fresh >>= (λ other. fresh >>= (λ end. choosing x first other end >>= (λ done. given (record { other = other; end = end })))))
 
 unfoldable pub begin_else : Fork → Bool → Emit (Unit {0})
 begin_else f left = seal left f.end >>= (λ done. opening f.other)

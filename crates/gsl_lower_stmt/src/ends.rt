@@ -58,15 +58,15 @@ pub(crate) fn choosing(
     b: &mut Builder,
     p: &mut FlowPlace,
     x: u32,
-    yes: u32,
+    first: u32,
     other: u32,
     end: u32,
 ) -> Result<(), BuildRefusal>
-    ensures { Does result b.new p.new (spec.choosing x yes other end (flow_of b.old p.old)) }
+    ensures { Does result b.new p.new (spec.choosing x first other end (flow_of b.old p.old)) }
 {
     b.put(op::SELECTION_MERGE, &[end, 0])?;
-    b.put(op::BRANCH_CONDITIONAL, &[x, yes, other])?;
-    opening(b, p, yes)
+    b.put(op::BRANCH_CONDITIONAL, &[x, first, other])?;
+    opening(b, p, first)
 }
 
 /// The blocks of an `if` begin.
@@ -74,10 +74,10 @@ pub(crate) fn choosing(
 pub(crate) fn begin_if(b: &mut Builder, p: &mut FlowPlace, x: u32) -> Result<Fork, BuildRefusal>
     ensures { Does result b.new p.new (spec.begin_if x (flow_of b.old p.old)) }
 {
-    let yes = b.id()?;
+    let first = b.id()?;
     let other = b.id()?;
     let end = b.id()?;
-    choosing(b, p, x, yes, other, end)?;
+    choosing(b, p, x, first, other, end)?;
     Ok(Fork { other, end })
 }
 

@@ -101,7 +101,7 @@ impl<'a> Body<'a> {
             Stmt::Switch(e, arms) => {
                 let x = self.lowerer.value(b, p, e)?;
                 let l = begin_switch(self.lowerer.alloc, b, p, arms, x)?;
-                self.falls(b, p, l.end, l.arms.as_slice(), arms, exits)?;
+                self.falls(b, p, arms, l.arms.as_slice(), l.end, exits)?;
                 opening(b, p, l.end)?;
                 Ok(false)
             }
@@ -135,9 +135,9 @@ impl<'a> Body<'a> {
         &self,
         b: &mut Builder,
         p: &mut FlowPlace,
-        end: u32,
-        labels: &[u32],
         arms: &Arms,
+        labels: &[u32],
+        end: u32,
         exits: Exits,
     ) -> Result<(), BuildRefusal>
         ensures { Does result b.new p.new (coming.falls (setting_of self.now.lowerer.shapes.now self.now.lowerer.interfaces.now self.now.lowerer.prototypes.now) self.now.locals.now end labels.now arms.now exits (flow_of b.old p.old)) }
