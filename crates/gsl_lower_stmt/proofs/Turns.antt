@@ -1,5 +1,5 @@
 -- Statements, arms and labels, one behind the other.
-use Rattle.std.proofs.Common.{◌≡◌, refl, sym, ap, ◌∙◌, ℕ, ◌+◌, ◌≤◌, List, [], ◌∷◌, length, map, drop, slice_get, Some}
+use Rattle.std.proofs.Common.{◌≡◌, refl, sym, ap, ◌∙◌, subst, ℕ, ◌+◌, ◌≤◌, List, [], ◌∷◌, length, map, drop, slice_get, Some}
 use Rattle.std.specs.Prelude.{Bool, true, false, if◌then◌else◌}
 use Rattle.std.proofs.lemmas.List.{drop_all}
 use Rattle.gsl_compute.proofs.Loops.{opened}
@@ -60,11 +60,11 @@ module _ (s : Setting) (locals : List Ty) (end : ℕ) (labels : List ℕ) (arms 
       → falls s locals end (drop k labels) (drop k arms) exits before ≡ whole → behind_label k arm done after ≡ whole
   label_on k label arm done before after whole at_label at_arm is so_far = sym (ap (λ r. behind r (behind_label k arm)) is) ∙ falls_open k label arm before whole at_label at_arm so_far
 
-  pub body_stops : (k label : ℕ) (arm : Arm) (done : Unit {0}) (why : BuildRefusal) (before between : Flow) (whole : Lowered (Unit {0})) → slice_get labels k ≡ Some label → slice_get arms k ≡ Some arm
-      → opening label before ≡ Gives done between → Refuses why (row s locals (out-Arm arm).body (in_switch end exits) between)
+  pub body_stops : (k label : ℕ) (arm : Arm) (inside : Exits) (done : Unit {0}) (why : BuildRefusal) (before between : Flow) (whole : Lowered (Unit {0})) → slice_get labels k ≡ Some label → slice_get arms k ≡ Some arm
+      → opening label before ≡ Gives done between → inside ≡ in_switch end exits → Refuses why (row s locals (out-Arm arm).body inside between)
       → falls s locals end (drop k labels) (drop k arms) exits before ≡ whole → Refuses why whole
-  body_stops k label arm done why before between whole at_label at_arm is body so_far =
-      refuses_on why _ (λ left. seal left (next_or end (drop (k + 1) labels)) >>= (λ c. falls s locals end (drop (k + 1) labels) (drop (k + 1) arms) exits)) whole body (label_on k label arm done before between whole at_label at_arm is so_far)
+  body_stops k label arm inside done why before between whole at_label at_arm is within body so_far =
+      refuses_on why _ (λ left. seal left (next_or end (drop (k + 1) labels)) >>= (λ c. falls s locals end (drop (k + 1) labels) (drop (k + 1) arms) exits)) whole (subst (λ x. Refuses why (row s locals (out-Arm arm).body x between)) within body) (label_on k label arm done before between whole at_label at_arm is so_far)
 
   body_on : (k label : ℕ) (arm : Arm) (done : Unit {0}) (left : Bool) (before between after : Flow) (whole : Lowered (Unit {0})) → slice_get labels k ≡ Some label → slice_get arms k ≡ Some arm
       → opening label before ≡ Gives done between → row s locals (out-Arm arm).body (in_switch end exits) between ≡ Gives left after
@@ -73,19 +73,19 @@ module _ (s : Setting) (locals : List Ty) (end : ℕ) (labels : List ℕ) (arms 
   body_on k label arm done left before between after whole at_label at_arm is body so_far =
       sym (ap (λ r. behind r (λ left. seal left (next_or end (drop (k + 1) labels)) >>= (λ c. falls s locals end (drop (k + 1) labels) (drop (k + 1) arms) exits))) body) ∙ label_on k label arm done before between whole at_label at_arm is so_far
 
-  pub seal_stops : (k label : ℕ) (arm : Arm) (done : Unit {0}) (left : Bool) (next : ℕ) (why : BuildRefusal) (before between after : Flow) (whole : Lowered (Unit {0})) → slice_get labels k ≡ Some label → slice_get arms k ≡ Some arm
-      → opening label before ≡ Gives done between → row s locals (out-Arm arm).body (in_switch end exits) between ≡ Gives left after → next ≡ next_or end (drop (k + 1) labels) → Refuses why (seal left next after)
+  pub seal_stops : (k label : ℕ) (arm : Arm) (inside : Exits) (done : Unit {0}) (left : Bool) (next : ℕ) (why : BuildRefusal) (before between after : Flow) (whole : Lowered (Unit {0})) → slice_get labels k ≡ Some label → slice_get arms k ≡ Some arm
+      → opening label before ≡ Gives done between → inside ≡ in_switch end exits → row s locals (out-Arm arm).body inside between ≡ Gives left after → next ≡ next_or end (drop (k + 1) labels) → Refuses why (seal left next after)
       → falls s locals end (drop k labels) (drop k arms) exits before ≡ whole → Refuses why whole
-  seal_stops k label arm done left next why before between after whole at_label at_arm is body on stops so_far =
+  seal_stops k label arm inside done left next why before between after whole at_label at_arm is within body on stops so_far =
       refuses_on why (seal left next after) (λ c. falls s locals end (drop (k + 1) labels) (drop (k + 1) arms) exits) whole stops
-      (ap (λ n. behind (seal left n after) (λ c. falls s locals end (drop (k + 1) labels) (drop (k + 1) arms) exits)) on ∙ body_on k label arm done left before between after whole at_label at_arm is body so_far)
+      (ap (λ n. behind (seal left n after) (λ c. falls s locals end (drop (k + 1) labels) (drop (k + 1) arms) exits)) on ∙ body_on k label arm done left before between after whole at_label at_arm is (subst (λ x. row s locals (out-Arm arm).body x between ≡ Gives left after) within body) so_far)
 
-  pub falls_on : (k label : ℕ) (arm : Arm) (done sealed : Unit {0}) (left : Bool) (next : ℕ) (before between after last : Flow) (whole : Lowered (Unit {0})) → slice_get labels k ≡ Some label → slice_get arms k ≡ Some arm
-      → opening label before ≡ Gives done between → row s locals (out-Arm arm).body (in_switch end exits) between ≡ Gives left after → next ≡ next_or end (drop (k + 1) labels) → seal left next after ≡ Gives sealed last
+  pub falls_on : (k label : ℕ) (arm : Arm) (inside : Exits) (done sealed : Unit {0}) (left : Bool) (next : ℕ) (before between after last : Flow) (whole : Lowered (Unit {0})) → slice_get labels k ≡ Some label → slice_get arms k ≡ Some arm
+      → opening label before ≡ Gives done between → inside ≡ in_switch end exits → row s locals (out-Arm arm).body inside between ≡ Gives left after → next ≡ next_or end (drop (k + 1) labels) → seal left next after ≡ Gives sealed last
       → falls s locals end (drop k labels) (drop k arms) exits before ≡ whole → falls s locals end (drop (k + 1) labels) (drop (k + 1) arms) exits last ≡ whole
-  falls_on k label arm done sealed left next before between after last whole at_label at_arm is body on seals so_far =
+  falls_on k label arm inside done sealed left next before between after last whole at_label at_arm is within body on seals so_far =
       sym (ap (λ r. behind r (λ c. falls s locals end (drop (k + 1) labels) (drop (k + 1) arms) exits)) seals)
-      ∙ ap (λ n. behind (seal left n after) (λ c. falls s locals end (drop (k + 1) labels) (drop (k + 1) arms) exits)) on ∙ body_on k label arm done left before between after whole at_label at_arm is body so_far
+      ∙ ap (λ n. behind (seal left n after) (λ c. falls s locals end (drop (k + 1) labels) (drop (k + 1) arms) exits)) on ∙ body_on k label arm done left before between after whole at_label at_arm is (subst (λ x. row s locals (out-Arm arm).body x between ≡ Gives left after) within body) so_far
 
   pub falls_end : (k : ℕ) (flow : Flow) (whole : Lowered (Unit {0})) → length arms ≤ k → falls s locals end (drop k labels) (drop k arms) exits flow ≡ whole → whole ≡ Gives tt flow
   falls_end k flow whole past so_far = sym so_far ∙ ap (λ l. falls s locals end (drop k labels) l exits flow) (drop_all k arms past) ∙ falls-ends s locals end (drop k labels) exits flow

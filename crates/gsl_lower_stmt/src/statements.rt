@@ -147,8 +147,9 @@ impl<'a> Body<'a> {
                 return Err(BuildRefusal::Memory);
             }
             let label = label_at(labels, k);
+            let arm = &arms[k];
             opening(b, p, *label)?;
-            let left = self.row(b, p, &arms[k].body, in_switch(end, exits))?;
+            let left = self.row(b, p, &arm.body, in_switch(end, exits))?;
             seal(b, p, left, next_or(labels, k + 1, end))?;
         }
         Ok(())
