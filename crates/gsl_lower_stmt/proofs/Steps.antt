@@ -7,8 +7,8 @@ use Rattle.gsl_types.specs.declared.ty.Ty.TheVariants.{Void}
 use Rattle.gsl_tree.specs.declared.expr.Expr.{Expr}
 use Rattle.gsl_tree.specs.declared.stmt.Arm.{Arm, out-Arm}
 use Rattle.gsl_tree.specs.declared.stmt.Stmt.{Stmt}
-use Rattle.gsl_tree.specs.declared.stmt.Stmt.TheFolds.{fold-Stmt, fold-roll-Arm}
-use Rattle.gsl_tree.specs.declared.stmt.Stmt.TheOpen.{Stmt-F, Arm-F}
+use Rattle.gsl_tree.specs.declared.stmt.Stmt.TheFolds.{fold-roll-Arm}
+use Rattle.gsl_tree.specs.declared.stmt.Stmt.TheOpen.{Stmt-F}
 use Rattle.gsl_tree.specs.declared.stmt.Stmt.TheVariants as kind
 use Rattle.gsl_tree.specs.declared.stmt.Stmt.TheViews.{roll-out-Arm}
 use Rattle.gsl_tree.proofs.StmtFolds as at
@@ -22,8 +22,8 @@ use Rattle.gsl_lower_stmt.specs.declared.labels.Fork.{Fork}
 use Rattle.gsl_lower_stmt.specs.declared.labels.LoopLabels.{LoopLabels}
 use Rattle.gsl_lower_stmt.specs.declared.labels.SwitchLabels.{SwitchLabels}
 use Rattle.gsl_lower_stmt.specs.Coming.{and_leaves, begins, begins_switch, declares, default_in, falls, loops, puts, returns, row, steps, tests_first, tests_last, words_in}
-use Rattle.gsl_lower_stmt.specs.Lowering.{arm_by, defaults_of, lowers_arm, lowers_stmt, or_nothing, stmt_by, switched, value_if_any, value_of, words_of}
-use Rattle.gsl_lower_stmt.specs.Parts.{LowerArm, LowerStmt, again_if, before_body, begin_else, begin_if, begin_loop, begin_step, begin_switch, begins_with, behind_step, branch, end_if, enter_body, falling, in_loop, in_switch, in_turn, leave_by, looped, next_or, returned, seal, stepped, turning, unless}
+use Rattle.gsl_lower_stmt.specs.Lowering.{arm_by, defaults_of, lowers_arm, lowers_stmt, or_nothing, stmt_by, value_if_any, value_of, words_of}
+use Rattle.gsl_lower_stmt.specs.Parts.{LowerArm, LowerStmt, again_if, before_body, begin_else, begin_if, begin_loop, begin_step, begin_switch, begins_with, behind_step, branch, end_if, enter_body, falling, in_loop, in_switch, in_turn, leave_by, next_or, seal, stepped, unless}
 
 -- ---- one behind the other
 

@@ -1,17 +1,17 @@
 -- What statements come to, in words of which each is one call of the code.
-use Rattle.std.specs.Prelude.{ℕ, Bool, true, false, List, map, Option}
+use Rattle.std.specs.Prelude.{ℕ, Bool, List, map, Option}
 use Rattle.gsl_types.specs.declared.ty.Ty.{Ty}
 use Rattle.gsl_tree.specs.declared.expr.Expr.{Expr}
 use Rattle.gsl_tree.specs.declared.stmt.Arm.{Arm, out-Arm}
 use Rattle.gsl_tree.specs.declared.stmt.Stmt.{Stmt}
-use Rattle.gsl_lower_holders.specs.Flow.{Emit, ◌>>=◌, given, opening}
+use Rattle.gsl_lower_holders.specs.Flow.{Emit, ◌>>=◌, given}
 use Rattle.gsl_lower_expr.specs.Lowering.{Setting}
 use Rattle.gsl_lower_needs.specs.Bodies.{any_leaves}
 use Rattle.gsl_lower_stmt.specs.declared.exits.Exits.{Exits}
 use Rattle.gsl_lower_stmt.specs.declared.labels.LoopLabels.{LoopLabels}
 use Rattle.gsl_lower_stmt.specs.declared.labels.SwitchLabels.{SwitchLabels}
 use Rattle.gsl_lower_stmt.specs.Lowering.{initial, lowers_arm, lowers_stmt, value_if_any}
-use Rattle.gsl_lower_stmt.specs.Parts.{LowerArm, LowerStmt, begin_switch, begins_with, behind_step, before_body, falling, in_turn, looped, returned, stepped}
+use Rattle.gsl_lower_stmt.specs.Parts.{LowerStmt, begin_switch, begins_with, behind_step, before_body, falling, in_turn, looped, returned, stepped}
 
 -- what is put, and whether it leaves
 abbrev pub and_leaves : Emit (Unit {0}) → Bool → Emit Bool

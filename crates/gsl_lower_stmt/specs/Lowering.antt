@@ -1,5 +1,5 @@
 -- What every statement is lowered to (GLSL 4.50, chapter 6).
-use Rattle.std.specs.Prelude.{ℕ, Bool, List, [], ◌∷◌, map, slice_index_or, Option, Some, None}
+use Rattle.std.specs.Prelude.{ℕ, Bool, List, [], map, slice_index_or, Option, Some, None}
 use Rattle.gsl_instr.specs.declared.op.TheConstants as op
 use Rattle.gsl_types.specs.declared.ty.Ty.{Ty}
 use Rattle.gsl_types.specs.declared.ty.Ty.TheVariants.{Void}
