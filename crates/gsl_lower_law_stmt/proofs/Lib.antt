@@ -1,3 +1,4 @@
+pub mod Declared
 pub mod Exits
 pub mod Rows
 pub mod Ways

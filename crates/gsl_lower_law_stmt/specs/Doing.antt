@@ -8,6 +8,7 @@ use Rattle.gsl_values.specs.declared.value.Value.{Value}
 use Rattle.gsl_tree.specs.Around.{Around}
 use Rattle.gsl_tree.specs.Values.{word_in}
 use Rattle.gsl_tree.specs.declared.program.Program.{Program}
+use Rattle.gsl_meaning.specs.Accesses as access
 use Rattle.gsl_meaning.specs.Accesses.{nothing}
 use Rattle.gsl_meaning.specs.Running.{Ran, Run}
 use Rattle.gsl_meaning.specs.Running as shader_run
@@ -21,7 +22,7 @@ use Rattle.gsl_spv.specs.Declarations.{instr}
 use Rattle.gsl_spv.specs.Sections.{Sections}
 use Rattle.gsl_lower_law.specs.Values.{Stands}
 use Rattle.gsl_lower_holders.specs.Flow.{Emit, Flow, Gives, Lacks, Lowered, given, ◌>>=◌}
-use Rattle.gsl_lower_stmt.specs.Parts.{LowerStmt}
+use Rattle.gsl_lower_stmt.specs.Parts.{LowerStmt, begins_with}
 use Rattle.gsl_lower_stmt.specs.declared.exits.Exits.{Exits}
 use Rattle.gsl_lower_follows.specs.Following.{Follows}
 use Rattle.gsl_lower_follows.specs.Frames.{AreTyped, Frame, Good, Holds, Inside, body, coming}
@@ -37,6 +38,13 @@ evaluated_means x = shader_run.◌>>=◌ x (λ v. shader_run.given Normal)
 -- what `return` with a value does
 abbrev pub returned_means : Run Value → Run statement.Flow
 returned_means x = shader_run.◌>>=◌ x (λ v. shader_run.given (Returned v))
+
+-- what a local variable that begins with a value is lowered to, and what it does
+abbrev pub declared : ℕ → Emit ℕ → Exits → Emit (Unit {0})
+declared number value exits = value >>= begins_with number
+
+abbrev pub declared_means : ℕ → Run Value → Run statement.Flow
+declared_means number value = shader_run.◌>>=◌ value (λ v. shader_run.◌>>=◌ (shader_run.storing (access.whole (access.Local number)) v) (λ w. shader_run.given Normal))
 
 -- what `if` does, of a value and two statements
 abbrev pub forked_means : Run Value → Run statement.Flow → Run statement.Flow → Run statement.Flow

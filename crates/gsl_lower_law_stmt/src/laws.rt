@@ -17,9 +17,11 @@ ghost use Rattle.gsl_lower_holders.specs.Flow.{Emit, given};
 ghost use Rattle.gsl_lower_needs.specs.Bodies.{any_leaves};
 ghost use Rattle.gsl_lower_stmt.specs.Lowering.{forked};
 ghost use Rattle.gsl_lower_stmt.specs.Parts.{LowerStmt, in_turn, leave_by, returned};
+ghost use Rattle.gsl_lower_follows.specs.Frames as name;
 ghost use Rattle.gsl_lower_follows.specs.Frames.{Frame};
 ghost use Rattle.gsl_lower_follows.specs.Giving.{GivesValue};
-ghost use Rattle.gsl_lower_law_stmt.specs.Doing.{DoesStatement, EachDoes, evaluated, evaluated_means, forked_means, returned_means};
+ghost use Rattle.gsl_lower_law_names.specs.Named.{IsNamed};
+ghost use Rattle.gsl_lower_law_stmt.specs.Doing.{DoesStatement, EachDoes, declared, declared_means, evaluated, evaluated_means, forked_means, returned_means};
 
 /// An empty statement.
 pub fn nothing_does()
@@ -29,6 +31,11 @@ pub fn nothing_does()
 /// An expression whose value is not used.
 pub fn expressions_are_evaluated()
     ensures { (m : Module) (input : Input) (sections : Sections) (f : Frame m input sections) (p : Program) (around : Around) (splits : Bool) (ty : Ty) (emit : Emit ℕ) (x : Run Value) → GivesValue m input sections f p around splits ty emit x → DoesStatement m input sections f p around false (evaluated emit) (evaluated_means x) }
+{}
+
+/// A local variable begins with the value of its initialiser, whatever its type.
+pub fn variables_are_declared()
+    ensures { (m : Module) (input : Input) (sections : Sections) (f : Frame m input sections) (p : Program) (around : Around) (number : ℕ) (t : Ty) → IsNamed p around (name.Local number) t → (splits : Bool) (emit : Emit ℕ) (y : Run Value) → GivesValue m input sections f p around splits t emit y → DoesStatement m input sections f p around false (declared number emit) (declared_means number y) }
 {}
 
 /// Statements one behind the other, of which those behind one that leaves are dropped.

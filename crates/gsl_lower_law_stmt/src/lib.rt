@@ -3,4 +3,4 @@
 
 mod laws;
 
-pub use laws::{choices_are_made, expressions_are_evaluated, functions_are_left, loops_are_left, nothing_does, statements_follow_each_other};
+pub use laws::{choices_are_made, expressions_are_evaluated, functions_are_left, loops_are_left, nothing_does, statements_follow_each_other, variables_are_declared};
