@@ -74,17 +74,20 @@ module _ (m : Module) (input : Input) (sections : Sections) (f : Frame m input s
   does_store id word v units exits b s state good is typed stands =
       does_lift m input sections f p around units b s state (λ done ids. Unit {0}) (stored_left m input sections state (set state.variables seated.0 v) state.buffers) (λ (done : Unit {0}) later (flow : statement.Flow) u last. IsDone m input sections f p around false exits done later flow u last) none_waits Normal (now v s) (putting op.STORE (id ∷ word ∷ [])) good
       (store_acts m input sections id word (InVariable seated.0 []) v (set state.variables seated.0 v) state.buffers state b.sections (good.ready.lasting.same id _ seated.2) stands (stores_whole m input sections f p around seated.0 v state among))
-      (λ done later l inside extends. (refl, record {
-        inside = inside;
-        rest = refl;
-        within = good.within;
-        own = good.own;
-        waiting = good.waiting;
-        ready = l.ready;
-        seated = good.seated;
-        holds = (let h = holds_set m input sections f p around Local number seated.0 v s (now v s) state others refl refl seated.1 good.holds in record { values = h.values; blocks = h.blocks; buffers = h.buffers; choices = h.choices; count = h.count; outside = h.outside });
-        typed = typed_set m input sections f p around Local number t v s (now v s) refl others known.typed typed good.typed;
-      }))
+      (λ done later l inside extends. (
+        refl,
+        record {
+          inside = inside;
+          rest = refl;
+          within = good.within;
+          own = good.own;
+          waiting = good.waiting;
+          ready = l.ready;
+          seated = good.seated;
+          holds = (let h = holds_set m input sections f p around Local number seated.0 v s (now v s) state others refl refl seated.1 good.holds in record { values = h.values; blocks = h.blocks; buffers = h.buffers; choices = h.choices; count = h.count; outside = h.outside });
+          typed = typed_set m input sections f p around Local number t v s (now v s) refl others known.typed typed good.typed;
+        },
+      ))
     where
       seated : (n : ℕ) × (f.seat (Local number) ≡ Some n) × (f.own id ≡ Some (Points (InVariable n [])))
       seated = good.seated.each (Local number) id is
