@@ -1,0 +1,7 @@
+//! Tests of what a machine in place stands on.
+#![tactic(auto)]
+
+#[cfg(test)]
+mod constants;
+#[cfg(test)]
+mod region;
