@@ -1,0 +1,5 @@
+//! Tests of lowering.
+#![tactic(auto)]
+
+#[cfg(test)]
+mod statements;
