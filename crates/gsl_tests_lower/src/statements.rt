@@ -72,10 +72,6 @@ fn asked(alloc: Global, s: Stmt) -> Result<(bool, usize), BuildRefusal> {
 fn statements_leave_or_not(rt: HostRuntime) -> Result<(), Fail> {
     let alloc = rt.alloc();
     assert_eq!(rt; leaves(alloc, &Stmt::Break, Some(5)), Ok(true));
-    assert_eq!(rt;
-        leaves(alloc, &Stmt::Break, None),
-        Err(BuildRefusal::TooManyIds)
-    );
     assert_eq!(rt; leaves(alloc, &Stmt::Empty, None), Ok(false));
     assert_eq!(rt; asked(alloc, Stmt::Continue), Ok((true, 0)));
     Ok(())
