@@ -69,7 +69,7 @@ module _ (s : Sections) (main : ℕ) (local_size : List ℕ) (sound : AreSound s
       ∙ ap (λ o. o otherwise unless (is_complete n) (count_of_words n)) rest ∙ ap (λ b. unless b (count_of_words n)) complete
 
   pub once_none : ids_defined_once (module_of s main local_size) ≡ None
-  once_none = let n = module_of s main local_size in none_broken (defines_once n.bound) n (once_kept s main local_size sound)
+  once_none = let n = module_of s main local_size in none_broken (defines_once n.bound) n (once_kept s main local_size sound.set sound.imports sound.apart)
 
   pub uses_none : defined_before_use (module_of s main local_size) ≡ None
   uses_none = let n = module_of s main local_size in none_broken (uses_defined n) n (all_pass s main local_size sound (uses_defined n) (plain.uses_pass n) (function_ids.uses_pass (stands s main local_size sound)))

@@ -14,7 +14,7 @@ use Rattle.gsl_spv.specs.Finished.{capabilities, entry_point, memory_models, mod
 use Rattle.gsl_spv.specs.Growing.{all_of}
 use Rattle.gsl_spv.specs.Once.{interface_of}
 use Rattle.gsl_spv.specs.Sections.{Sections}
-use Rattle.gsl_fitting_sections.specs.Sections.{AreSound, count_of, one_if}
+use Rattle.gsl_fitting_sections.specs.Sections.{AreApart, count_of, one_if}
 use Rattle.gsl_fitting_sections.proofs.Parts.{front, head, parts_are}
 
 pub count_append : (id : ℕ) (a b : Code) → count_of id (a ++ b) ≡ count_of id a + count_of id b
@@ -46,16 +46,16 @@ once_from bound before (i ∷ code) once within =
         by_before true h here = let c = some_count r before h in let o = once r in absurd (omega (arith, here, c, o))
         by_before false h here = h
 
-module _ (s : Sections) (main : ℕ) (local_size : List ℕ) (sound : AreSound s main local_size) where
+module _ (s : Sections) (main : ℕ) (local_size : List ℕ) (set : Option ℕ) (imports : s.imports ≡ imports_of set) (apart : AreApart (s.last + 1) (all_of s)) where
   modes_none : (id : ℕ) (stage : Stage) → count_of id (modes stage main local_size) ≡ 0
   unfolding form_of
   modes_none id Vertex = refl
   modes_none id Fragment = refl
   modes_none id Compute = refl
 
-  head_count : (id : ℕ) (set : Option ℕ) → count_of id (head s main local_size set) ≡ count_of id (imports_of set) + count_of id (modes s.stage main local_size)
+  head_count : (id : ℕ) → count_of id (head s main local_size set) ≡ count_of id (imports_of set) + count_of id (modes s.stage main local_size)
   unfolding form_of
-  head_count id set =
+  head_count id =
       let entry = entry_point s.stage main (interface_of s.globals) in
       let a = count_append id capabilities (imports_of set) in
       let b = count_append id (capabilities ++ imports_of set) memory_models in
@@ -66,12 +66,12 @@ module _ (s : Sections) (main : ℕ) (local_size : List ℕ) (sound : AreSound s
       let z : count_of id (entry ∷ []) ≡ 0 = refl in
       omega (arith, a, b, c, d, x, y, z)
 
-  count_is : (id : ℕ) → count_of id (front s main local_size sound.set ++ s.functions) ≡ count_of id (all_of s)
+  count_is : (id : ℕ) → count_of id (front s main local_size set ++ s.functions) ≡ count_of id (all_of s)
   count_is id =
-      let import = ap (count_of id) sound.imports in
+      let import = ap (count_of id) imports in
       let none = modes_none id s.stage in
-      let heads = head_count id sound.set in
-      let top = head s main local_size sound.set in
+      let heads = head_count id in
+      let top = head s main local_size set in
       let a = count_append id top s.names in
       let b = count_append id (top ++ s.names) s.decorations in
       let c = count_append id (top ++ s.names ++ s.decorations) s.globals in
@@ -84,8 +84,7 @@ module _ (s : Sections) (main : ℕ) (local_size : List ℕ) (sound : AreSound s
 
   pub once_kept : Passes (defines_once (s.last + 1)) [] (module_of s main local_size).instrs
   once_kept =
-      let apart = sound.apart in
-      subst (Passes (defines_once (s.last + 1)) []) (sym (parts_are s main local_size sound.set sound.imports))
-      (once_from (s.last + 1) [] (front s main local_size sound.set ++ s.functions)
+      subst (Passes (defines_once (s.last + 1)) []) (sym (parts_are s main local_size set imports))
+      (once_from (s.last + 1) [] (front s main local_size set ++ s.functions)
       (λ id. let e = count_is id in let o = apart.once id in omega (arith, e, o))
       (λ id c. let e = count_is id in let some : 1 ≤ count_of id (all_of s) = omega (arith, e, c) in (apart.least id some, apart.below id some)))

@@ -192,7 +192,7 @@ module _ (s : Sections) (main : ℕ) (local_size : List ℕ) (sound : AreSound s
     each = sound.functions;
     shallow = sound.shallow;
     section = past_functions (passed [] (front s main local_size sound.set)) front_past;
-    once = once_kept s main local_size sound;
+    once = once_kept s main local_size sound.set sound.imports sound.apart;
   }
 
   -- a test that the heads pass, what lies outside functions and what plays its part in them

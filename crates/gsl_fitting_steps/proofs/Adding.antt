@@ -36,6 +36,22 @@ decorates_none None x h = refl
 decorates_none (Some instruction.Kill) x h = refl
 decorates_none (Some _) x h = cc
 
+-- the import counts for its id
+pub import_count : (s : Sections) (id : ℕ) → count_of id ((s.imports ++ importing (s.last + 1) ∷ []) ++ s.names ++ s.decorations ++ s.globals ++ s.functions) ≡ count_of id (all_of s) + one_if ((s.last + 1) == id)
+unfolding form_of
+import_count s id =
+    let i = importing (s.last + 1) in
+    let a = count_append id s.imports (i ∷ []) in
+    let b = count_append id (s.imports ++ i ∷ []) s.names in
+    let c = count_append id ((s.imports ++ i ∷ []) ++ s.names) s.decorations in
+    let d = count_append id ((s.imports ++ i ∷ []) ++ s.names ++ s.decorations) s.globals in
+    let e = count_append id ((s.imports ++ i ∷ []) ++ s.names ++ s.decorations ++ s.globals) s.functions in
+    let f = count_append id s.imports s.names in
+    let g = count_append id (s.imports ++ s.names) s.decorations in
+    let x = count_append id (s.imports ++ s.names ++ s.decorations) s.globals in
+    let y = count_append id (s.imports ++ s.names ++ s.decorations ++ s.globals) s.functions in
+    omega (arith, a, b, c, d, e, f, g, x, y)
+
 module _ (m : Module) where
   pub taking_fine : (s : Sections) → Fine m s → Fine m (call.take s).sections
   taking_fine s h = record {
@@ -119,19 +135,5 @@ module _ (m : Module) where
         names = h.names;
         decorations = h.decorations;
         globals = h.globals;
-        apart = apart_more (s.last + 1) (all_of s) _ (s.last + 1) (omega arith) (omega arith) counts h.apart;
+        apart = apart_more (s.last + 1) (all_of s) _ (s.last + 1) (omega arith) (omega arith) (import_count s) h.apart;
       })
-        where
-          counts : (id : ℕ) → count_of id ((s.imports ++ importing (s.last + 1) ∷ []) ++ s.names ++ s.decorations ++ s.globals ++ s.functions) ≡ count_of id (all_of s) + one_if ((s.last + 1) == id)
-          counts id =
-              let i = importing (s.last + 1) in
-              let a = count_append id s.imports (i ∷ []) in
-              let b = count_append id (s.imports ++ i ∷ []) s.names in
-              let c = count_append id ((s.imports ++ i ∷ []) ++ s.names) s.decorations in
-              let d = count_append id ((s.imports ++ i ∷ []) ++ s.names ++ s.decorations) s.globals in
-              let e = count_append id ((s.imports ++ i ∷ []) ++ s.names ++ s.decorations ++ s.globals) s.functions in
-              let f = count_append id s.imports s.names in
-              let g = count_append id (s.imports ++ s.names) s.decorations in
-              let x = count_append id (s.imports ++ s.names ++ s.decorations) s.globals in
-              let y = count_append id (s.imports ++ s.names ++ s.decorations ++ s.globals) s.functions in
-              omega (arith, a, b, c, d, e, f, g, x, y)

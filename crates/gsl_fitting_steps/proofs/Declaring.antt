@@ -25,7 +25,7 @@ pub each_more : (P : Code → Instr → Type 0) (before code : Code) (i : Instr)
 each_more P before [] i all last = (last, tt)
 each_more P before (j ∷ code) i all last = (all.0, each_more P (j ∷ before) code i all.1 last)
 
-declared_count : (s : Sections) (i : Instr) (id : ℕ) → count_of id (s.imports ++ s.names ++ s.decorations ++ (s.globals ++ i ∷ []) ++ s.functions) ≡ count_of id (all_of s) + one_if (is_id id (result (read i)))
+pub declared_count : (s : Sections) (i : Instr) (id : ℕ) → count_of id (s.imports ++ s.names ++ s.decorations ++ (s.globals ++ i ∷ []) ++ s.functions) ≡ count_of id (all_of s) + one_if (is_id id (result (read i)))
 declared_count s i id =
     let front = s.imports ++ s.names ++ s.decorations in
     let a = count_append id (front ++ (s.globals ++ i ∷ [])) s.functions in
@@ -52,7 +52,7 @@ module _ (m : Module) (rank : ℕ → ℕ) (f : Frame) (given : List ℕ) where
   declare_goes : (d : Declaration) (s : Sections) → IsDeclaration m (passed [] s.globals) (defining d (s.last + 1)) → result (read (defining d (s.last + 1))) ≡ Some (s.last + 1) → Goes m rank f given given s (declare d s).sections
   declare_goes d s may is = record { fine = declare_fine m d s may is; puts = nothing_put m rank f given s _ refl }
 
-  known_goes : (d : Declaration) (s : Sections) → MayDeclare m d s → Goes m rank f given given s (intern d s).sections
+  pub known_goes : (d : Declaration) (s : Sections) → MayDeclare m d s → Goes m rank f given given s (intern d s).sections
   unfolding intern
   known_goes d s may = by_found (id_of d s.globals) refl
     where

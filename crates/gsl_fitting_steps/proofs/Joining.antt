@@ -10,7 +10,7 @@ module _ (m : Module) (rank : ℕ → ℕ) (f : Frame) where
   pub nothing_put : (given : List ℕ) (before after : Sections) → after.functions ≡ before.functions → Puts m rank f given given before after
   nothing_put given before after same = record { code = []; puts = same ∙ sym (append-nil before.functions); wider = λ id h. h; fits = λ follows l c ds h. h }
 
-  goes_on : (given between now : List ℕ) (a b c : Sections) → Goes m rank f given between a b → Goes m rank f between now b c → Goes m rank f given now a c
+  pub goes_on : (given between now : List ℕ) (a b c : Sections) → Goes m rank f given between a b → Goes m rank f between now b c → Goes m rank f given now a c
   goes_on given between now a b c x y = record {
     fine = λ h. y.fine (x.fine h);
     puts = record {

@@ -82,7 +82,7 @@ module _ (s : Sections) (main : ℕ) (local_size : List ℕ) (sound : AreSound s
   once_globals : Passes (defines_once n.bound) (before_globals s main local_size sound) s.globals
   once_globals =
       let test = defines_once n.bound in
-      let whole = subst (Passes test []) (is_front s main local_size sound) (once_kept s main local_size sound) in
+      let whole = subst (Passes test []) (is_front s main local_size sound) (once_kept s main local_size sound.set sound.imports sound.apart) in
       (passes_split test [] (top s main local_size sound ++ s.names ++ s.decorations) s.globals (passes_split test [] (front s main local_size sound.set) s.functions whole).0).1
 
   no_modes : AllByRecursion (λ i. mode_of (read i) ≡ None) s.functions

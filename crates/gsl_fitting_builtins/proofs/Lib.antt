@@ -1,0 +1,4 @@
+pub mod Picking
+pub mod Building
+pub mod Extending
+pub mod Built

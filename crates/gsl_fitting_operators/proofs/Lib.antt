@@ -1,0 +1,4 @@
+pub mod Forms
+pub mod Composites
+pub mod Operators
+pub mod Pairs
