@@ -1,0 +1,4 @@
+pub mod Heads
+pub mod Looped
+pub mod Turns
+pub mod Units
