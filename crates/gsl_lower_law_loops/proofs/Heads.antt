@@ -1,5 +1,5 @@
 -- The head of a loop, and its first block.
-use Rattle.std.proofs.Common.{◌≡◌, refl, sym, ap, ◌∙◌, ℕ, suc, ◌≤◌, [], ◌∷◌, length, arith}
+use Rattle.std.proofs.Common.{◌≡◌, refl, ap, ◌∙◌, ℕ, suc, ◌≤◌, [], ◌∷◌, length, arith}
 use Rattle.gsl_base.specs.declared.input.Input.{Input}
 use Rattle.gsl_instr.specs.Forms.{form_of}
 use Rattle.gsl_instr.specs.declared.op.TheConstants as op
@@ -13,14 +13,13 @@ use Rattle.gsl_spv.specs.Calls.{put}
 use Rattle.gsl_spv.specs.Declarations.{instr}
 use Rattle.gsl_spv.specs.Growing.{Extends}
 use Rattle.gsl_spv.specs.Sections.{Sections}
-use Rattle.gsl_spv.proofs.Extending.{extends_same, extends_then}
+use Rattle.gsl_spv.proofs.Extending.{extends_then}
 use Rattle.gsl_lower_law.proofs.Adding.{extends_put}
 use Rattle.gsl_lower_holders.specs.Flow.{Flow, Gives, opening}
 use Rattle.gsl_lower_stmt.specs.Parts.{enter_loop, loop_labels}
 use Rattle.gsl_lower_follows.specs.Frames.{Frame, Good, Inside, coming}
 use Rattle.gsl_lower_follows.specs.Giving.{Grown}
 use Rattle.gsl_lower_follows.specs.Stretching.{Stretch, room}
-use Rattle.gsl_lower_follows.proofs.Growing.{grown_then}
 use Rattle.gsl_lower_follows.proofs.Jumping.{begun_at, jumps}
 use Rattle.gsl_lower_follows.proofs.Placing.{coming_before, inside_between}
 use Rattle.gsl_lower_follows.proofs.Stretches.{stretch_one, stretch_then}

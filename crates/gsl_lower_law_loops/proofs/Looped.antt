@@ -1,5 +1,5 @@
 -- Loops.
-use Rattle.std.proofs.Common.{◌≡◌, refl, sym, ap, ◌∙◌, subst, ℕ, suc, ◌≤◌, List, [], ◌∷◌, ◌++◌, Option, Some, None, Bool, true, false, arith}
+use Rattle.std.proofs.Common.{◌≡◌, refl, sym, ap, ◌∙◌, subst, ℕ, suc, ◌≤◌, [], ◌∷◌, ◌++◌, Option, Some, None, Bool, true, false, arith}
 use Rattle.gsl_base.specs.declared.input.Input.{Input}
 use Rattle.gsl_instr.specs.Forms.{form_of}
 use Rattle.gsl_instr.specs.declared.op.TheConstants as op
@@ -18,14 +18,14 @@ use Rattle.gsl_spv.specs.Calls.{put}
 use Rattle.gsl_spv.specs.Declarations.{instr}
 use Rattle.gsl_spv.specs.Growing.{Extends}
 use Rattle.gsl_spv.specs.Sections.{Sections}
-use Rattle.gsl_spv.proofs.Extending.{extends_take, extends_then}
+use Rattle.gsl_spv.proofs.Extending.{extends_then}
 use Rattle.gsl_lower_law.proofs.Adding.{extends_put}
 use Rattle.gsl_lower_holders.specs.Flow.{Emit, Flow, Gives, Lacks, Lowered, behind, given, opening, ◌>>=◌}
 use Rattle.gsl_lower_stmt.specs.Parts as part
 use Rattle.gsl_lower_stmt.specs.Parts.{LowerStmt, before_body, begin_loop, begin_step, behind_step, enter_body, enter_loop, five_labels, in_loop, looped, seal, turning}
 use Rattle.gsl_lower_stmt.specs.declared.exits.Exits.{Exits}
 use Rattle.gsl_lower_follows.specs.Following.{Follows}
-use Rattle.gsl_lower_follows.specs.Frames.{Frame, Good, Inside, Seated, coming}
+use Rattle.gsl_lower_follows.specs.Frames.{Frame, Good, Inside}
 use Rattle.gsl_lower_follows.specs.Giving.{Adds, Does, GivesValue, Grown, GrownTo, HasGiven, none_waits}
 use Rattle.gsl_lower_follows.specs.Stretching.{Stretch, worth}
 use Rattle.gsl_lower_follows.proofs.Beginning.{seated_grown}
@@ -39,6 +39,7 @@ use Rattle.gsl_lower_law_stmt.proofs.Exits.{adds_putting, within_good}
 use Rattle.gsl_lower_law_stmt.proofs.Ways.{block_at, extends_sealed, fresh_then, grown_block, sealed, taken}
 use Rattle.gsl_lower_law_loops.specs.Looping.{ForBoth, IsStep, IsTest, looped_means, stepping, testing}
 use Rattle.gsl_lower_law_loops.proofs.Heads.{at_first, at_head, first_less, from_head, grown_first, grown_head, inside_head, to_head}
+use Rattle.gsl_lower_law_loops.proofs.Opening.{Known, flow_in, good_aside, grown_by, grown_taken, opens}
 use Rattle.gsl_lower_law_loops.proofs.Turns as turn
 use Rattle.gsl_lower_law_loops.proofs.Turns.{Lie, at_step, back_by, inside_first, inside_sealed, inside_step, inside_stepped, inside_tested, inside_turned, turns_do}
 use Rattle.gsl_lower_law_loops.proofs.Units.{good_on, stands_at, unit_taken}
@@ -50,25 +51,6 @@ carrier {A} emit = A
 
 abbrev Labels : Type 0
 Labels = carrier five_labels
-
-abbrev flow_in : {A : Type 0} → Flow → Lowered A → Flow
-flow_in b Lacks = b
-flow_in b (Gives a later) = later
-
-opens : {A B : Type 0} (low : Lowered A) (next : A → Emit B) (c : B) (later : Flow) → behind low next ≡ Gives c later → (a : A) × (mid : Flow) × (low ≡ Gives a mid) × (next a mid ≡ Gives c later)
-opens Lacks next c later e = absurd cc
-opens (Gives a mid) next c later e = (a, mid, refl, e)
-
-grown_by : {A : Type 0} (emit : Emit A) (b : Flow) (a : A) (later : Flow) → Adds emit → emit b ≡ Gives a later → Grown b later
-grown_by emit b a later adds e = subst (GrownTo b) e (adds b)
-
--- Ids alone were taken.
-abbrev Known : {A : Type 0} → Flow → Lowered A → Type 0
-Known b Lacks = Unit {0}
-Known b (Gives a later) = Grown b later × (later.sections.functions ≡ b.sections.functions)
-
-grown_taken : (b : Flow) → Grown b (taken b)
-grown_taken b = record { extends = extends_take b.sections; used = omega arith; place = refl }
 
 labels_known : (b : Flow) → Known b (five_labels b)
 unfolding five_labels
@@ -373,17 +355,7 @@ module _ (m : Module) (input : Input) (sections : Sections) (f : Frame m input s
               }
 
               there : Good m input sections f p around before s state
-              there = record {
-                inside = lie.inside;
-                rest = good.rest ∙ sym (ap (λ code. coming m input sections f (record b.sections { functions = code })) same);
-                within = good.within;
-                own = good.own;
-                waiting = good.waiting;
-                ready = record { lasting = good.ready.lasting; later = λ id less. good.ready.later id (let last = grown.extends.last in omega (arith, less, last)) };
-                seated = lie.seated;
-                holds = good.holds;
-                typed = good.typed;
-              }
+              there = good_aside m input sections f p around b before s state good grown same lie.inside
 
           by : (low : Lowered (Unit {0})) → looped last test step body b ≡ low → DoesHere m input sections f p around units state false exits (looped_means last y z x s units) low
           by Lacks e = tt

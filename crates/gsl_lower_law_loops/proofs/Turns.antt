@@ -40,11 +40,11 @@ use Rattle.gsl_lower_follows.proofs.Jumping.{begun_at, jumps}
 use Rattle.gsl_lower_follows.proofs.Placing.{coming_before, inside_between}
 use Rattle.gsl_lower_follows.proofs.Stretches.{lasts_at_once, lent_through, loan_unused, stretch_none}
 use Rattle.gsl_lower_law_expr.proofs.Operands.{given_value}
-use Rattle.gsl_lower_law_stmt.specs.Doing.{AtLabel, AtReturn, IsDone}
+use Rattle.gsl_lower_law_stmt.specs.Doing.{IsDone}
 use Rattle.gsl_lower_law_stmt.proofs.Exits.{within_good}
 use Rattle.gsl_lower_law_stmt.proofs.Ways.{block_at, extends_sealed, grown_block, sealed}
 use Rattle.gsl_lower_law_loops.specs.Looping.{testing}
-use Rattle.gsl_lower_law_loops.proofs.Heads.{at_first, at_head, first_less, from_head, grown_first, grown_head, inside_before_head, inside_head}
+use Rattle.gsl_lower_law_loops.proofs.Heads.{at_first, at_head, from_head, grown_first, grown_head, inside_before_head, inside_head}
 use Rattle.gsl_lower_law_loops.proofs.Units.{coming_less, good_at, good_on, jumps_back, unit_taken}
 
 -- what is given for a part of a run, and what stands behind it

@@ -27,7 +27,6 @@ use Rattle.gsl_lower_follows.specs.Stretching.{Stretch, room, room_of, worth}
 use Rattle.gsl_lower_follows.proofs.Jumping.{begun_at, label_found}
 use Rattle.gsl_lower_follows.proofs.Placing.{coming_before, coming_is, placed_length}
 use Rattle.gsl_lower_law_stmt.specs.Doing.{AtLabel, StandsBehind, Within}
-use Rattle.gsl_lower_law_stmt.proofs.Rows.{stands_before}
 use Rattle.gsl_lower_law_stmt.proofs.Ways.{block_at}
 
 -- what stands behind a label that was found
