@@ -23,7 +23,7 @@ use Rattle.gsl_lower_stmt.specs.Parts.{LowerArm, falling, in_switch, next_or, se
 use Rattle.gsl_lower_stmt.specs.declared.exits.Exits.{Exits}
 use Rattle.gsl_lower_follows.specs.Following.{Follows}
 use Rattle.gsl_lower_follows.specs.Frames.{Frame, Good, Inside, Seated}
-use Rattle.gsl_lower_follows.specs.Giving.{Adds, Grown, none_waits}
+use Rattle.gsl_lower_follows.specs.Giving.{Adds, Grown, GrownTo, none_waits}
 use Rattle.gsl_lower_follows.proofs.Beginning.{seated_grown}
 use Rattle.gsl_lower_follows.proofs.Behind.{follows_behind, follows_then, reaches_here}
 use Rattle.gsl_lower_follows.proofs.Fetching.{adds_opening}
@@ -61,12 +61,8 @@ module _ (m : Module) (input : Input) (sections : Sections) (f : Frame m input s
   adds_falling end exits (arm ∷ arms) (means ∷ more) are (label ∷ labels) =
       adds_then (opening label) (λ a. arm.run (in_switch end exits) >>= (λ b. seal arm.leaves (next_or end labels) >>= (λ c. falling end labels arms exits))) (adds_opening label)
       (λ a. adds_then (arm.run (in_switch end exits)) (λ b. seal arm.leaves (next_or end labels) >>= (λ c. falling end labels arms exits)) (are.0.does.adds (in_switch end exits))
-      (λ b. adds_then (seal arm.leaves (next_or end labels)) (λ c. falling end labels arms exits) (λ b. subst (λ low. Seals b low) (sym (seal_is arm.leaves (next_or end labels) b)) (grown_left arm.leaves (next_or end labels) b))
+      (λ b. adds_then (seal arm.leaves (next_or end labels)) (λ c. falling end labels arms exits) (λ b. subst (GrownTo b) (sym (seal_is arm.leaves (next_or end labels) b)) (grown_left arm.leaves (next_or end labels) b))
       (λ c. adds_falling end exits arms more are.1 labels)))
-    where
-      abbrev Seals : Flow → Lowered (Unit {0}) → Type 0
-      Seals b (Gives a later) = Grown b later
-      Seals b Lacks = Unit {0}
 
   module _ (end : ℕ) (exits : Exits) (last : Flow) where
     -- the flow behind the `switch`

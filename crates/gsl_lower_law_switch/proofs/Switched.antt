@@ -106,12 +106,13 @@ named labels end = record { arms = labels; end = end }
 abbrev labelled : List (List ℕ) → List Bool → ℕ → List ℕ → Emit Labels
 labelled words defaults x labels = fresh >>= (λ end. putting_here op.SELECTION_MERGE (end ∷ 0 ∷ []) >>= (λ a. putting_here op.SWITCH (x ∷ default_of defaults labels end ∷ targets words labels) >>= (λ b. given (named labels end))))
 
-module _ (arms : List LowerArm) (exits : Exits) (x : ℕ) where
-  abbrev choosing : Labels → Emit (Unit {0})
-  choosing l = falling l.end l.arms arms exits >>= (λ done. opening l.end)
+-- the arms, and what is behind them
+abbrev choosing : List LowerArm → Exits → Labels → Emit (Unit {0})
+choosing arms exits l = falling l.end l.arms arms exits >>= (λ done. opening l.end)
 
+module _ (arms : List LowerArm) (exits : Exits) (x : ℕ) where
   abbrev rest : Emit (Unit {0})
-  rest = begin_switch (words_of arms) (defaults_of arms) x >>= choosing
+  rest = begin_switch (words_of arms) (defaults_of arms) x >>= choosing arms exits
 
   switch_opens : (b later : Flow) → rest b ≡ Gives tt later → Opened arms exits x b later
   unfolding begin_switch opening
@@ -123,10 +124,10 @@ module _ (arms : List LowerArm) (exits : Exits) (x : ℕ) where
           let o = opens (falling end labels arms exits (switching (words_of arms) (defaults_of arms) x labels end before)) (λ done. opening end) tt later e in
           record { labels = labels; end = end; before = before; last = o.1; grown = grown; same = same; long = long; falls = o.2; is = ap (flow_in o.1) o.3 }
 
-      by : (low : Lowered (List ℕ)) → IdsFor (words_of arms) b low → behind (behind low (labelled (words_of arms) (defaults_of arms) x)) choosing ≡ Gives tt later → Opened arms exits x b later
+      by : (low : Lowered (List ℕ)) → IdsFor (words_of arms) b low → behind (behind low (labelled (words_of arms) (defaults_of arms) x)) (choosing arms exits) ≡ Gives tt later → Opened arms exits x b later
       by Lacks known e = absurd cc
       by (Gives labels between) known e =
-          fresh_then (λ low. behind low choosing ≡ Gives tt later → Opened arms exits x b later) between
+          fresh_then (λ (low : Lowered Labels). behind low (choosing arms exits) ≡ Gives tt later → Opened arms exits x b later) between
           (λ end. putting_here op.SELECTION_MERGE (end ∷ 0 ∷ []) >>= (λ a. putting_here op.SWITCH (x ∷ default_of (defaults_of arms) labels end ∷ targets (words_of arms) labels) >>= (λ b. given (named labels end))))
           (λ e. absurd cc) (λ e. opened labels (take between.sections).id (taken between) (grown_then known.0 (grown_taken between)) known.1 known.2 e) e
 
@@ -151,7 +152,7 @@ module _ (m : Module) (input : Input) (sections : Sections) (f : Frame m input s
 
   adds_rest : (exits : Exits) (x : ℕ) → Adds (rest arms exits x)
   adds_rest exits x =
-      adds_then (begin_switch (words_of arms) (defaults_of arms) x) (choosing arms exits x) (adds_begin (words_of arms) (defaults_of arms) x)
+      adds_then (begin_switch (words_of arms) (defaults_of arms) x) (choosing arms exits) (adds_begin (words_of arms) (defaults_of arms) x)
       (λ l. adds_then (falling l.end l.arms arms exits) (λ done. opening l.end) (adds_falling m input sections f p around l.end exits arms means are l.arms) (λ done. adds_opening l.end))
 
   -- ---- the arm that is chosen
