@@ -1,5 +1,5 @@
 -- Arms of a `switch`, each of which falls through to the next.
-use Rattle.std.proofs.Common.{◌≡◌, refl, sym, ap, ◌∙◌, subst, ℕ, suc, ◌≤◌, Bool, true, false, if◌then◌else◌, List, [], ◌∷◌, ◌++◌, length, append_assoc, arith}
+use Rattle.std.proofs.Common.{◌≡◌, refl, sym, ap, ◌∙◌, subst, ℕ, Bool, true, false, if◌then◌else◌, List, [], ◌∷◌, length, append_assoc, arith}
 use Rattle.gsl_base.specs.declared.input.Input.{Input}
 use Rattle.gsl_instr.specs.Forms.{form_of}
 use Rattle.gsl_instr.specs.declared.op.TheConstants as op
@@ -18,7 +18,7 @@ use Rattle.gsl_spv.specs.Growing.{Extends}
 use Rattle.gsl_spv.specs.Sections.{Sections}
 use Rattle.gsl_spv.proofs.Extending.{extends_same, extends_then}
 use Rattle.gsl_lower_law.proofs.Adding.{extends_put}
-use Rattle.gsl_lower_holders.specs.Flow.{Emit, Flow, Gives, Lacks, Lowered, behind, flow_of, given, opening, ◌>>=◌}
+use Rattle.gsl_lower_holders.specs.Flow.{Flow, Gives, behind, flow_of, opening, ◌>>=◌}
 use Rattle.gsl_lower_stmt.specs.Parts.{LowerArm, falling, in_switch, next_or, seal}
 use Rattle.gsl_lower_stmt.specs.declared.exits.Exits.{Exits}
 use Rattle.gsl_lower_follows.specs.Following.{Follows}

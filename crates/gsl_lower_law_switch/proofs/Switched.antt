@@ -1,5 +1,5 @@
 -- `switch`.
-use Rattle.std.proofs.Common.{◌≡◌, ◌≢◌, refl, sym, ap, ◌∙◌, subst, ℕ, suc, ◌≤◌, Bool, true, false, if◌then◌else◌, ◌==◌, List, [], ◌∷◌, ◌++◌, map, length, append_assoc, arith}
+use Rattle.std.proofs.Common.{◌≡◌, ◌≢◌, refl, sym, ap, ◌∙◌, subst, ℕ, suc, Bool, true, false, if◌then◌else◌, ◌==◌, List, [], ◌∷◌, map, length, append_assoc, arith}
 use Rattle.std.specs.List.{list_any}
 use Rattle.std.proofs.lemmas.List.{length-map}
 use Rattle.gsl_base.specs.declared.input.Input.{Input}
@@ -51,7 +51,7 @@ use Rattle.gsl_lower_law_loops.proofs.Opening.{flow_in, good_aside, grown_by, gr
 use Rattle.gsl_lower_law_loops.proofs.Units.{good_at, good_on}
 use Rattle.gsl_lower_law_switch.specs.Choosing.{AreArms, switched_means}
 use Rattle.gsl_lower_law_switch.proofs.Arms.{Land, Lands, adds_falling, arms_land, behind_all}
-use Rattle.gsl_lower_law_switch.proofs.Labels.{any_is, default_is, has, label_by, label_found, label_is, label_missed}
+use Rattle.gsl_lower_law_switch.proofs.Labels.{any_is, default_is, has, label_found, label_is, label_missed}
 
 -- ---- labels
 
@@ -173,20 +173,20 @@ module _ (m : Module) (input : Input) (sections : Sections) (f : Frame m input s
             (sym (label_is word (default_of (defaults_of arms) labels end) labels arms ∙ label_missed (has word) (default_of (defaults_of arms) labels end) labels arms (any_is m input sections f p around word arms means are ∙ is) ∙ default_is end labels arms))
             (land.finds (λ arm. arm.is_default) (λ one. one.is_default) (λ arm one same. same.is_default))
 
-    abbrev later : Flow
-    later = behind_all m input sections f p around end exits last
+    abbrev behind_it : Flow
+    behind_it = behind_all m input sections f p around end exits last
 
     abbrev In : statement.Flow → shader.State → State → Type 0
-    In = IsDone m input sections f p around false (in_switch end exits) tt later
+    In = IsDone m input sections f p around false (in_switch end exits) tt behind_it
 
     abbrev Out : statement.Flow → shader.State → State → Type 0
-    Out = IsDone m input sections f p around false exits tt later
+    Out = IsDone m input sections f p around false exits tt behind_it
 
     abbrev Waits : shader.State → State → Type 0
-    Waits = none_waits {A = Unit {0}} tt later
+    Waits = none_waits {A = Unit {0}} tt behind_it
 
     -- behind the arms, however they were left
-    leaves_arms : (run : Run statement.Flow) (s : shader.State) (units : ℕ) (state : State) → Inside m input sections f last.sections → Seated m input sections f later.place
+    leaves_arms : (run : Run statement.Flow) (s : shader.State) (units : ℕ) (state : State) → Inside m input sections f last.sections → Seated m input sections f behind_it.place
         → Follows m input p 0 units state In Waits (run s units) → Follows m input p 0 units state Out Waits (shader_run.behind (run s units) behind_switch)
     leaves_arms run s units state inside seated does =
         follows_then m input p 0 units state In Waits Out Waits (run s units) behind_switch does
@@ -214,11 +214,11 @@ module _ (m : Module) (input : Input) (sections : Sections) (f : Frame m input s
       grown_last : Grown start last
       grown_last = grown_by (falling end labels arms exits) start tt last (adds_falling m input sections f p around end exits arms means are labels) falls
 
-      from_start : Extends start.sections later.sections
+      from_start : Extends start.sections behind_it.sections
       from_start = extends_then grown_last.extends (extends_put op.LABEL (end ∷ []) last.sections)
 
-      within : (c : Sections) → Extends before.sections c → Extends c later.sections → Inside m input sections f c
-      within c one two = inside_between m input sections f before.sections c later.sections inside whole one two
+      within : (c : Sections) → Extends before.sections c → Extends c behind_it.sections → Inside m input sections f c
+      within c one two = inside_between m input sections f before.sections c behind_it.sections inside whole one two
 
       inside_start : Inside m input sections f start.sections
       inside_start = within start.sections (grown_switching (words_of arms) (defaults_of arms) x labels end before).extends from_start
@@ -229,7 +229,7 @@ module _ (m : Module) (input : Input) (sections : Sections) (f : Frame m input s
       inside_last : Inside m input sections f last.sections
       inside_last = within last.sections (extends_then (grown_switching (words_of arms) (defaults_of arms) x labels end before).extends grown_last.extends) (extends_put op.LABEL (end ∷ []) last.sections)
 
-      grown_later : Grown before later
+      grown_later : Grown before behind_it
       grown_later = grown_then (grown_switching (words_of arms) (defaults_of arms) x labels end before) (grown_then grown_last (grown_block end last.sections last (extends_same last.sections)))
 
       land : Land m input sections f p around end exits last whole lead labels arms means start.sections
@@ -266,7 +266,7 @@ module _ (m : Module) (input : Input) (sections : Sections) (f : Frame m input s
               let entered = begun_at m input sections f state (put op.LABEL (label ∷ []) l.from.sections) in
               follows_behind m input p 0 0 units units state entered Out Waits (shader_run.behind (statement.falling (arms_for (word_in v) means) s units) behind_switch)
               (leads_to s units state v good stands label refl l.from.sections l.extends l.inside l.inside_label) (omega arith)
-              (leaves_arms (statement.falling (arms_for (word_in v) means)) s units entered inside_last (seated_grown m input sections f before later grown_later seated)
+              (leaves_arms (statement.falling (arms_for (word_in v) means)) s units entered inside_last (seated_grown m input sections f before behind_it grown_later seated)
               (l.does s units entered (good_on m input sections f p around (block_at label l.from.sections l.from) s state l.seated l.inside_label (within_good m input sections f p around before s state good))))
 
   -- ---- the whole `switch`

@@ -1,5 +1,5 @@
 -- What a `switch` does, over what its value and its arms do (GLSL 4.50, 6.2).
-use Rattle.std.specs.Prelude.{◌≡◌, ℕ, List, [], ◌∷◌}
+use Rattle.std.specs.Prelude.{◌≡◌, List, [], ◌∷◌}
 use Rattle.gsl_base.specs.declared.input.Input.{Input}
 use Rattle.gsl_words.specs.declared.module.Module.{Module}
 use Rattle.gsl_values.specs.declared.value.Value.{Value}
