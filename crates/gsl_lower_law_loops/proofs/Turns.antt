@@ -287,10 +287,10 @@ module _ (leaves : Bool) (head first next end : ℕ) (before entered turned step
             enters_body t units mid c = (
               begun_at m input sections f mid (put op.LABEL (inner ∷ []) choice),
               unit_taken m input units mid (begun_at m input sections f mid (put op.LABEL (inner ∷ []) choice))
-              (let less = coming_less m input sections f valued.sections choice inner inside_valued inside_choice inside_block extends_choice in let long : length mid.rest ≡ length (coming m input sections f valued.sections) = ap length c.1.rest in omega (arith, less, long))
-              (chooses m input sections f valued.sections inner i inner end c.0 inner choice mid units (ap (λ z. if z then end else inner) c.3) c.2 inside_valued inside_block (extends_same choice) c.1.rest c.1.within c.1.own),
+                  (let less = coming_less m input sections f valued.sections choice inner inside_valued inside_choice inside_block extends_choice in let long : length mid.rest ≡ length (coming m input sections f valued.sections) = ap length c.1.rest in omega (arith, less, long))
+                  (chooses m input sections f valued.sections inner i inner end c.0 inner choice mid units (ap (λ z. if z then end else inner) c.3) c.2 inside_valued inside_block (extends_same choice) c.1.rest c.1.within c.1.own),
               subst (λ (e : Flow). Good m input sections f p around e t (begun_at m input sections f mid (put op.LABEL (inner ∷ []) choice))) (sym entered_is)
-              (good_on m input sections f p around (block_at inner choice valued) t mid seated_block inside_block (within_good m input sections f p around valued t mid c.1)),
+                  (good_on m input sections f p around (block_at inner choice valued) t mid seated_block inside_block (within_good m input sections f p around valued t mid c.1)),
             )
 
             pub test_before : (go : Run statement.Flow) (u : shader.State) (units : ℕ) (state : State)
@@ -332,8 +332,8 @@ module _ (leaves : Bool) (head first next end : ℕ) (before entered turned step
             (body_does : (u : shader.State) (units : ℕ) (state : State) → Good m input sections f p around entered u state → Follows m input p 0 units state (IsDone m input sections f p around leaves leading tt turned) (none_waits {A = Unit {0}} tt turned) (x u units))
             (step_does : (u : shader.State) (units : ℕ) (state : State) → Good m input sections f p around at_step u state → Follows m input p 0 units state (λ flow t last. Good m input sections f p around stepped t last) (none_waits {A = Unit {0}} tt stepped) (step u units))
             (test_does : (go : Run statement.Flow) (u : shader.State) (units : ℕ) (state : State) → Good m input sections f p around stepped u state
-                → ((t : shader.State) (left : ℕ) (mid : State) → left ≤ units → Before t mid → Follows m input p 0 left mid Is Waits (go t left))
-                → Follows m input p (worth m) units state Is Waits (shader_run.behind (test u units) (again_if go))) where
+            → ((t : shader.State) (left : ℕ) (mid : State) → left ≤ units → Before t mid → Follows m input p 0 left mid Is Waits (go t left))
+            → Follows m input p (worth m) units state Is Waits (shader_run.behind (test u units) (again_if go))) where
           -- From where a turn begins, as many turns as units are enough.
           pub turns_do : (most : ℕ) (s : shader.State) (units : ℕ) (state : State) → units < most → Before s state → Follows m input p 0 units state Is Waits (turns most test step x s units)
           turns_do zero s units state few before = absurd (omega (arith, few))
