@@ -11,7 +11,7 @@ use Rattle.gsl_tree.specs.declared.stmt.Arm.{Arm, out-Arm}
 use Rattle.gsl_tree.specs.declared.stmt.Stmt.{Stmt, out-Stmt}
 use Rattle.gsl_tree.specs.declared.stmt.Stmt.TheFolds.{fold-roll-Arm, fold-roll-Stmt, map-Stmt}
 use Rattle.gsl_tree.specs.declared.stmt.Stmt.TheOpen.{Stmt-F}
-use Rattle.gsl_tree.specs.declared.stmt.Stmt.TheViews.{roll-Stmt, roll-out-Arm, roll-out-Stmt}
+use Rattle.gsl_tree.specs.declared.stmt.Stmt.TheViews.{roll-out-Arm, roll-out-Stmt}
 use Rattle.gsl_meaning.specs.Expressions as meaning
 use Rattle.gsl_meaning.specs.Expressions.{evaluating}
 use Rattle.gsl_meaning.specs.Running.{Run}
