@@ -42,7 +42,7 @@ pub adds_putting : (code : ℕ) (operands : List ℕ) → Adds (putting_here cod
 adds_putting code operands b = record { extends = extends_put code operands b.sections; used = omega arith; place = refl }
 
 module _ (m : Module) (input : Input) (sections : Sections) (f : Frame m input sections) (p : Program) (around : Around) where
-  within_good : (b : Flow) (s : shader.State) (state : State) → Good m input sections f p around b s state → Within m input sections f p around s state
+  pub within_good : (b : Flow) (s : shader.State) (state : State) → Good m input sections f p around b s state → Within m input sections f p around s state
   within_good b s state good = record { within = good.within; own = good.own; waiting = good.waiting; holds = good.holds; typed = good.typed }
 
   -- ---- an expression whose value is not used

@@ -28,7 +28,7 @@ use Rattle.gsl_lower_law_stmt.specs.Doing.{DoesHere, DoesStatement, EachDoes, Fo
 
 module _ (m : Module) (input : Input) (sections : Sections) (f : Frame m input sections) where
   -- what stands behind what a builder holds, stands behind what it held before
-  stands_before : (b later : Sections) (label : ℕ) → Inside m input sections f b → Inside m input sections f later → Extends b later → StandsBehind m input sections f later label → StandsBehind m input sections f b label
+  pub stands_before : (b later : Sections) (label : ℕ) → Inside m input sections f b → Inside m input sections f later → Extends b later → StandsBehind m input sections f later label → StandsBehind m input sections f b label
   stands_before b later label here there grown stands =
       let at = coming_before m input sections f b later grown.functions.more here there grown.functions.is in
       let long : length (coming m input sections f b) ≡ length (placed_from at.0 grown.functions.more) + length (coming m input sections f later) = ap length at.1 ∙ length-append (placed_from at.0 grown.functions.more) (coming m input sections f later) in

@@ -43,19 +43,19 @@ use Rattle.gsl_lower_law_stmt.proofs.Rows.{lead_before}
 -- ---- blocks
 
 -- a block is left for another, unless it was left
-abbrev sealed : Bool → ℕ → Sections → Sections
+abbrev pub sealed : Bool → ℕ → Sections → Sections
 sealed true label b = b
 sealed false label b = put op.BRANCH (label ∷ []) b
 
 -- and the next one begins
-abbrev block_at : ℕ → Sections → Flow → Flow
+abbrev pub block_at : ℕ → Sections → Flow → Flow
 block_at next sections b = record { sections = put op.LABEL (next ∷ []) sections; place = record b.place { label = next } }
 
-extends_sealed : (left : Bool) (label : ℕ) (b : Sections) → Extends b (sealed left label b)
+pub extends_sealed : (left : Bool) (label : ℕ) (b : Sections) → Extends b (sealed left label b)
 extends_sealed true label b = extends_same b
 extends_sealed false label b = extends_put op.BRANCH (label ∷ []) b
 
-grown_block : (next : ℕ) (sections : Sections) (b : Flow) → Extends b.sections sections → Grown b (block_at next sections b)
+pub grown_block : (next : ℕ) (sections : Sections) (b : Flow) → Extends b.sections sections → Grown b (block_at next sections b)
 grown_block next sections b extends = record { extends = extends_then extends (extends_put op.LABEL (next ∷ []) sections); used = omega arith; place = refl }
 
 else_is : (n e : ℕ) (left : Bool) (b : Flow) → begin_else (record { other = n; end = e }) left b ≡ Gives tt (block_at n (sealed left e b.sections) b)
@@ -72,18 +72,18 @@ end_is n e false b = refl
 abbrev chosen_at : ℕ → ℕ → ℕ → ℕ → Sections → Sections
 chosen_at x first other end b = put op.BRANCH_CONDITIONAL (x ∷ first ∷ other ∷ []) (put op.SELECTION_MERGE (end ∷ 0 ∷ []) b)
 
-abbrev taken : Flow → Flow
+abbrev pub taken : Flow → Flow
 taken b = flow_of (take b.sections).sections b.place
 
 -- an id is taken, or there is none
-fresh_then : {A : Type 0} (Is : Lowered A → Type 0) (b : Flow) (next : ℕ → Emit A) → Is Lacks → Is (next (take b.sections).id (taken b)) → Is (behind (fresh b) next)
+pub fresh_then : {A : Type 0} (Is : Lowered A → Type 0) (b : Flow) (next : ℕ → Emit A) → Is Lacks → Is (next (take b.sections).id (taken b)) → Is (behind (fresh b) next)
 fresh_then {A} Is b next lacks made = by (nat_le (take b.sections).sections.last MOST_IDS) refl
   where
     by : (fits : Bool) → nat_le (take b.sections).sections.last MOST_IDS ≡ fits → Is (behind (fresh b) next)
     by true e = subst (λ t. Is (behind (built_in b.place (if t then Made (take b.sections).id (take b.sections).sections else Full)) next)) (sym e) made
     by false e = subst (λ t. Is (behind (built_in b.place (if t then Made (take b.sections).id (take b.sections).sections else Full)) next)) (sym e) lacks
 
-ran_same : (r : Ran statement.Flow) → shader_run.behind r shader_given ≡ r
+pub ran_same : (r : Ran statement.Flow) → shader_run.behind r shader_given ≡ r
 ran_same (Got v s left) = refl
 ran_same (shader_run.Ends s) = refl
 ran_same shader_run.Strays = refl
