@@ -1,0 +1,2 @@
+pub mod Have
+pub mod Typed
