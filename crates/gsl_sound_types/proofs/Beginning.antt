@@ -35,7 +35,7 @@ use Rattle.gsl_sound_code.specs.Rules.{KeepAll}
 use Rattle.gsl_sound_code.proofs.Looks.{Kept}
 use Rattle.gsl_sound_values.specs.Shaped.{is_shaped}
 use Rattle.gsl_sound_values.proofs.Counted.{HasLanes, Size, lanes_there, of_counted}
-use Rattle.gsl_sound_types.specs.Have.{HaveTypes}
+use Rattle.gsl_memory_law.specs.Typed.{HaveTypes}
 use Rattle.gsl_sound_types.specs.Typed.{types_of}
 use Rattle.gsl_sound_types.proofs.Entering.{IsGlobal, value_globals}
 use Rattle.gsl_sound_types.proofs.Memories.{initial_shaped}

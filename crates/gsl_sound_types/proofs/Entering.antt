@@ -28,11 +28,11 @@ use Rattle.gsl_sound_code.proofs.Walks.{AreTaken, enter, walk}
 use Rattle.gsl_sound_ids.proofs.Globals.{block_held, value_held}
 use Rattle.gsl_sound_ids.proofs.Variables.{stays_out, variable_result}
 use Rattle.gsl_sound_values.proofs.Constants.{constant_shaped}
-use Rattle.gsl_sound_types.specs.Have.{HaveTypes}
+use Rattle.gsl_memory_law.specs.Typed.{HaveTypes}
 use Rattle.gsl_sound_types.specs.Typed.{Frame, FrameEach, HoldTypes, IsOfType, Lasts, Typed, types_below, types_in, types_of}
-use Rattle.gsl_sound_types.proofs.Have.{more_typed}
+use Rattle.gsl_memory_law.proofs.Typed.{more_typed}
 use Rattle.gsl_sound_types.proofs.Holding.{hold_give, hold_more, length_same, of_more, pointer_of_type, value_of_type}
-use Rattle.gsl_sound_types.proofs.Memories.{IsLocal, initial_shaped, local_one}
+use Rattle.gsl_sound_types.proofs.Memories.{IsLocal, initial_shaped, local_one, variable_kind}
 
 -- ---- lists
 
@@ -120,10 +120,6 @@ record IsPlace (m : Module) (block : Bool) (v : Variable) : Type 0 where
   target : Target
   points : target_of (defined_as m v.type) ≡ Some target
   class : is_block_class target.class ≡ block
-
-variable_kind : (k : Kind) (v : Variable) → variable_in k ≡ Some v → k ≡ Holds v
-variable_kind (Holds w) v is = ap Holds (let same : Some w ≡ Some v = is in cc)
-variable_kind _ v is = absurd (cc)
 
 module _ (m : Module) (kept : Kept m) (types : List ℕ) where
   global_place : (block : Bool) (v : Variable) → IsGlobal m v → is_block_class v.class ≡ block → IsPlace m block v

@@ -14,7 +14,7 @@ use Rattle.gsl_machine.specs.State.{Held, Ids, InBlock, InVariable, Pointer, Poi
 use Rattle.gsl_sound_code.proofs.Looks.{Kept}
 use Rattle.gsl_sound_values.specs.Shaped.{is_shaped, shaped_as}
 use Rattle.gsl_sound_values.proofs.Unfolded.{shape_unfolds}
-use Rattle.gsl_sound_types.specs.Have.{HaveTypes}
+use Rattle.gsl_memory_law.specs.Typed.{HaveTypes}
 use Rattle.gsl_sound_types.specs.Typed.{HoldTypes, IsAs, IsOfType, LeadsTo, PointsTo}
 
 -- ---- more variables

@@ -1,4 +1,3 @@
-pub mod Have
 pub mod Holding
 pub mod Parts
 pub mod Moving

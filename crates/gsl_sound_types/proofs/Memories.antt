@@ -62,7 +62,7 @@ pub record IsLocal (m : Module) (v : Variable) : Type 0 where
   pub class : (target.class == storage_class.FUNCTION) ≡ true
   pub begins : initialises m target.pointee v.initialiser ≡ true
 
-variable_kind : (k : Kind) (v : Variable) → variable_in k ≡ Some v → k ≡ Holds v
+pub variable_kind : (k : Kind) (v : Variable) → variable_in k ≡ Some v → k ≡ Holds v
 variable_kind (Holds w) v is = ap Holds (let same : Some w ≡ Some v = is in cc)
 variable_kind _ v is = absurd (cc)
 

@@ -21,9 +21,9 @@ use Rattle.gsl_sound_code.proofs.Looks.{Kept}
 use Rattle.gsl_sound_values.specs.Shaped.{is_shaped}
 use Rattle.gsl_sound_values.proofs.Counted.{HasLanes}
 use Rattle.gsl_sound_values.proofs.Parts.{read_shaped, within_shaped}
-use Rattle.gsl_sound_types.specs.Have.{HaveTypes}
+use Rattle.gsl_memory_law.specs.Typed.{HaveTypes}
 use Rattle.gsl_sound_types.specs.Typed.{HoldTypes, IsOfType, LeadsTo, PointsTo, Typed, types_in}
-use Rattle.gsl_sound_types.proofs.Have.{set_typed, type_on, typed_at}
+use Rattle.gsl_memory_law.proofs.Typed.{set_typed, type_on, typed_at}
 use Rattle.gsl_sound_types.proofs.Holding.{of_pointer, of_value}
 use Rattle.gsl_sound_types.proofs.Parts.{constant_word, part_named}
 

@@ -32,9 +32,9 @@ use Rattle.gsl_sound_code.proofs.Looks.{Kept}
 use Rattle.gsl_sound_code.proofs.Walks.{Step, step_of}
 use Rattle.gsl_sound_ids.proofs.Plain.{has_type_is}
 use Rattle.gsl_sound_values.specs.Shaped.{is_shaped}
-use Rattle.gsl_sound_types.specs.Have.{HaveTypes}
+use Rattle.gsl_memory_law.specs.Typed.{HaveTypes}
 use Rattle.gsl_sound_types.specs.Typed.{Frame, FrameEach, HoldTypes, IsOfType, Typed, types_below, types_in, types_of}
-use Rattle.gsl_sound_types.proofs.Have.{front_typed}
+use Rattle.gsl_memory_law.proofs.Typed.{front_typed}
 use Rattle.gsl_sound_types.proofs.Holding.{front_is, hold_give, length_same, value_of_type}
 use Rattle.gsl_sound_types.proofs.Entering.{AreOfTypes, typed_entered}
 use Rattle.gsl_sound_types.proofs.Memories.{chains, declares, lengths, loads, stores_value}

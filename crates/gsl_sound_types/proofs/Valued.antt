@@ -50,6 +50,10 @@ same_second None b is = absurd (false≢true is)
 same_second (Some a) None is = absurd (false≢true is)
 same_second (Some a) (Some b) is = eq-eqb b.size b.size refl
 
+part_is : (type : ℕ) (o : Option ℕ) → is_part type o ≡ true → o ≡ Some type
+part_is type None is = absurd (false≢true is)
+part_is type (Some part) is = ap Some (eqb-true part type is)
+
 module _ (m : Module) (kept : Kept m) where
   -- a vector's type has its components
   vector_lanes : (component count : ℕ) → ((first : Bool) × (is_made m first (OfVector component count) ≡ true)) → (lanes : Lanes) × (lanes_in m (OfVector component count) ≡ Some lanes) × (lanes.size ≡ count)
@@ -278,10 +282,6 @@ module _ (m : Module) (kept : Kept m) (before : Code) (p : Placed) (code : Code)
       (λ first x rule shaped. with_any b (λ y. giving_value state id (shuffled x y places)) (λ y.
       let s = shuffled_sized m kept places type first (and_parts (is_type first (type_of (defined_as m b))) _ rule).1 in
       give_value d reads id type (shuffled x y places) refl refl (shuffled_shaped m kept type x y places s.0 s.1)))
-
-  part_is : (type : ℕ) (o : Option ℕ) → is_part type o ≡ true → o ≡ Some type
-  part_is type None is = absurd (false≢true is)
-  part_is type (Some part) is = ap Some (eqb-true part type is)
 
   pub takes_part : (type id composite : ℕ) (indexes : List ℕ) → read p.instr ≡ Some (instruction.CompositeExtract type id composite indexes) → TypedOut m (on_whole (state.ids composite) (λ v. giving_value state id (value_at v indexes)))
   takes_part type id composite indexes reads =

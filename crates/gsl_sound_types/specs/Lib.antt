@@ -1,2 +1,1 @@
-pub mod Have
 pub mod Typed

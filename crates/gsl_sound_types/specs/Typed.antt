@@ -12,7 +12,7 @@ use Rattle.gsl_machine.specs.Functions.{own_ids, variables_of}
 use Rattle.gsl_machine.specs.Interfaces.{globals, value_variables}
 use Rattle.gsl_machine.specs.State.{Held, Ids, InBlock, InVariable, Pointer, Points, State, Waiting, Whole}
 use Rattle.gsl_sound_values.specs.Shaped.{is_shaped}
-use Rattle.gsl_sound_types.specs.Have.{HaveTypes}
+use Rattle.gsl_memory_law.specs.Typed.{HaveTypes}
 
 -- ---- the types of variables
 
