@@ -6,7 +6,7 @@ use Rattle.gsl_words.specs.declared.module.Instr.{Instr}
 use Rattle.gsl_words.specs.declared.module.Module.{Module}
 use Rattle.gsl_valid.specs.Instruction.{read}
 use Rattle.gsl_valid.specs.Kinds.{kind}
-use Rattle.gsl_positions.specs.Positions.{behind, left, place_of}
+use Rattle.gsl_positions.specs.Positions.{behind, left}
 use Rattle.gsl_positions.proofs.Standing.{left_is, nothing_left}
 use Rattle.gsl_frames.specs.declared.taken.Taken.{Taken}
 use Rattle.gsl_frames.specs.Frames.{behind_told, next_at, taken_told}

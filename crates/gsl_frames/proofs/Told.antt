@@ -1,9 +1,9 @@
 -- Counts as they are told.
-use Rattle.std.proofs.Common.{◌≡◌, refl, sym, ap, ◌∙◌, ℕ, ◌+◌, List, [], ◌∷◌, arith}
+use Rattle.std.proofs.Common.{◌≡◌, refl, ap, ◌∙◌, ℕ, ◌+◌, List, [], ◌∷◌, arith}
 use Rattle.std.specs.Prelude.{max, min}
 use Rattle.gsl_words.specs.declared.module.Module.{Module}
 use Rattle.gsl_valid.specs.Instruction.{read}
-use Rattle.gsl_valid.specs.Kinds.{Kind, Holds, Begins, Takes, Calls, Gives, Opens, kind}
+use Rattle.gsl_valid.specs.Kinds.{Kind, Holds, Begins, Takes, Calls, Gives, kind}
 use Rattle.gsl_valid.specs.Placed.{Placed}
 use Rattle.gsl_leaves.specs.Table.{told}
 use Rattle.gsl_frames.specs.declared.taken.Taken.{Taken}

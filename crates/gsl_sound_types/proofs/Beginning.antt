@@ -1,9 +1,9 @@
 -- What the variables of a module hold as a run begins, on an input that fits.
-use Rattle.std.proofs.Common.{◌≡◌, refl, sym, ap, ◌∙◌, subst, ℕ, zero, suc, Bool, true, false, ◌&&◌, ◌||◌, not, is_some, if◌then◌else◌, nat_lt, List, [], ◌∷◌, length, map, take, unwrap_or, Option, Some, None, Ok, Err, arith, length-take}
+use Rattle.std.proofs.Common.{◌≡◌, refl, sym, ap, ◌∙◌, subst, ℕ, Bool, true, false, ◌&&◌, ◌||◌, not, is_some, if◌then◌else◌, nat_lt, List, [], ◌∷◌, length, map, take, unwrap_or, Option, Some, None, Ok, Err, arith, length-take}
 use Rattle.std.specs.List.{AllByRecursion, cons_option, filter_map}
 use Rattle.std.specs.Option.{option_map_or}
 use Rattle.std.specs.Prelude.{◌==◌}
-use Rattle.std.proofs.lemmas.Bool.{and_parts, cond-true, cond-false, eqb-true, false≢true, ltb-false, not-true, true≢false}
+use Rattle.std.proofs.lemmas.Bool.{and_parts, cond-true, eqb-true, false≢true, ltb-false, true≢false}
 use Rattle.gsl_base.specs.Ranges.{FitsTypes}
 use Rattle.gsl_base.specs.declared.input.Input.{Input}
 use Rattle.gsl_base.specs.declared.input.InputRefusal.TheVariants.{NoValue}
@@ -14,13 +14,12 @@ use Rattle.gsl_instr.specs.declared.enumerant.storage_class.TheConstants as stor
 use Rattle.gsl_inputs.specs.Demands.{Met, all_met, and_met, has_words}
 use Rattle.gsl_inputs.specs.Given.{global_id, global_part, local_index, vector_of, words_at}
 use Rattle.gsl_words.specs.declared.module.Module.{Module}
-use Rattle.gsl_values.specs.declared.value.Value.{Value}
 use Rattle.gsl_values.specs.declared.value.Value.TheVariants.{Word}
 use Rattle.gsl_tree.specs.Values.{of_components}
 use Rattle.gsl_valid.specs.ConstantRules.{is_whole}
 use Rattle.gsl_valid.specs.DecorationRules.{differ, is_decorated, pointee, pointee_of}
 use Rattle.gsl_valid.specs.Decorations.{has, literals_if, literals_on, number_in, number_on, same_place, stands_on}
-use Rattle.gsl_valid.specs.EntryRules.{are_words, are_words_of, entry_of, is_built_in, is_built_in_of, is_built_in_type, mark_kept, model_of}
+use Rattle.gsl_valid.specs.EntryRules.{are_words, are_words_of, entry_of, is_built_in, is_built_in_type, mark_kept, model_of}
 use Rattle.gsl_valid.specs.GlobalRules.{begins_with, holds}
 use Rattle.gsl_valid.specs.Instruction.{read}
 use Rattle.gsl_valid.specs.Kinds.{Kind, Decorates, Place, On, OnMember, Decoration, Variable, decoration_in, decoration_of, kind, variable_is}
@@ -34,7 +33,7 @@ use Rattle.gsl_machine.specs.Memory.{size_of}
 use Rattle.gsl_sound_code.specs.Rules.{KeepAll}
 use Rattle.gsl_sound_code.proofs.Looks.{Kept}
 use Rattle.gsl_sound_values.specs.Shaped.{is_shaped}
-use Rattle.gsl_sound_values.proofs.Counted.{HasLanes, Size, lanes_there, of_counted}
+use Rattle.gsl_sound_values.proofs.Counted.{lanes_there, of_counted}
 use Rattle.gsl_memory_law.specs.Typed.{HaveTypes}
 use Rattle.gsl_sound_types.specs.Typed.{types_of}
 use Rattle.gsl_sound_types.proofs.Entering.{IsGlobal, value_globals}

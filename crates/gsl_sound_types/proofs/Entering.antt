@@ -2,7 +2,7 @@
 use Rattle.std.proofs.Common.{◌≡◌, refl, sym, ap, ◌∙◌, subst, ℕ, zero, suc, ◌+◌, Bool, true, false, ◌&&◌, ◌||◌, is_some, if◌then◌else◌, List, [], ◌∷◌, ◌++◌, length, map, slice_get, Option, Some, None, arith}
 use Rattle.std.specs.List.{AllByRecursion, cons_option, filter_map}
 use Rattle.std.specs.Prelude.{◌==◌}
-use Rattle.std.proofs.lemmas.Bool.{and_parts, cond-false, eqb-true, false≢true}
+use Rattle.std.proofs.lemmas.Bool.{and_parts, eqb-true, false≢true}
 use Rattle.std.proofs.lemmas.Option.{none-some}
 use Rattle.gsl_instr.specs.declared.enumerant.storage_class.TheConstants as storage_class
 use Rattle.gsl_words.specs.declared.module.Instr.{Instr}
@@ -11,8 +11,7 @@ use Rattle.gsl_valid.specs.DecorationRules.{is_decorated, pointee, pointee_of, v
 use Rattle.gsl_valid.specs.FunctionRules.{outside}
 use Rattle.gsl_valid.specs.GlobalRules.{begins_with, holds, is_global, is_global_of}
 use Rattle.gsl_valid.specs.Instruction.{read}
-use Rattle.gsl_valid.specs.Kinds.{Kind, Fixes, Holds, Takes, Value as Fixed, Variable, constant_in, constant_is, kind, type_in, type_of, variable_in, variable_is}
-use Rattle.gsl_valid.specs.LocalityRules.{of_block}
+use Rattle.gsl_valid.specs.Kinds.{Kind, Fixes, Holds, Value as Fixed, Variable, constant_in, constant_is, kind, type_in, variable_is}
 use Rattle.gsl_valid.specs.Placed.{Code, Placed}
 use Rattle.gsl_valid.specs.Types.{Target, before_functions, defined_as, function_begins, initialises, is_block_class, outside_of, parameters_of, target_of}
 use Rattle.gsl_valid.specs.Where.{in_function_after, where_at}
@@ -29,7 +28,7 @@ use Rattle.gsl_sound_ids.proofs.Globals.{block_held, value_held}
 use Rattle.gsl_sound_ids.proofs.Variables.{stays_out, variable_result}
 use Rattle.gsl_sound_values.proofs.Constants.{constant_shaped}
 use Rattle.gsl_memory_law.specs.Typed.{HaveTypes}
-use Rattle.gsl_sound_types.specs.Typed.{Frame, FrameEach, HoldTypes, IsOfType, Lasts, Typed, types_below, types_in, types_of}
+use Rattle.gsl_sound_types.specs.Typed.{FrameEach, HoldTypes, IsOfType, Typed, types_below, types_of}
 use Rattle.gsl_memory_law.proofs.Typed.{more_typed}
 use Rattle.gsl_sound_types.proofs.Holding.{hold_give, hold_more, length_same, of_more, pointer_of_type, value_of_type}
 use Rattle.gsl_sound_types.proofs.Memories.{IsLocal, initial_shaped, local_one, variable_kind}

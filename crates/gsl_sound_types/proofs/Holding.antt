@@ -1,5 +1,5 @@
 -- What ids stand for, by their types: one id more, and more variables.
-use Rattle.std.proofs.Common.{◌≡◌, refl, sym, ap, ◌∙◌, subst, ℕ, zero, suc, ◌+◌, Bool, true, false, is_some, if◌then◌else◌, List, [], ◌∷◌, ◌++◌, length, map, take, slice_get, Option, Some, None, arith}
+use Rattle.std.proofs.Common.{◌≡◌, refl, sym, ap, ◌∙◌, subst, ℕ, zero, suc, ◌+◌, Bool, true, false, is_some, if◌then◌else◌, List, [], ◌∷◌, ◌++◌, length, take, slice_get, Option, Some, None}
 use Rattle.std.specs.Prelude.{◌==◌}
 use Rattle.std.proofs.lemmas.Bool.{eqb-true, false≢true, true≢false}
 use Rattle.std.proofs.lemmas.Option.{none-some}
@@ -7,15 +7,14 @@ use Rattle.gsl_instr.specs.declared.instruction.Instruction.{Instruction}
 use Rattle.gsl_words.specs.declared.module.Module.{Module}
 use Rattle.gsl_values.specs.declared.value.Value.{Value}
 use Rattle.gsl_valid.specs.Kinds.{Shape, OfPointer, constant_is, shape_of, type_of}
-use Rattle.gsl_valid.specs.Types.{Target, defined_as, is_block_class, target_in, target_of}
+use Rattle.gsl_valid.specs.Types.{Target, defined_as, target_in, target_of}
 use Rattle.gsl_machine.specs.Constants.{constant}
-use Rattle.gsl_machine.specs.Functions.{give_each, point_each}
 use Rattle.gsl_machine.specs.State.{Held, Ids, InBlock, InVariable, Pointer, Points, Whole, give}
 use Rattle.gsl_sound_code.proofs.Looks.{Kept}
 use Rattle.gsl_sound_values.specs.Shaped.{is_shaped, shaped_as}
 use Rattle.gsl_sound_values.proofs.Unfolded.{shape_unfolds}
 use Rattle.gsl_memory_law.specs.Typed.{HaveTypes}
-use Rattle.gsl_sound_types.specs.Typed.{HoldTypes, IsAs, IsOfType, LeadsTo, PointsTo}
+use Rattle.gsl_sound_types.specs.Typed.{HoldTypes, IsAs, IsOfType, PointsTo}
 
 -- ---- more variables
 

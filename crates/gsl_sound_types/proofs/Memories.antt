@@ -1,5 +1,5 @@
 -- Instructions on pointers, by types.
-use Rattle.std.proofs.Common.{◌≡◌, refl, sym, ap, ◌∙◌, subst, ℕ, Bool, true, false, ◌&&◌, ◌||◌, not, if◌then◌else◌, List, [], ◌∷◌, length, Option, Some, None}
+use Rattle.std.proofs.Common.{◌≡◌, refl, sym, ap, ◌∙◌, subst, ℕ, true, false, ◌&&◌, List, [], ◌∷◌, length, Option, Some, None}
 use Rattle.std.specs.Prelude.{◌==◌}
 use Rattle.std.proofs.lemmas.Bool.{and_parts, cond-true, eqb-true, or_left, false≢true, true≢false}
 use Rattle.gsl_base.specs.declared.input.Input.{Input}
@@ -8,17 +8,16 @@ use Rattle.gsl_instr.specs.declared.instruction.Instruction.{Instruction}
 use Rattle.gsl_instr.specs.declared.instruction.Instruction.TheVariants as instruction
 use Rattle.gsl_words.specs.declared.module.Instr.{Instr}
 use Rattle.gsl_words.specs.declared.module.Module.{Module}
-use Rattle.gsl_values.specs.declared.value.Value.{Value}
 use Rattle.gsl_values.specs.declared.value.Value.TheVariants.{Word}
 use Rattle.gsl_valid.specs.CallRules.{points, target}
-use Rattle.gsl_valid.specs.DecorationRules.{pointee, pointee_of}
+use Rattle.gsl_valid.specs.DecorationRules.{pointee}
 use Rattle.gsl_valid.specs.FunctionRules.{is_local_of, may_be_variable, may_stand_here, outside}
 use Rattle.gsl_valid.specs.Ids.{result}
 use Rattle.gsl_valid.specs.Instruction.{passes_if, read}
-use Rattle.gsl_valid.specs.Kinds.{Kind, Holds, Shape, OfInt, Value as Fixed, Variable, constant_is, constant_type, kind, shape_of, type_in, type_of, variable_in, variable_is}
+use Rattle.gsl_valid.specs.Kinds.{Kind, Holds, Shape, OfInt, Value as Fixed, Variable, constant_is, constant_type, kind, shape_of, type_of, variable_in, variable_is}
 use Rattle.gsl_valid.specs.MemoryRules.{grows, is_moved, is_part, leads_to, may_load, may_store, memory_of, part_at, stores}
 use Rattle.gsl_valid.specs.Placed.{Code, Placed}
-use Rattle.gsl_valid.specs.Types.{Target, constant_of, defined_as, has_type, initialises, int_of, is_block_class, is_int_of, is_int_shape, is_ints, is_type, is_words, lanes_of, target_of}
+use Rattle.gsl_valid.specs.Types.{Target, defined_as, has_type, initialises, int_of, is_block_class, is_int_of, is_int_shape, is_ints, is_type, is_words, target_of}
 use Rattle.gsl_valid.specs.Where.{Standing, Outside, Begun, AtHead, InBlock as InOne, AtMerge, Behind, where_at}
 use Rattle.gsl_machine.specs.Constants.{constant}
 use Rattle.gsl_machine.specs.Functions.{begins_as, initial}

@@ -1,7 +1,5 @@
 -- Where chains lead, what is loaded and what is stored, by types.
-use Rattle.std.proofs.Common.{◌≡◌, refl, sym, ap, ◌∙◌, subst, ℕ, ◌+◌, ◌*◌, Bool, true, false, is_some, if◌then◌else◌, nat_lt, List, [], ◌∷◌, ◌++◌, length, set, slice_get, slice_index, Option, Some, None}
-use Rattle.std.proofs.lemmas.Bool.{and_parts, false≢true}
-use Rattle.std.specs.Prelude.{◌==◌}
+use Rattle.std.proofs.Common.{◌≡◌, refl, sym, ap, ◌∙◌, subst, ℕ, ◌+◌, ◌*◌, Bool, true, false, is_some, if◌then◌else◌, nat_lt, List, [], ◌∷◌, ◌++◌, length, slice_index, Option, Some, None}
 use Rattle.gsl_base.specs.declared.input.Input.{Input}
 use Rattle.gsl_instr.specs.declared.enumerant.decoration.TheConstants as decoration
 use Rattle.gsl_words.specs.declared.module.Module.{Module}
@@ -22,7 +20,7 @@ use Rattle.gsl_sound_values.specs.Shaped.{is_shaped}
 use Rattle.gsl_sound_values.proofs.Counted.{HasLanes}
 use Rattle.gsl_sound_values.proofs.Parts.{read_shaped, within_shaped}
 use Rattle.gsl_memory_law.specs.Typed.{HaveTypes}
-use Rattle.gsl_sound_types.specs.Typed.{HoldTypes, IsOfType, LeadsTo, PointsTo, Typed, types_in}
+use Rattle.gsl_sound_types.specs.Typed.{HoldTypes, LeadsTo, PointsTo, Typed, types_in}
 use Rattle.gsl_memory_law.proofs.Typed.{set_typed, type_on, typed_at}
 use Rattle.gsl_sound_types.proofs.Holding.{of_pointer, of_value}
 use Rattle.gsl_sound_types.proofs.Parts.{constant_word, part_named}
@@ -141,11 +139,14 @@ module _ (m : Module) (kept : Kept m) (input : Input) (place : ℕ) (state : Sta
     where
       by_test : (v : Value) (b : Bool) → nat_lt index (length (parts_in (value_at v path))) ≡ b → LeadsTo m types number path pointee → is_shaped m pointee (value_at v path) ≡ true
           → TypedOut m (if b then go (InVariable number (path ++ index ∷ [])) else Strayed place)
-      by_test v true below lead shaped = fine (InVariable number (path ++ index ∷ [])) (points.0, record {
-        type = lead.type;
-        is = lead.is;
-        leads = type_on m path lead.type pointee index lead.leads ∙ part_named m kept pointee index next indexed value (value_at v path) is agree shaped below;
-      })
+      by_test v true below lead shaped = fine (InVariable number (path ++ index ∷ [])) (
+        points.0,
+        record {
+          type = lead.type;
+          is = lead.is;
+          leads = type_on m path lead.type pointee index lead.leads ∙ part_named m kept pointee index next indexed value (value_at v path) is agree shaped below;
+        },
+      )
       by_test v false below lead shaped = tt
 
   pub typed_along : (hold : HoldTypes m types state.ids) (class pointee next : ℕ) (from : Pointer) (indexes : List ℕ) (go : Pointer → Outcome) → PointsTo m types (To class pointee) from → part_at m (Some pointee) indexes ≡ Some next

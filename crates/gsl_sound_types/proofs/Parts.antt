@@ -1,5 +1,5 @@
 -- The words of constants, and the parts that there are of a value.
-use Rattle.std.proofs.Common.{◌≡◌, refl, sym, ap, ◌∙◌, subst, ℕ, zero, suc, Bool, true, false, ◌||◌, if◌then◌else◌, nat_lt, List, [], ◌∷◌, map, replicate, length, slice_index, unwrap_or, Option, Some, None, arith}
+use Rattle.std.proofs.Common.{◌≡◌, refl, sym, ap, ◌∙◌, ℕ, zero, suc, Bool, true, false, ◌||◌, if◌then◌else◌, nat_lt, List, [], ◌∷◌, map, replicate, length, slice_index, unwrap_or, Option, Some, None, arith}
 use Rattle.std.proofs.lemmas.Bool.{and_parts, cond-true, ltb-true, or_left, false≢true}
 use Rattle.gsl_instr.specs.declared.instruction.Instruction.{Instruction}
 use Rattle.gsl_words.specs.declared.module.Module.{Module}

@@ -1,5 +1,5 @@
 -- An instruction of a valid module leads from a typed state to a typed one, ends the run or strays.
-use Rattle.std.proofs.Common.{◌≡◌, refl, sym, ap, ◌∙◌, subst, ℕ, zero, suc, Bool, true, false, ◌&&◌, not, is_some, if◌then◌else◌, List, [], ◌∷◌, ◌++◌, length, take, Option, Some, None, inl, inr, arith}
+use Rattle.std.proofs.Common.{◌≡◌, refl, sym, ap, ◌∙◌, subst, ℕ, zero, suc, Bool, true, false, not, is_some, if◌then◌else◌, List, [], ◌∷◌, ◌++◌, length, take, Option, Some, None}
 use Rattle.std.specs.Prelude.{◌==◌}
 use Rattle.std.proofs.lemmas.Bool.{and_parts, eqb-true, false≢true, true≢false}
 use Rattle.gsl_base.specs.declared.input.Input.{Input}
@@ -13,7 +13,7 @@ use Rattle.gsl_valid.specs.ConstantRules.{have_each}
 use Rattle.gsl_valid.specs.FunctionRules.{outside}
 use Rattle.gsl_valid.specs.Ids.{result}
 use Rattle.gsl_valid.specs.Instruction.{passes_if, read}
-use Rattle.gsl_valid.specs.Kinds.{Kind, Begins, constant_in, constant_is, kind, type_in, type_of}
+use Rattle.gsl_valid.specs.Kinds.{Kind, Begins, constant_in, kind, type_in, type_of}
 use Rattle.gsl_valid.specs.LocalityRules.{gives_value, of_block}
 use Rattle.gsl_valid.specs.Placed.{Code, Placed}
 use Rattle.gsl_valid.specs.ReturnRules as return
@@ -21,7 +21,7 @@ use Rattle.gsl_valid.specs.Types.{defined_as, has_type, is_void, parameters_of}
 use Rattle.gsl_valid.specs.Where.{where_at}
 use Rattle.gsl_machine.specs.Functions.{back_in, call_from, from_label, function_at, variables_of}
 use Rattle.gsl_machine.specs.Machine.{behind, run, step, step_on}
-use Rattle.gsl_machine.specs.State.{Ended, Going, Held, Outcome, Pointer, Points, State, Strayed, Stuck, Waiting, Whole, give, on, on_whole}
+use Rattle.gsl_machine.specs.State.{Ended, Going, Held, Outcome, State, Strayed, Stuck, Waiting, Whole, on, on_whole}
 use Rattle.gsl_machine.specs.Steps.{act, branching, calling, in_new_block, label_for, on_each, returning, with_value, without_value}
 use Rattle.gsl_sound.specs.Sound.{Fine, Good, WaitEach}
 use Rattle.gsl_sound.proofs.Steps.{fine_step}
@@ -33,7 +33,7 @@ use Rattle.gsl_sound_code.proofs.Walks.{Step, step_of}
 use Rattle.gsl_sound_ids.proofs.Plain.{has_type_is}
 use Rattle.gsl_sound_values.specs.Shaped.{is_shaped}
 use Rattle.gsl_memory_law.specs.Typed.{HaveTypes}
-use Rattle.gsl_sound_types.specs.Typed.{Frame, FrameEach, HoldTypes, IsOfType, Typed, types_below, types_in, types_of}
+use Rattle.gsl_sound_types.specs.Typed.{FrameEach, IsOfType, Typed, types_below, types_in, types_of}
 use Rattle.gsl_memory_law.proofs.Typed.{front_typed}
 use Rattle.gsl_sound_types.proofs.Holding.{front_is, hold_give, length_same, value_of_type}
 use Rattle.gsl_sound_types.proofs.Entering.{AreOfTypes, typed_entered}

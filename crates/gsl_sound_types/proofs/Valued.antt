@@ -1,6 +1,5 @@
 -- Instructions that give values: what they give is of their type.
 use Rattle.std.proofs.Common.{◌≡◌, refl, sym, ap, ◌∙◌, subst, ℕ, Bool, true, false, ◌&&◌, ◌||◌, is_some, if◌then◌else◌, List, [], ◌∷◌, length, slice_get, Option, Some, None}
-use Rattle.std.specs.List.{list_all}
 use Rattle.std.specs.Prelude.{◌==◌, find}
 use Rattle.std.proofs.lemmas.Bool.{and_parts, eq-eqb, eqb-true, false≢true, true≢false}
 use Rattle.gsl_instr.specs.declared.instruction.Instruction.{Instruction}
@@ -15,7 +14,7 @@ use Rattle.gsl_valid.specs.Ids.{result}
 use Rattle.gsl_valid.specs.Instruction.{passes_if, read}
 use Rattle.gsl_valid.specs.Kinds.{Shape, OfBool, OfInt, OfVector, Gives, constant_in, constant_is, kind, kind_of, shape_of, type_in, type_of}
 use Rattle.gsl_valid.specs.LocalityRules.{gives_value, of_block}
-use Rattle.gsl_valid.specs.OperandRules.{are_compared, are_shuffled, component_in, is_built, is_ints_sized, is_part, is_picked, is_picked_of, is_shuffled, is_shuffled_as, is_signed, is_truth, is_truth_sized, is_type_of, is_unary, is_vector, operands_typed, part_within, sign_of, size_in}
+use Rattle.gsl_valid.specs.OperandRules.{are_compared, are_shuffled, component_in, is_ints_sized, is_part, is_picked, is_picked_of, is_shuffled, is_shuffled_as, is_signed, is_truth, is_truth_sized, is_type_of, is_unary, is_vector, operands_typed, part_within, sign_of, size_in}
 use Rattle.gsl_valid.specs.Placed.{Code, Placed}
 use Rattle.gsl_valid.specs.TypeRules.{is_component, is_made}
 use Rattle.gsl_valid.specs.Types.{Lanes, Scalar, defined_as, has_lanes, has_type, is_bool_shape, is_int_shape, is_int_value, is_ints, is_truths, is_type, is_words, lanes_in, lanes_of, lanes_with, same_size, scalar_in}
