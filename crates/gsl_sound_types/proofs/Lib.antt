@@ -1,0 +1,9 @@
+pub mod Holding
+pub mod Parts
+pub mod Moving
+pub mod Valued
+pub mod Memories
+pub mod Entering
+pub mod Beginning
+pub mod Steps
+pub mod Reached
