@@ -1,0 +1,5 @@
+pub mod Bounds
+pub mod Places
+pub mod Passing
+pub mod Giving
+pub mod Counted
