@@ -1,0 +1,38 @@
+//! Laws of the definitions: calls that do nothing, whose contracts are the laws.
+
+ghost use Rattle.std.specs.Prelude.{◌≡◌, ◌≢◌, ℕ, ◌⊎◌, Bool, List, length, Option, false, true};
+ghost use Rattle.gsl_base.specs.declared.input.Input.{Input};
+ghost use Rattle.gsl_types.specs.declared.ty.Ty.{Ty};
+ghost use Rattle.gsl_types.specs.declared.ty.Ty.TheVariants.{Void};
+ghost use Rattle.gsl_words.specs.declared.module.Module.{Module};
+ghost use Rattle.gsl_values.specs.declared.value.Value.{Value};
+ghost use Rattle.gsl_tree.specs.Around.{Around};
+ghost use Rattle.gsl_tree.specs.Values.{is_value_of, zero_value};
+ghost use Rattle.gsl_tree.specs.declared.program.Program.{Program};
+ghost use Rattle.gsl_meaning.specs.Accesses.{nothing};
+ghost use Rattle.gsl_meaning.specs.Running.{Run, spending};
+ghost use Rattle.gsl_meaning.specs.Statements as statement;
+ghost use Rattle.gsl_valid.specs.Valid.{Valid};
+ghost use Rattle.gsl_spv.specs.Sections.{Sections};
+ghost use Rattle.gsl_lower_holders.specs.Flow.{Emit, Flow};
+ghost use Rattle.gsl_lower_holders.specs.declared.place.FlowPlace.{FlowPlace};
+ghost use Rattle.gsl_lower_stmt.specs.declared.exits.Exits.{Exits};
+ghost use Rattle.gsl_lower_text.specs.Written.{Written};
+ghost use Rattle.gsl_lower_follows.specs.Frames.{Frame};
+ghost use Rattle.gsl_lower_law_stmt.specs.Doing.{DoesStatement};
+ghost use Rattle.gsl_lower_law_entered.specs.Modules.{IsFrame, IsFunction};
+ghost use Rattle.gsl_lower_law_functions.specs.Bodies.{DoesBody, GivesZeros, IsResult, ReturnsOf, bodied};
+ghost use Rattle.gsl_lower_law_functions.specs.Functions.{FunctionDoes, IsLowered, running_body};
+
+/// A body whose statements do what they mean comes to the return of what they return, and, where its end is reached, of zeros, or of nothing where the
+/// function gives nothing.
+pub fn bodies_end()
+    ensures with_value { (m : Module) (input : Input) (whole : Sections) (f : Frame m input whole) (p : Program) (around : Around) (leaves : Bool) (row : Exits → Emit (Unit {0})) (run : Run statement.Flow) (result : Ty) (b : Flow) → DoesStatement m input whole f p around leaves row run → ReturnsOf m input whole f p around result run → result ≢ Void → (is_value_of p.structs result (zero_value p.structs result) ≡ true) → GivesZeros m input whole f p around result b → DoesBody m input whole f p around result b (bodied row leaves result) run }
+    ensures without { (m : Module) (input : Input) (whole : Sections) (f : Frame m input whole) (p : Program) (around : Around) (leaves : Bool) (row : Exits → Emit (Unit {0})) (run : Run statement.Flow) (b : Flow) → DoesStatement m input whole f p around leaves row run → DoesBody m input whole f p around Void b (bodied row leaves Void) run }
+{}
+
+/// Where the body of a function does what it means in each frame of it, a call of the function does, wherever it is called: a unit is used, and the caller goes on with
+/// its own parameters and local variables.
+pub fn functions_do()
+    ensures { (m : Module) (input : Input) (whole : Sections) (p : Program) (inner : Around) (place : FlowPlace) (stages : List (Option Value)) (function : ℕ) (begin : Flow) (result : Ty) (body : Emit (Unit {0})) (run : Run statement.Flow) → Valid m → Written m whole → (fn : IsFunction m whole p.structs place inner.locals function begin) → IsLowered whole begin fn.rest body → length inner.params ≡ length begin.place.params → (result ≡ Void) ⊎ (is_value_of p.structs result nothing ≡ false) → ((g : Frame m input whole) → IsFrame m input whole place stages g → g.before ≡ fn.before → g.code ≡ fn.code → DoesBody m input whole g p inner result begin body run) → FunctionDoes m input whole p place stages inner function inner.params result (λ args. spending (running_body p.structs inner.locals result run args)) }
+{}
