@@ -80,10 +80,11 @@ module _ (m : Module) (input : Input) (whole : Sections) (f : Frame m input whol
       (a.0.seat, param_seat m input whole f p.structs place inner.locals stages function begin fn valid written of_module first state args good.holds.count held enough k a.0 a.1, kept_in_front state.variables more a.0.seat w (h.value ∙ ap Some a.2))
   values_begun (Local k) w is =
       let t = mapped (zero_value p.structs) inner.locals k w is in
-      let z = fn.opens.zeros k t.0 t.1 in
-      (length state.variables + z.0,
-      ap (number_at lasting) z.3 ∙ ap number_in (own_points m input whole f p.structs place inner.locals stages function begin fn valid written of_module first state args good.holds.count held enough z.0 z.1 z.2),
-      variable_there z.0 z.1 z.2 ∙ ap Some (z.4 ∙ t.2))
+      let z = fn.opens.zeros k t.0 t.1 in (
+        length state.variables + z.0,
+        ap (number_at lasting) z.3 ∙ ap number_in (own_points m input whole f p.structs place inner.locals stages function begin fn valid written of_module first state args good.holds.count held enough z.0 z.1 z.2),
+        variable_there z.0 z.1 z.2 ∙ ap Some (z.4 ∙ t.2),
+      )
   values_begun (Holder k) w is = absurd cc
 
   typed_begun : (waiting : List Waiting) → AreTyped m input whole (frame waiting) p inner now
@@ -102,7 +103,7 @@ module _ (m : Module) (input : Input) (whole : Sections) (f : Frame m input whol
       each (Holder k) = tt
 
   -- the builder holds the function's code up to its body
-  pub begins_inside : (waiting : List Waiting) → Inside m input whole (frame waiting) begin.sections
+  abbrev pub begins_inside : (waiting : List Waiting) → Inside m input whole (frame waiting) begin.sections
   begins_inside waiting = record { extends = fn.extends; done = fn.opening; more = fn.rest; is = fn.here; all = fn.is }
 
   abbrev pub begun_state : List Waiting → State

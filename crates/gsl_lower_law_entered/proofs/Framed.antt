@@ -57,7 +57,7 @@ id_shared place other shared (Holder k) is = absurd cc
 pub same_number : (held : Option Held) (n k : ℕ) → At held n → At held k → n ≡ k
 same_number held n k first second = let both : Some n ≡ Some k = sym (ap number_in first) ∙ ap number_in second in cc
 
-param_number : Name → ℕ
+abbrev param_number : Name → ℕ
 param_number (Global k) = 0
 param_number (Interface k) = 0
 param_number (Stage k) = 0
@@ -194,9 +194,9 @@ module _ (m : Module) (input : Input) (whole : Sections) (f : Frame m input whol
       let less : number < length begin.place.params = (let here = slice_get_within args number a is in omega (arith, here, enough)) in
       let p = found_among begin.place.params number less in
       let there : own p.0 ≡ Some (held_of a) =
-          unpointed given count (variables_of body) p.0 (λ v among same. let k = index_of_among v (variables_of body) among in fn.placed.aside number p.0 p.1 (record { position = k.0; variable = v; there = k.1; same = same }))
-          ∙ given_there (globals m) (parameters_of body) (helds args) number p.0 (held_of a) (ap (λ l. slice_get l number) (sym fn.placed.params) ∙ p.1) (map_there held_of args number a is)
-          (λ j e. ap param_number (fn.placed.apart (Param j) (Param number) p.0 (ap (λ l. slice_get l j) fn.placed.params ∙ e) p.1)) in
+      unpointed given count (variables_of body) p.0 (λ v among same. let k = index_of_among v (variables_of body) among in fn.placed.aside number p.0 p.1 (record { position = k.0; variable = v; there = k.1; same = same }))
+      ∙ given_there (globals m) (parameters_of body) (helds args) number p.0 (held_of a) (ap (λ l. slice_get l number) (sym fn.placed.params) ∙ p.1) (map_there held_of args number a is)
+      (λ j e. ap param_number (fn.placed.apart (Param j) (Param number) p.0 (ap (λ l. slice_get l j) fn.placed.params ∙ e) p.1)) in
       ap (number_at own) p.1 ∙ ap number_in there
 
   pub param_argument : (number seat : ℕ) → seat_in own begin.place (Param number) ≡ Some seat → (a : Argument) × (slice_get args number ≡ Some a) × (a.seat ≡ seat)

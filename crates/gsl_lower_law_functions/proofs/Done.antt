@@ -1,5 +1,5 @@
 -- Functions, from a call to behind it.
-use Rattle.std.proofs.Common.{◌≡◌, refl, sym, ap, ◌∙◌, subst, ℕ, zero, suc, inl, inr, ◌⊎◌, Bool, true, false, List, [], ◌∷◌, ◌++◌, length, Option, Some, None, append_assoc, arith}
+use Rattle.std.proofs.Common.{◌≡◌, refl, sym, ap, ◌∙◌, subst, ℕ, zero, suc, ◌+◌, inl, inr, ◌⊎◌, Bool, true, false, List, [], ◌∷◌, ◌++◌, length, Option, Some, None, append_assoc, arith}
 use Rattle.std.specs.List.{Contains}
 use Rattle.std.specs.Prelude.{slice_get}
 use Rattle.std.proofs.lemmas.List.Elements.{Contains-append_left, Contains-append_right}
@@ -73,11 +73,11 @@ module _ (m : Module) (input : Input) (whole : Sections) (p : Program) (inner : 
     unfolding form_of
     passes =
         ap f.own made.0
-        ∙ of_module.calls (instr op.FUNCTION_CALL (type ∷ b.sections.last + 1 ∷ function ∷ ids_of args)) type function (b.sections.last + 1) (ids_of args) (contained (subst (λ (l : Flow). Inside m input whole f l.sections) made.1 inside)) refl refl
+        ∙ of_module.calls (instr op.FUNCTION_CALL (type ∷ (b.sections.last + 1) ∷ function ∷ ids_of args)) type function (b.sections.last + 1) (ids_of args) (contained (subst (λ (l : Flow). Inside m input whole f l.sections) made.1 inside)) refl refl
       where
-        contained : Inside m input whole f (given_by op.FUNCTION_CALL (function ∷ ids_of args) type b).sections → Contains whole.functions (instr op.FUNCTION_CALL (type ∷ b.sections.last + 1 ∷ function ∷ ids_of args))
+        contained : Inside m input whole f (given_by op.FUNCTION_CALL (function ∷ ids_of args) type b).sections → Contains whole.functions (instr op.FUNCTION_CALL (type ∷ (b.sections.last + 1) ∷ function ∷ ids_of args))
         contained there =
-            let i = instr op.FUNCTION_CALL (type ∷ b.sections.last + 1 ∷ function ∷ ids_of args) in
+            let i = instr op.FUNCTION_CALL (type ∷ (b.sections.last + 1) ∷ function ∷ ids_of args) in
             subst (λ l. Contains l i) (sym there.extends.functions.is) (Contains-append_left (b.sections.functions ++ i ∷ []) there.extends.functions.more i (Contains-append_right b.sections.functions (i ∷ []) i (first_in i [])))
 
     entered_is : HasEntered m input whole f p (IsFrame m input whole place stages) inner first id args fn.before fn.code begin s state (coming m input whole f later.sections)

@@ -105,12 +105,12 @@ module _ (m : Module) (input : Input) (whole : Sections) (f g : Frame m input wh
       by : ((at.i ≡ instr op.RETURN []) × (v ≡ nothing)) ⊎ ((x : ℕ) × (at.i ≡ instr op.RETURN_VALUE (x ∷ [])) × Stands last.ids x v) → Reaches m input 0 units last (IsBack m input whole f g p around first id state later s v t) units
       by (inl e) =
           let one : step m input last ≡ Going (end state.ids) =
-              ap (λ l. step m input (record last { rest = l })) (at.is ∙ ap (λ i. record { at = at.place; instr = i } ∷ at.rest) e.0) ∙ ap (λ w. returning m here w without_value) waits in
+          ap (λ l. step m input (record last { rest = l })) (at.is ∙ ap (λ i. record { at = at.place; instr = i } ∷ at.rest) e.0) ∙ ap (λ w. returning m here w without_value) waits in
           reached state.ids units one (back state.ids (keeps_same state.ids) (record { lasting = good.ready.lasting; later = λ other less. good.ready.later other (omega (arith, less)) }) (inl e.1))
       by (inr e) =
           let both = give_ready state.ids f.own b.sections.last (Whole v) none good.ready in
           let one : step m input last ≡ Going (end (give state.ids id (Whole v))) =
-              ap (λ l. step m input (record last { rest = l })) (at.is ∙ ap (λ i. record { at = at.place; instr = i } ∷ at.rest) e.1) ∙ ap (λ o. on_whole o (λ u. returning m here last.waiting (with_value u))) e.2 ∙ ap (λ w. returning m here w (with_value v)) waits in
+          ap (λ l. step m input (record last { rest = l })) (at.is ∙ ap (λ i. record { at = at.place; instr = i } ∷ at.rest) e.1) ∙ ap (λ o. on_whole o (λ u. returning m here last.waiting (with_value u))) e.2 ∙ ap (λ w. returning m here w (with_value v)) waits in
           reached (give state.ids id (Whole v)) units one (back (give state.ids id (Whole v)) both.0 both.1 (inr (give_same state.ids id (Whole v))))
 
 pub returned_back : (m : Module) (input : Input) (whole : Sections) (f g : Frame m input whole) (p : Program) (around inner : Around) (b later : Flow) (operands : List ℕ) (type id first : ℕ) (s t : shader.State) (state last : State) (v : Value) (units : ℕ) → AreAlike around inner → Good m input whole f p around b s state

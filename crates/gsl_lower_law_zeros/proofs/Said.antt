@@ -14,7 +14,7 @@ use Rattle.gsl_valid.specs.Kinds.{Value as Fixed, Zeros, constant_is, shape_of}
 use Rattle.gsl_valid.specs.Placed.{Code}
 use Rattle.gsl_valid.specs.Search.{passed}
 use Rattle.gsl_valid.specs.Valid.{Valid}
-use Rattle.gsl_machine.specs.Constants.{constant_in, fixed_if, zeros, zeros_as, zeros_in}
+use Rattle.gsl_machine.specs.Constants.{constant, constant_in, fixed_if, zeros, zeros_as, zeros_in}
 use Rattle.gsl_machine.specs.State.{Ids, Whole}
 use Rattle.gsl_sound_code.specs.Rules.{KeepAll}
 use Rattle.gsl_sound_code.proofs.Looks.{kept}
@@ -61,6 +61,10 @@ module _ (m : Module) where
       zeros_unfold m i a id refl
       ∙ ap (λ v. Many (replicate count v)) (sym (zeros_before m i a component (and_parts (defined a.before component) true (and_parts (list_all (defined a.before) (needs (read i))) _ a.keeps.uses).0).0))
 
+  null_begins : (type id : ℕ) → At m (defining (d.null type) id) → constant m id ≡ zeros m type
+  unfolding form_of
+  null_begins type id a = constant_unfolds m (defining (d.null type) id) a id refl
+
   module _ (own : Ids) (valid : Valid m) (lasts : Lasts m own) where
     null_stands : (type id : ℕ) → At m (defining (d.null type) id) → Stands own id (zeros m type)
     unfolding form_of
@@ -74,6 +78,7 @@ nulls_said m s own valid written lasts =
     let global : (i : Instr) → Contains s.globals i → At m i = λ i there. at m (kept m valid) i (written.globals i there) in
     record {
       null = λ type id there. null_stands m own valid lasts type id (global _ there);
+      begins = λ type id there. null_begins m type id (global _ there);
       scalar = λ scalar id there. scalar_zero m scalar id (global _ there);
       vector = λ component count id there. vector_zero m component count id (global _ there);
     }

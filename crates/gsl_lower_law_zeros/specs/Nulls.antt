@@ -7,7 +7,7 @@ use Rattle.gsl_types.specs.declared.ty.Ty.{Ty}
 use Rattle.gsl_words.specs.declared.module.Module.{Module}
 use Rattle.gsl_values.specs.declared.value.Value.TheVariants.{Word, Many}
 use Rattle.gsl_tree.specs.Values.{zero_value}
-use Rattle.gsl_machine.specs.Constants.{zeros}
+use Rattle.gsl_machine.specs.Constants.{constant, zeros}
 use Rattle.gsl_machine.specs.State.{Ids}
 use Rattle.gsl_spv.specs.Declarations as d
 use Rattle.gsl_spv.specs.Declarations.{defining}
@@ -19,9 +19,10 @@ use Rattle.gsl_lower_holders.specs.Flow.{find_type}
 use Rattle.gsl_lower_holders.specs.declared.place.FlowPlace.{FlowPlace}
 
 -- In a module with the types and constants of some sections, in a function where these are the ids that last: a constant of null stands for the zeros of its
--- type, and the zeros of scalars and vectors are what they are.
+-- type, a variable with it as initialiser begins as them, and the zeros of scalars and vectors are what they are.
 pub record Nulls (m : Module) (sections : Sections) (own : Ids) : Type 0 where
   pub null : (type id : ℕ) → Contains sections.globals (defining (d.null type) id) → Stands own id (zeros m type)
+  pub begins : (type id : ℕ) → Contains sections.globals (defining (d.null type) id) → constant m id ≡ zeros m type
   pub scalar : (s : Scalar) (id : ℕ) → Contains sections.globals (defining (d.plain_type (plain_scalar s)) id) → zeros m id ≡ Word 0
   pub vector : (component count id : ℕ) → Contains sections.globals (defining (d.plain_type (plain.Vector component count)) id) → zeros m id ≡ Many (replicate count (zeros m component))
 
