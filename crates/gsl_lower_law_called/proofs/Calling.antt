@@ -20,7 +20,7 @@ use Rattle.gsl_meaning.specs.Expressions.{Called, Meant, Passed as ShaderPassed,
 use Rattle.gsl_meaning.specs.Running.{Got, Ran, Run}
 use Rattle.gsl_meaning.specs.Running as shader_run
 use Rattle.gsl_meaning.specs.State as shader
-use Rattle.gsl_machine.specs.State.{State}
+use Rattle.gsl_machine.specs.State.{Ids, State}
 use Rattle.gsl_spv.specs.Calls as call
 use Rattle.gsl_spv.specs.Declarations as d
 use Rattle.gsl_spv.specs.Sections.{Sections}
@@ -31,7 +31,7 @@ use Rattle.gsl_lower_values.specs.Building.{Full, Made, id_by}
 use Rattle.gsl_lower_law.specs.Computing.{Grows}
 use Rattle.gsl_lower_law.proofs.Adding.{extends_intern}
 use Rattle.gsl_lower_law.proofs.Joining.{keeps_then}
-use Rattle.gsl_lower_law.proofs.Plain.{Any, intern_does}
+use Rattle.gsl_lower_law.proofs.Plain.{intern_does}
 use Rattle.gsl_lower_holders.specs.Flow.{Emit, Flow, Gives, Lacks, Lowered, behind, given, giving_here, id_at, type_id, ◌>>=◌}
 use Rattle.gsl_lower_holders.specs.declared.place.FlowPlace.{FlowPlace}
 use Rattle.gsl_lower_expr.specs.Calls.{all_back, called_by, called_with, calling, passing_all, pointers, result_by, result_type, tys as types_in}
@@ -86,7 +86,7 @@ module _ (m : Module) (input : Input) (whole : Sections) (f : Frame m input whol
   does_result t units b s state good = by (out-Ty t)
     where
       by : (layer : Ty-F Ty) → Does m input whole f p 0 units state (Unchanged m input whole f p around b state) none_waits (Got tt s units) (result_by t layer b)
-      by Ty-F.Void = does_aside m input whole f p around Any units b s state (id_by (call.plain_type plain.Void)) good (intern_does m input whole Any (d.plain_type plain.Void) state b.sections (plain_once plain.Void) (λ id stands text lasting. tt))
+      by Ty-F.Void = does_aside m input whole f p around (λ (id : ℕ) (ids : Ids). Unit {0}) units b s state (id_by (call.plain_type plain.Void)) good (intern_does m input whole (λ (id : ℕ) (ids : Ids). Unit {0}) (d.plain_type plain.Void) state b.sections (plain_once plain.Void) (λ id stands text lasting. tt))
       by (Ty-F.One k) = does_type_id m input whole f p around t units b s state good
       by (Ty-F.Vector k n) = does_type_id m input whole f p around t units b s state good
       by (Ty-F.Array a n) = does_type_id m input whole f p around t units b s state good
@@ -186,37 +186,37 @@ module _ (m : Module) (input : Input) (whole : Sections) (f : Frame m input whol
           by Lacks g goes = tt
           by (Gives ways between) g goes = more between (called_with structs number (ins tys) arg_tys t ways between) g (adds_told between ways goes)
 
+      abbrev First : Flow → State → List Passed → Flow → List ShaderPassed → shader.State → State → Type 0
+      First b state = ArePassed m input whole f p around (any_splits args) tys b state
+
+      abbrev Then : Flow → State → ℕ → Flow → Value → shader.State → State → Type 0
+      Then b state = HasGiven m input whole f p around (any_splits args) t b state
+
       whole_does : (b : Flow) (s : shader.State) (units : ℕ) (state : State) → Good m input whole f p around b s state → Names place number function b.place
           → Does m input whole f p 0 units state (HasGiven m input whole f p around (any_splits args) t b state) none_waits (whole_run s units) (whole_emit b)
       whole_does b s units state good names =
           by (passing_all structs args (ins tys) b) (adds_passing m input whole f p around structs setting.structs args xs tys of all b) (all_go structs args tys b)
           (passing_does m input whole f p around structs setting.structs args xs tys of all b s units state good)
         where
-          abbrev First : List Passed → Flow → List ShaderPassed → shader.State → State → Type 0
-          First = ArePassed m input whole f p around (any_splits args) tys b state
-
-          abbrev Then : ℕ → Flow → Value → shader.State → State → Type 0
-          Then = HasGiven m input whole f p around (any_splits args) t b state
-
-          each : (ways : List Passed) (between : Flow) (qs : List ShaderPassed) (u : shader.State) (left : ℕ) (mid : State) → Grown b between → First ways between qs u mid
-              → Does m input whole f p 0 left mid Then none_waits (means qs u left) (called_with structs number (ins tys) arg_tys t ways between)
+          each : (ways : List Passed) (between : Flow) (qs : List ShaderPassed) (u : shader.State) (left : ℕ) (mid : State) → Grown b between → First b state ways between qs u mid
+              → Does m input whole f p 0 left mid (Then b state) none_waits (means qs u left) (called_with structs number (ins tys) arg_tys t ways between)
           each ways between qs u left mid grown pd =
-              subst (λ (ws : List Passed). Does m input whole f p 0 left mid Then none_waits (means qs u left) (called_with structs number (ins tys) arg_tys t ws between)) (sym pd.are)
-              (subst (λ (rs : List ShaderPassed). Does m input whole f p 0 left mid Then none_waits (means rs u left) (called_with structs number (ins tys) arg_tys t (map going pd.args) between)) (sym pd.mean)
+              subst (λ (ws : List Passed). Does m input whole f p 0 left mid (Then b state) none_waits (means qs u left) (called_with structs number (ins tys) arg_tys t ws between)) (sym pd.are)
+              (subst (λ (rs : List ShaderPassed). Does m input whole f p 0 left mid (Then b state) none_waits (means rs u left) (called_with structs number (ins tys) arg_tys t (map going pd.args) between)) (sym pd.mean)
               (called_here (any_splits args) b between state mid u pd.args left grown pd.many pd.typed pd.held pd.below pd.after (names_kept place number function b between grown names)))
 
-          later_by : (ways : List Passed) (between : Flow) → Grown b between → Does m input whole f p 0 units state First none_waits (shader_expr.passing_all setting.structs (ins tys) xs s units) (Gives ways between) → (low : Lowered ℕ) → GrownTo between low
-              → ((qs : List ShaderPassed) (u : shader.State) (left : ℕ) (mid : State) → First ways between qs u mid → Does m input whole f p 0 left mid Then none_waits (means qs u left) low)
-              → Does m input whole f p 0 units state Then none_waits (whole_run s units) low
+          later_by : (ways : List Passed) (between : Flow) → Grown b between → Does m input whole f p 0 units state (First b state) none_waits (shader_expr.passing_all setting.structs (ins tys) xs s units) (Gives ways between) → (low : Lowered ℕ) → GrownTo between low
+              → ((qs : List ShaderPassed) (u : shader.State) (left : ℕ) (mid : State) → First b state ways between qs u mid → Does m input whole f p 0 left mid (Then b state) none_waits (means qs u left) low)
+              → Does m input whole f p 0 units state (Then b state) none_waits (whole_run s units) low
           later_by ways between grown does Lacks g go = tt
           later_by ways between grown does (Gives id later) g go = λ inside.
               let there = inside_between m input whole f b.sections between.sections later.sections good.inside inside grown.extends g.extends in
-              follows_then m input p 0 units state (First ways between) (none_waits ways between) (Then id later) (none_waits id later) (shader_expr.passing_all setting.structs (ins tys) xs s units) means (does there)
+              follows_then m input p 0 units state (First b state ways between) (none_waits ways between) (Then b state id later) (none_waits id later) (shader_expr.passing_all setting.structs (ins tys) xs s units) means (does there)
               (λ qs u left mid pd less. go qs u left mid pd inside)
               (λ u left mid none less. absurd none)
 
-          by : (low : Lowered (List Passed)) → GrownTo b low → GoTo low → Does m input whole f p 0 units state First none_waits (shader_expr.passing_all setting.structs (ins tys) xs s units) low
-              → Does m input whole f p 0 units state Then none_waits (whole_run s units) (behind low (called_with structs number (ins tys) arg_tys t))
+          by : (low : Lowered (List Passed)) → GrownTo b low → GoTo low → Does m input whole f p 0 units state (First b state) none_waits (shader_expr.passing_all setting.structs (ins tys) xs s units) low
+              → Does m input whole f p 0 units state (Then b state) none_waits (whole_run s units) (behind low (called_with structs number (ins tys) arg_tys t))
           by Lacks g goes does = tt
           by (Gives ways between) g goes does =
               later_by ways between g does (called_with structs number (ins tys) arg_tys t ways between) (adds_told between ways goes) (λ qs u left mid pd. each ways between qs u left mid g pd)

@@ -190,8 +190,8 @@ module _ (m : Module) (input : Input) (whole : Sections) (f : Frame m input whol
   module _ (structs shader_structs : List StructType) where
     pub adds_passing : (args : List Lower) (xs : List Meant) (tys : List Ty) → AreOf args tys → AllGive (GivesValue m input whole f p around) args xs → Adds (passing_all structs args (ins tys))
     unfolding passing_all
-    adds_passing [] xs tys of all = adds_given []
-    adds_passing (e ∷ es) xs [] of all = adds_given []
+    adds_passing [] xs tys of all = adds_given {A = List Passed} []
+    adds_passing (e ∷ es) xs [] of all = adds_given {A = List Passed} []
     adds_passing (e ∷ es) [] (t ∷ tys) of all = absurd all
     adds_passing (e ∷ es) (x ∷ xs) (t ∷ tys) of all =
         adds_then (e.value >>= going_in) (λ way. passing_all structs es (ins tys) >>= (λ ways. given (way ∷ ways))) (adds_one e.traits.splits e.ty e.value x.value all.0.0 all.0.1)

@@ -6,6 +6,7 @@ use Rattle.std.proofs.lemmas.List.Elements.{Contains-append_left, Contains-appen
 use Rattle.gsl_base.specs.declared.input.Input.{Input}
 use Rattle.gsl_instr.specs.Forms.{form_of}
 use Rattle.gsl_instr.specs.declared.op.TheConstants as op
+use Rattle.gsl_types.specs.Known.{AreStructs, IsSound}
 use Rattle.gsl_types.specs.declared.ty.Ty.{Ty}
 use Rattle.gsl_types.specs.declared.ty.Ty.TheVariants.{Void}
 use Rattle.gsl_words.specs.declared.module.Instr.{Instr}
@@ -41,6 +42,7 @@ use Rattle.gsl_lower_law_entered.specs.Modules.{AreShared, IsFrame, IsFunction, 
 use Rattle.gsl_lower_law_entered.specs.Entering.{Argument, AreHeld, HasEntered, ids_of, values_of}
 use Rattle.gsl_lower_law_entered.proofs.Called.{call_enters}
 use Rattle.gsl_lower_law_functions.specs.Bodies.{AtResult, DoesBody, IsResult}
+use Rattle.gsl_lower_law_functions.proofs.Valued.{void_or_parts}
 use Rattle.gsl_lower_law_functions.specs.Functions.{FunctionDoes, HasReturned, IsLowered, running_body}
 
 module _ (m : Module) (input : Input) (whole : Sections) (p : Program) (inner : Around) (place : FlowPlace) (stages : List (Option Value)) (function : ℕ) (begin : Flow) (result : Ty) (body : Emit (Unit {0})) (run : Run statement.Flow)
@@ -126,10 +128,10 @@ module _ (m : Module) (input : Input) (whole : Sections) (p : Program) (inner : 
         (λ t rest mid none less. absurd none))
 
 pub function_does : (m : Module) (input : Input) (whole : Sections) (p : Program) (inner : Around) (place : FlowPlace) (stages : List (Option Value)) (function : ℕ) (begin : Flow) (result : Ty) (body : Emit (Unit {0})) (run : Run statement.Flow) → Valid m → Written m whole
-    → (fn : IsFunction m whole p.structs place inner.locals function begin) → IsLowered whole begin fn.rest body → length inner.params ≡ length begin.place.params → (result ≡ Void) ⊎ (is_value_of p.structs result nothing ≡ false)
+    → (fn : IsFunction m whole p.structs place inner.locals function begin) → IsLowered whole begin fn.rest body → length inner.params ≡ length begin.place.params → AreStructs p.structs → IsSound (length p.structs) result
     → ((g : Frame m input whole) → IsFrame m input whole place stages g → g.before ≡ fn.before → g.code ≡ fn.code → DoesBody m input whole g p inner result begin body run)
     → FunctionDoes m input whole p place stages inner function inner.params result (λ args. spending (running_body p.structs inner.locals result run args))
-function_does m input whole p inner place stages function begin result body run valid written fn lowered many real bodies = record {
+function_does m input whole p inner place stages function begin result body run valid written fn lowered many are sound bodies = record {
   does = λ f around b later args type id first units s state of_module shared alike good puts inside held enough typed.
-      follows m input whole p inner place stages function begin result body run valid written fn lowered many real bodies f around b later args type id first s state of_module shared alike good puts inside held enough typed units;
+      follows m input whole p inner place stages function begin result body run valid written fn lowered many (void_or_parts p.structs result are sound) bodies f around b later args type id first s state of_module shared alike good puts inside held enough typed units;
 }

@@ -3,4 +3,4 @@
 
 mod laws;
 
-pub use laws::{bodies_end, functions_do};
+pub use laws::{bodies_end, calls_do_at_each_depth, functions_do};
