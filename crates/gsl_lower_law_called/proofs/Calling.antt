@@ -1,5 +1,5 @@
 -- Calls of functions whose parameters go in alone.
-use Rattle.std.proofs.Common.{◌≡◌, refl, sym, ap, ◌∙◌, subst, ℕ, ◌<◌, Bool, true, false, List, [], ◌∷◌, length, map, Option, Some, None, arith, if◌then◌else◌}
+use Rattle.std.proofs.Common.{◌≡◌, refl, sym, ap, ◌∙◌, subst, ℕ, ◌<◌, Bool, true, false, List, ◌∷◌, length, map, Option, Some, None, arith, if◌then◌else◌}
 use Rattle.std.specs.Prelude.{nat_le, slice_get}
 use Rattle.std.proofs.lemmas.List.{length-map}
 use Rattle.gsl_base.specs.declared.input.Input.{Input}
@@ -17,7 +17,7 @@ use Rattle.gsl_tree.specs.Weights.{params_of}
 use Rattle.gsl_tree.specs.declared.program.Program.{Program}
 use Rattle.gsl_meaning.specs.Expressions as shader_expr
 use Rattle.gsl_meaning.specs.Expressions.{Called, Meant, Passed as ShaderPassed, Setting}
-use Rattle.gsl_meaning.specs.Running.{Got, Ran, Run}
+use Rattle.gsl_meaning.specs.Running.{Got, Run}
 use Rattle.gsl_meaning.specs.Running as shader_run
 use Rattle.gsl_meaning.specs.State as shader
 use Rattle.gsl_machine.specs.State.{Ids, State}
@@ -32,7 +32,7 @@ use Rattle.gsl_lower_law.specs.Computing.{Grows}
 use Rattle.gsl_lower_law.proofs.Adding.{extends_intern}
 use Rattle.gsl_lower_law.proofs.Joining.{keeps_then}
 use Rattle.gsl_lower_law.proofs.Plain.{intern_does}
-use Rattle.gsl_lower_holders.specs.Flow.{Emit, Flow, Gives, Lacks, Lowered, behind, given, giving_here, id_at, type_id, ◌>>=◌}
+use Rattle.gsl_lower_holders.specs.Flow.{Emit, Flow, Gives, Lacks, Lowered, behind, given, giving_here, id_at, ◌>>=◌}
 use Rattle.gsl_lower_holders.specs.declared.place.FlowPlace.{FlowPlace}
 use Rattle.gsl_lower_expr.specs.Calls.{all_back, called_by, called_with, calling, passing_all, pointers, result_by, result_type, tys as types_in}
 use Rattle.gsl_lower_expr.specs.Parts.{Lower, any_splits}
@@ -41,7 +41,6 @@ use Rattle.gsl_lower_follows.specs.Frames.{Frame, Good, HasType, Inside, type_of
 use Rattle.gsl_lower_follows.specs.Giving.{Adds, After, Does, GivesValue, Grown, GrownTo, HasGiven, none_waits}
 use Rattle.gsl_lower_follows.proofs.Beginning.{does_aside}
 use Rattle.gsl_lower_follows.proofs.Behind.{follows_behind, follows_then, reaches_here}
-use Rattle.gsl_lower_follows.proofs.Doing.{does_then}
 use Rattle.gsl_lower_follows.proofs.Fetching.{adds_giving, adds_type_id}
 use Rattle.gsl_lower_follows.proofs.Growing.{adds_given, adds_lift, adds_then, grown_behind, grown_then}
 use Rattle.gsl_lower_follows.proofs.Holding.{Unchanged, does_type_id}
@@ -49,8 +48,8 @@ use Rattle.gsl_lower_follows.proofs.Placing.{inside_between}
 use Rattle.gsl_lower_law_built.specs.Places.{GivesWhere}
 use Rattle.gsl_lower_law_expr.specs.Known.{AllGive}
 use Rattle.gsl_lower_law_returns.specs.Calling.{AreAlike}
-use Rattle.gsl_lower_law_entered.specs.Modules.{AreShared, IsFrame}
-use Rattle.gsl_lower_law_entered.specs.Entering.{Argument, AreHeld, ids_of, values_of}
+use Rattle.gsl_lower_law_entered.specs.Modules.{IsFrame}
+use Rattle.gsl_lower_law_entered.specs.Entering.{Argument, AreHeld, values_of}
 use Rattle.gsl_lower_law_functions.specs.Functions.{FunctionDoes, HasReturned}
 use Rattle.gsl_lower_law_called.specs.Passing.{AreOf, Names, ins}
 use Rattle.gsl_lower_law_called.proofs.Passing.{AllGo, ArePassed, GoTo, Passed, adds_passing, all_go, going, going_all, meant, none_back, nothing_back, passing_does, pointers_are, still_held, values_are}

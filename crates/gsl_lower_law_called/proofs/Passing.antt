@@ -1,9 +1,8 @@
 -- Arguments from left to right, each kept in a holder of its own.
-use Rattle.std.proofs.Common.{◌≡◌, refl, sym, ap, ◌∙◌, subst, ℕ, zero, suc, ◌<◌, ◌≤◌, Bool, true, false, ◌||◌, List, [], ◌∷◌, length, map, Option, Some, None, arith}
+use Rattle.std.proofs.Common.{◌≡◌, refl, ap, ◌∙◌, subst, ℕ, zero, suc, ◌<◌, Bool, true, false, ◌||◌, List, [], ◌∷◌, length, map, Option, Some, None, arith}
 use Rattle.std.specs.Prelude.{slice_get}
 use Rattle.gsl_base.specs.declared.input.Input.{Input}
 use Rattle.gsl_types.specs.declared.ty.Direction.{Direction}
-use Rattle.gsl_types.specs.declared.ty.Direction.TheVariants.{In}
 use Rattle.gsl_types.specs.declared.ty.StructType.{StructType}
 use Rattle.gsl_types.specs.declared.ty.Ty.{Ty}
 use Rattle.gsl_types.specs.declared.ty.Ty.TheVariants.{Void}
@@ -24,13 +23,13 @@ use Rattle.gsl_lower_holders.specs.Flow.{Emit, Flow, Gives, Lacks, Lowered, behi
 use Rattle.gsl_lower_holders.specs.Waiting.{keep}
 use Rattle.gsl_lower_expr.specs.Calls.{all_back, back, going_in, passed, passing_all, pointers}
 use Rattle.gsl_lower_expr.specs.Parts.{Lower, any_splits}
-use Rattle.gsl_lower_follows.specs.Frames.{Frame, Good, HasType, Holder, Kept, type_of_param}
+use Rattle.gsl_lower_follows.specs.Frames.{Frame, Good, HasType, Kept, type_of_param}
 use Rattle.gsl_lower_follows.specs.Giving.{Adds, After, Does, GivesValue, Grown, HasGiven, none_waits}
 use Rattle.gsl_lower_follows.proofs.Behind.{reaches_here}
 use Rattle.gsl_lower_follows.proofs.Doing.{does_then}
 use Rattle.gsl_lower_follows.proofs.Fetching.{adds_keep}
-use Rattle.gsl_lower_follows.proofs.Growing.{adds_given, adds_then, grown_same}
-use Rattle.gsl_lower_follows.proofs.Holding.{NowWaits, after_any, after_same, after_then, does_keep}
+use Rattle.gsl_lower_follows.proofs.Growing.{adds_given, adds_then}
+use Rattle.gsl_lower_follows.proofs.Holding.{NowWaits, after_same, after_then, does_keep}
 use Rattle.gsl_lower_law_expr.specs.Known.{AllGive}
 use Rattle.gsl_lower_law_expr.proofs.Operands.{given_value}
 use Rattle.gsl_lower_law_entered.specs.Entering.{Argument, AreHeld, IsHeld, ids_of, values_of}

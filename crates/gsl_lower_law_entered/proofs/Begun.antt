@@ -1,5 +1,5 @@
 -- The state of the module and that of the shader where the body of a function begins.
-use Rattle.std.proofs.Common.{◌≡◌, refl, sym, ap, ◌∙◌, subst, ℕ, suc, ◌+◌, ◌<◌, Bool, true, false, List, [], ◌∷◌, ◌++◌, length, map, Option, Some, None, inl, inr, ◌⊎◌, append_assoc, arith}
+use Rattle.std.proofs.Common.{◌≡◌, refl, sym, ap, ◌∙◌, subst, ℕ, suc, ◌+◌, true, List, [], ◌∷◌, ◌++◌, length, map, Option, Some, None, arith}
 use Rattle.std.specs.Prelude.{slice_get}
 use Rattle.std.proofs.lemmas.Option.{slice_get_within}
 use Rattle.gsl_base.specs.declared.input.Input.{Input}
@@ -7,12 +7,11 @@ use Rattle.gsl_types.specs.declared.ty.Ty.{Ty}
 use Rattle.gsl_words.specs.declared.module.Module.{Module}
 use Rattle.gsl_values.specs.declared.value.Value.{Value}
 use Rattle.gsl_tree.specs.Around.{Around}
-use Rattle.gsl_tree.specs.Values.{is_value_of, zero_value}
+use Rattle.gsl_tree.specs.Values.{zero_value}
 use Rattle.gsl_tree.specs.declared.program.Program.{Program}
 use Rattle.gsl_meaning.specs.Shader.{entered as shader_entered}
 use Rattle.gsl_meaning.specs.State as shader
-use Rattle.gsl_valid.specs.Kinds.{Variable}
-use Rattle.gsl_valid.specs.Placed.{Placed, placed_from, words_from}
+use Rattle.gsl_valid.specs.Placed.{placed_from}
 use Rattle.gsl_valid.specs.Valid.{Valid}
 use Rattle.gsl_machine.specs.Constants.{constant}
 use Rattle.gsl_machine.specs.Functions.{begins_as, variables_of}
@@ -22,7 +21,7 @@ use Rattle.gsl_lower_law.proofs.Joining.{keeps_same}
 use Rattle.gsl_lower_holders.specs.Flow.{Flow}
 use Rattle.gsl_lower_holders.specs.declared.place.FlowPlace.{FlowPlace}
 use Rattle.gsl_lower_text.specs.Written.{Written}
-use Rattle.gsl_lower_follows.specs.Frames.{AreTyped, Frame, Global, Good, HasType, Holder, Holds, Inside, Interface, Local, Name, Param, Stage, coming, type_named, type_of_global, type_of_interface, type_of_param, value_if, value_of}
+use Rattle.gsl_lower_follows.specs.Frames.{AreTyped, Frame, Global, Good, HasType, Holder, Inside, Interface, Local, Name, Param, Stage, coming, type_named, type_of_global, type_of_interface, value_if, value_of}
 use Rattle.gsl_lower_frames.specs.Named.{number_at, number_in, seat_in}
 use Rattle.gsl_lower_frames.specs.Standing.{place_in}
 use Rattle.gsl_lower_law_returns.specs.Calling.{AreAlike, is_shared}

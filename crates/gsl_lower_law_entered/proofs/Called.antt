@@ -1,7 +1,7 @@
 -- A call of a function, up to where its body begins.
-use Rattle.std.proofs.Common.{◌≡◌, refl, sym, ap, ◌∙◌, subst, ℕ, suc, ◌+◌, ◌<◌, Bool, true, false, List, [], ◌∷◌, ◌++◌, length, map, Option, Some, None, append_assoc, arith}
+use Rattle.std.proofs.Common.{◌≡◌, refl, sym, ap, ◌∙◌, subst, ℕ, suc, ◌+◌, List, [], ◌∷◌, ◌++◌, length, map, Option, Some, append_assoc, arith}
 use Rattle.std.specs.Prelude.{slice_get}
-use Rattle.std.proofs.lemmas.List.{length-append, length-map}
+use Rattle.std.proofs.lemmas.List.{length-append}
 use Rattle.gsl_base.specs.declared.input.Input.{Input}
 use Rattle.gsl_instr.specs.Forms.{form_of}
 use Rattle.gsl_instr.specs.declared.op.TheConstants as op
@@ -15,19 +15,16 @@ use Rattle.gsl_valid.specs.Valid.{Valid}
 use Rattle.gsl_machine.specs.Functions.{entered, from_first_label, function_at}
 use Rattle.gsl_machine.specs.Interfaces.{globals}
 use Rattle.gsl_machine.specs.Machine.{behind as going_on, run, step}
-use Rattle.gsl_machine.specs.State.{Going, Held, InVariable, Outcome, Points, State, Waiting, on}
+use Rattle.gsl_machine.specs.State.{Going, Held, Outcome, State, Waiting, on}
 use Rattle.gsl_machine.specs.Steps.{calling, on_each}
-use Rattle.gsl_spv.specs.Calls.{put, take}
 use Rattle.gsl_spv.specs.Declarations.{instr}
-use Rattle.gsl_spv.specs.Growing.{Extends}
 use Rattle.gsl_spv.specs.Sections.{Sections}
 use Rattle.gsl_lower_holders.specs.Flow.{Flow, Gives, giving_here}
 use Rattle.gsl_lower_holders.specs.declared.place.FlowPlace.{FlowPlace}
 use Rattle.gsl_lower_text.specs.Written.{Written}
 use Rattle.gsl_lower_follows.specs.Frames.{Frame, Good, HasType, Inside, Param, coming, type_named}
-use Rattle.gsl_lower_follows.specs.Stretching.{Stretch, room, room_behind}
+use Rattle.gsl_lower_follows.specs.Stretching.{Stretch, room_behind}
 use Rattle.gsl_lower_follows.proofs.Placing.{coming_before, coming_is, placed_join, placed_length}
-use Rattle.gsl_lower_frames.specs.Standing.{place_in}
 use Rattle.gsl_lower_frames.proofs.Found.{code_found, code_short}
 use Rattle.gsl_lower_frames.proofs.Texts.{valid_once}
 use Rattle.gsl_lower_law_returns.specs.Calling.{AreAlike, call_of}

@@ -1,5 +1,5 @@
 -- The frame of a function that a caller passes holders to.
-use Rattle.std.proofs.Common.{◌≡◌, refl, sym, ap, ◌∙◌, subst, ℕ, zero, suc, ◌+◌, ◌<◌, ◌≤◌, Bool, true, false, List, [], ◌∷◌, ◌++◌, length, map, Option, Some, None, inl, inr, ◌⊎◌, arith}
+use Rattle.std.proofs.Common.{◌≡◌, refl, sym, ap, ◌∙◌, subst, ℕ, zero, suc, ◌+◌, ◌<◌, ◌≤◌, true, false, List, [], ◌∷◌, ◌++◌, length, map, Option, Some, inl, inr, ◌⊎◌, arith}
 use Rattle.std.specs.Prelude.{slice_get}
 use Rattle.std.proofs.lemmas.List.{length-append, length-map}
 use Rattle.std.proofs.lemmas.Option.{slice_get_within}
@@ -9,12 +9,12 @@ use Rattle.gsl_types.specs.declared.ty.Ty.{Ty}
 use Rattle.gsl_words.specs.declared.module.Module.{Module}
 use Rattle.gsl_values.specs.declared.value.Value.{Value}
 use Rattle.gsl_valid.specs.Kinds.{Variable}
-use Rattle.gsl_valid.specs.Placed.{Code, Placed, placed_from}
+use Rattle.gsl_valid.specs.Placed.{Placed, placed_from}
 use Rattle.gsl_valid.specs.Valid.{Valid}
 use Rattle.gsl_machine.specs.Functions.{begins_as, give_each, own_ids, parameters_of, variables_of}
 use Rattle.gsl_machine.specs.Interfaces.{globals, value_variables}
 use Rattle.gsl_machine.specs.State.{Held, Ids, InVariable, Points, State, Waiting}
-use Rattle.gsl_sound_code.proofs.Looks.{Kept, kept}
+use Rattle.gsl_sound_code.proofs.Looks.{kept}
 use Rattle.gsl_sound_ids.proofs.Globals.{unpointed}
 use Rattle.gsl_spv.specs.Sections.{Sections}
 use Rattle.gsl_lower_law.specs.Values.{Keeps}
@@ -26,14 +26,14 @@ use Rattle.gsl_lower_follows.specs.Frames.{Frame, Global, Holder, Interface, Loc
 use Rattle.gsl_lower_follows.proofs.Holding.{found_among, holder_number}
 use Rattle.gsl_lower_frames.specs.Calling.{AreKnown, ArePassed}
 use Rattle.gsl_lower_frames.specs.Named.{HasId, number_at, number_in, seat_in}
-use Rattle.gsl_lower_frames.specs.Standing.{StandsIn, place_in}
+use Rattle.gsl_lower_frames.specs.Standing.{place_in}
 use Rattle.gsl_lower_frames.proofs.Calls.{known_seated, seat_below, seats_apart}
 use Rattle.gsl_lower_frames.proofs.Found.{code_found, code_short, label_found}
 use Rattle.gsl_lower_frames.proofs.Numbers.{At, seat_back, value_points}
 use Rattle.gsl_lower_frames.proofs.Starts.{variables_same}
 use Rattle.gsl_lower_frames.proofs.Texts.{begun_as, text_begun, valid_once}
 use Rattle.gsl_lower_law_returns.specs.Calling.{IsCalled, call_of, is_own, is_shared}
-use Rattle.gsl_lower_law_entered.specs.Modules.{AreShared, Declared, IsFrame, IsFunction, IsPlaced, Opens, PassCalls, variable_of}
+use Rattle.gsl_lower_law_entered.specs.Modules.{AreShared, Declared, IsFrame, IsFunction, variable_of}
 use Rattle.gsl_lower_law_entered.specs.Entering.{Argument, AreHeld}
 use Rattle.gsl_lower_law_entered.proofs.Given.{among_at, given_there, index_of_among, map_there, mapped, none_at, points_at, same_option}
 use Rattle.gsl_lower_law_entered.proofs.Lasting.{calls_pass}

@@ -1,18 +1,14 @@
 -- What a call gives lasts for no function.
-use Rattle.std.proofs.Common.{◌≡◌, sym, ap, ◌∙◌, subst, ℕ, List, Option, Some, None}
-use Rattle.std.specs.List.{Contains}
-use Rattle.gsl_words.specs.declared.module.Instr.{Instr}
+use Rattle.std.proofs.Common.{◌≡◌, sym, ap, ◌∙◌, subst, ℕ, List, Some, None}
 use Rattle.gsl_words.specs.declared.module.Module.{Module}
 use Rattle.gsl_valid.specs.CallRules.{takes}
-use Rattle.gsl_valid.specs.Ids.{result}
-use Rattle.gsl_valid.specs.Instruction.{read}
-use Rattle.gsl_valid.specs.Kinds.{Calls, Value as Fixed, Variable, constant_in, constant_is, kind, variable_in, variable_is}
-use Rattle.gsl_valid.specs.Placed.{Code, Placed, placed_from}
+use Rattle.gsl_valid.specs.Kinds.{Calls, constant_in, kind, variable_in}
+use Rattle.gsl_valid.specs.Placed.{Code, placed_from}
 use Rattle.gsl_valid.specs.Types.{defined_as}
 use Rattle.gsl_valid.specs.Valid.{Valid}
 use Rattle.gsl_machine.specs.Constants.{constant}
 use Rattle.gsl_machine.specs.Functions.{own_ids}
-use Rattle.gsl_machine.specs.Interfaces.{constant_held, globals, if_there}
+use Rattle.gsl_machine.specs.Interfaces.{globals, if_there}
 use Rattle.gsl_machine.specs.State.{Held, Whole}
 use Rattle.gsl_sound_code.proofs.Functions.{body_of}
 use Rattle.gsl_sound_code.proofs.Looks.{kept}

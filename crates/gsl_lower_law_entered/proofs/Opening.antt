@@ -1,16 +1,14 @@
 -- What the instructions do before the body of a function.
-use Rattle.std.proofs.Common.{◌≡◌, refl, sym, ap, ◌∙◌, ℕ, zero, suc, ◌+◌, false, List, [], ◌∷◌, ◌++◌, length, map, Option, Some, None, append_assoc, arith}
+use Rattle.std.proofs.Common.{◌≡◌, refl, sym, ap, ◌∙◌, ℕ, zero, suc, ◌+◌, false, List, [], ◌∷◌, ◌++◌, length, map, Some}
 use Rattle.std.specs.List.{AllByRecursion}
 use Rattle.std.specs.Prelude.{◌==◌, set, slice_get}
 use Rattle.std.proofs.lemmas.Bool.{cond-false}
-use Rattle.std.proofs.lemmas.List.{length-append, length-map}
 use Rattle.gsl_base.specs.declared.input.Input.{Input}
 use Rattle.gsl_instr.specs.Forms.{form_of}
 use Rattle.gsl_instr.specs.declared.op.TheConstants as op
 use Rattle.gsl_words.specs.Instructions.{word_count}
 use Rattle.gsl_words.specs.declared.module.Instr.{Instr}
 use Rattle.gsl_words.specs.declared.module.Module.{Module}
-use Rattle.gsl_values.specs.declared.value.Value.{Value}
 use Rattle.gsl_valid.specs.Placed.{Code, Placed, placed_from, words_from}
 use Rattle.gsl_machine.specs.Constants.{constant}
 use Rattle.gsl_machine.specs.Functions.{from_first_label}
@@ -19,7 +17,6 @@ use Rattle.gsl_machine.specs.Memory.{storing, with_variable}
 use Rattle.gsl_machine.specs.State.{Going, InVariable, Points, State, on, on_pointer}
 use Rattle.gsl_spv.specs.Declarations.{instr}
 use Rattle.gsl_lower_law.specs.Stretches.{Leads}
-use Rattle.gsl_lower_follows.proofs.Placing.{placed_join}
 use Rattle.gsl_lower_law_entered.specs.Modules.{Declared, declares}
 
 set_same : {A : Type 0} (l : List A) (k : ℕ) (a : A) → slice_get l k ≡ Some a → set l k a ≡ l

@@ -1,5 +1,5 @@
 -- What is passed to a function that is called, and where control is behind the call (GLSL 4.50, 6.1.1).
-use Rattle.std.specs.Prelude.{◌≡◌, ℕ, suc, ◌<◌, ◌≤◌, true, List, [], ◌∷◌, ◌++◌, length, map, slice_get, Some}
+use Rattle.std.specs.Prelude.{◌≡◌, ℕ, suc, ◌≤◌, List, [], map, slice_get, Some}
 use Rattle.gsl_base.specs.declared.input.Input.{Input}
 use Rattle.gsl_words.specs.declared.module.Module.{Module}
 use Rattle.gsl_values.specs.declared.value.Value.{Value}
@@ -11,7 +11,7 @@ use Rattle.gsl_valid.specs.Placed.{Code, Placed}
 use Rattle.gsl_machine.specs.State.{Going, InVariable, Points, State}
 use Rattle.gsl_spv.specs.Sections.{Sections}
 use Rattle.gsl_lower_holders.specs.Flow.{Flow}
-use Rattle.gsl_lower_follows.specs.Frames.{Frame, Good, HasType, Holder, Param, type_named}
+use Rattle.gsl_lower_follows.specs.Frames.{Frame, Good, Holder, Param}
 use Rattle.gsl_lower_follows.specs.Stretching.{Stretch}
 use Rattle.gsl_lower_law_returns.specs.Calling.{IsCalled}
 

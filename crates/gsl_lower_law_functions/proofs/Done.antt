@@ -1,5 +1,5 @@
 -- Functions, from a call to behind it.
-use Rattle.std.proofs.Common.{◌≡◌, refl, sym, ap, ◌∙◌, subst, ℕ, zero, suc, ◌+◌, inl, inr, ◌⊎◌, Bool, true, false, List, [], ◌∷◌, ◌++◌, length, Option, Some, None, append_assoc, arith}
+use Rattle.std.proofs.Common.{◌≡◌, refl, sym, ap, ◌∙◌, subst, ℕ, zero, suc, ◌+◌, inl, inr, ◌⊎◌, true, false, List, [], ◌∷◌, ◌++◌, length, Option, Some, None, append_assoc, arith}
 use Rattle.std.specs.List.{Contains}
 use Rattle.std.specs.Prelude.{slice_get}
 use Rattle.std.proofs.lemmas.List.Elements.{Contains-append_left, Contains-append_right}
@@ -9,21 +9,19 @@ use Rattle.gsl_instr.specs.declared.op.TheConstants as op
 use Rattle.gsl_types.specs.Known.{AreStructs, IsSound}
 use Rattle.gsl_types.specs.declared.ty.Ty.{Ty}
 use Rattle.gsl_types.specs.declared.ty.Ty.TheVariants.{Void}
-use Rattle.gsl_words.specs.declared.module.Instr.{Instr}
 use Rattle.gsl_words.specs.declared.module.Module.{Module}
 use Rattle.gsl_values.specs.declared.value.Value.{Value}
 use Rattle.gsl_tree.specs.Around.{Around}
 use Rattle.gsl_tree.specs.Values.{is_value_of}
 use Rattle.gsl_tree.specs.declared.program.Program.{Program}
 use Rattle.gsl_meaning.specs.Accesses.{nothing}
-use Rattle.gsl_meaning.specs.Expressions.{Called}
 use Rattle.gsl_meaning.specs.Running.{Run, spending}
 use Rattle.gsl_meaning.specs.Shader.{entered, left, result_of}
 use Rattle.gsl_meaning.specs.State as shader
 use Rattle.gsl_meaning.specs.Statements as statement
 use Rattle.gsl_valid.specs.Valid.{Valid}
 use Rattle.gsl_machine.specs.State.{State}
-use Rattle.gsl_spv.specs.Calls.{put, take}
+use Rattle.gsl_spv.specs.Calls.{put}
 use Rattle.gsl_spv.specs.Declarations.{instr}
 use Rattle.gsl_spv.specs.Sections.{Sections}
 use Rattle.gsl_spv.proofs.Contained.{first_in}
@@ -31,14 +29,14 @@ use Rattle.gsl_lower_law.specs.Values.{Stands}
 use Rattle.gsl_lower_holders.specs.Flow.{Emit, Flow, Gives, Lowered, giving_here}
 use Rattle.gsl_lower_holders.specs.declared.place.FlowPlace.{FlowPlace}
 use Rattle.gsl_lower_text.specs.Written.{Written}
-use Rattle.gsl_lower_follows.specs.Following.{Follows, Reaches}
-use Rattle.gsl_lower_follows.specs.Frames.{Frame, Good, HasType, Inside, Param, coming, type_of_param}
+use Rattle.gsl_lower_follows.specs.Following.{Follows}
+use Rattle.gsl_lower_follows.specs.Frames.{Frame, Good, HasType, Inside, coming, type_of_param}
 use Rattle.gsl_lower_follows.specs.Giving.{Does, IsGiven, none_waits}
 use Rattle.gsl_lower_follows.proofs.Behind.{follows_behind, follows_then}
 use Rattle.gsl_lower_follows.proofs.Stretches.{lasts_at_once}
 use Rattle.gsl_lower_law_returns.specs.Calling.{AreAlike, IsBack}
 use Rattle.gsl_lower_law_returns.proofs.Returned.{given_by, put_here, returned_back}
-use Rattle.gsl_lower_law_entered.specs.Modules.{AreShared, IsFrame, IsFunction, PassCalls}
+use Rattle.gsl_lower_law_entered.specs.Modules.{AreShared, IsFrame, IsFunction}
 use Rattle.gsl_lower_law_entered.specs.Entering.{Argument, AreHeld, HasEntered, ids_of, values_of}
 use Rattle.gsl_lower_law_entered.proofs.Called.{call_enters}
 use Rattle.gsl_lower_law_functions.specs.Bodies.{AtResult, DoesBody, IsResult}

@@ -1,5 +1,5 @@
 -- Bodies of functions up to the return.
-use Rattle.std.proofs.Common.{◌≡◌, ◌≢◌, refl, sym, ap, ◌∙◌, subst, ℕ, inl, inr, ◌⊎◌, Bool, true, false, List, [], ◌∷◌, Option, Some, None, arith}
+use Rattle.std.proofs.Common.{◌≡◌, ◌≢◌, refl, sym, ◌∙◌, subst, ℕ, inl, inr, ◌⊎◌, Bool, true, false, [], ◌∷◌}
 use Rattle.gsl_base.specs.declared.input.Input.{Input}
 use Rattle.gsl_instr.specs.declared.op.TheConstants as op
 use Rattle.gsl_types.specs.Structs.{numbered}
@@ -32,11 +32,11 @@ use Rattle.gsl_lower_values.specs.Building.{Full, Made, id_by}
 use Rattle.gsl_lower_law.specs.Computing.{Grows}
 use Rattle.gsl_lower_law.specs.Values.{Stands}
 use Rattle.gsl_lower_law.proofs.Adding.{extends_intern, extends_put}
-use Rattle.gsl_lower_holders.specs.Flow.{Emit, Flow, Gives, Lacks, Lowered, behind, flow_of, given, lift, putting_here, type_id, ◌>>=◌}
+use Rattle.gsl_lower_holders.specs.Flow.{Emit, Flow, Gives, Lacks, Lowered, behind, given, lift, putting_here, type_id, ◌>>=◌}
 use Rattle.gsl_lower_expr.specs.Calls.{zeros}
 use Rattle.gsl_lower_stmt.specs.declared.exits.Exits.{Exits}
 use Rattle.gsl_lower_follows.specs.Following.{Follows, Reaches}
-use Rattle.gsl_lower_follows.specs.Frames.{Frame, Good, Inside, coming}
+use Rattle.gsl_lower_follows.specs.Frames.{Frame, Good, coming}
 use Rattle.gsl_lower_follows.specs.Giving.{Adds, Does, Grown, GrownTo, HasGiven, none_waits}
 use Rattle.gsl_lower_follows.proofs.Behind.{reaches_behind}
 use Rattle.gsl_lower_follows.proofs.Fetching.{adds_type_id}

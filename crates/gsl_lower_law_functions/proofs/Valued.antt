@@ -1,6 +1,6 @@
 -- What has no parts is a value of no type.
-use Rattle.std.proofs.Common.{◌≡◌, refl, sym, ap, ◌∙◌, subst, inl, inr, ◌⊎◌, ℕ, zero, suc, ◌<◌, Bool, true, false, List, [], ◌∷◌, length, map, replicate, Some, IsTrue, arith}
-use Rattle.std.specs.Prelude.{◌&&◌, nat_le, nat_lt, slice_get}
+use Rattle.std.proofs.Common.{◌≡◌, sym, ap, ◌∙◌, inl, inr, ◌⊎◌, ℕ, zero, suc, ◌<◌, Bool, true, false, List, [], ◌∷◌, length, map, replicate, arith}
+use Rattle.std.specs.Prelude.{nat_le}
 use Rattle.std.proofs.lemmas.Bool.{and_parts, ltb-true}
 use Rattle.gsl_types.specs.Known.{AreStructs, IsSound, sound, sound_kind}
 use Rattle.gsl_types.specs.Structs.{numbered}
@@ -13,7 +13,7 @@ use Rattle.gsl_types.specs.declared.ty.Ty.TheVariants.{Void, rolls-Array, rolls-
 use Rattle.gsl_types.specs.declared.ty.Ty.TheViews.{out-Ty, roll-Ty, roll-out-Ty}
 use Rattle.gsl_types.proofs.Layers.{over_runtime}
 use Rattle.gsl_values.specs.declared.value.Value.{Value}
-use Rattle.gsl_values.specs.declared.value.Value.TheVariants.{Many, outs-Many}
+use Rattle.gsl_values.specs.declared.value.Value.TheVariants.{outs-Many}
 use Rattle.gsl_tree.specs.Expressions.{member_types}
 use Rattle.gsl_tree.specs.Values.{has_parts, has_parts_layer, is_scalar, is_scalar_layer, is_value_of, value_meaning}
 use Rattle.gsl_tree.proofs.Nodes.{value_of_array, value_of_one, value_of_vector}

@@ -1,5 +1,5 @@
 -- What it is for the body of a function, as it is lowered, to do what the body does up to the return (GLSL 4.50, 6.1 and 6.4).
-use Rattle.std.specs.Prelude.{◌≡◌, ℕ, ◌⊎◌, Bool, true, false, List, [], ◌∷◌, ◌++◌, Option, None}
+use Rattle.std.specs.Prelude.{◌≡◌, ℕ, ◌⊎◌, Bool, true, false, List, [], ◌∷◌, None}
 use Rattle.gsl_base.specs.declared.input.Input.{Input}
 use Rattle.gsl_instr.specs.declared.op.TheConstants as op
 use Rattle.gsl_types.specs.declared.ty.StructType.{StructType}

@@ -1,5 +1,5 @@
 -- What it is for a function of a module to do what a function of the program does, from a call of it to behind the call (GLSL 4.50, 6.1).
-use Rattle.std.specs.Prelude.{◌≡◌, ℕ, ◌⊎◌, Bool, false, List, [], ◌∷◌, ◌++◌, length, slice_get, Option, Some}
+use Rattle.std.specs.Prelude.{◌≡◌, ℕ, List, ◌∷◌, ◌++◌, length, slice_get, Option, Some}
 use Rattle.gsl_base.specs.declared.input.Input.{Input}
 use Rattle.gsl_instr.specs.declared.op.TheConstants as op
 use Rattle.gsl_types.specs.declared.ty.Direction.{Direction}
@@ -25,7 +25,7 @@ use Rattle.gsl_lower_follows.specs.Following.{Follows}
 use Rattle.gsl_lower_follows.specs.Frames.{Frame, Good, HasType, Inside, Kept, type_of_param}
 use Rattle.gsl_lower_follows.specs.Giving.{IsGiven}
 use Rattle.gsl_lower_law_returns.specs.Calling.{AreAlike}
-use Rattle.gsl_lower_law_entered.specs.Modules.{AreShared, IsFrame, IsFunction}
+use Rattle.gsl_lower_law_entered.specs.Modules.{AreShared, IsFrame}
 use Rattle.gsl_lower_law_entered.specs.Entering.{Argument, AreHeld, ids_of, values_of}
 
 -- a function's body on arguments, and its caller's variables again

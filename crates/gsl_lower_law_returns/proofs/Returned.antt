@@ -1,5 +1,5 @@
 -- The return of a function that was called.
-use Rattle.std.proofs.Common.{◌≡◌, refl, sym, ap, ◌∙◌, ℕ, suc, ◌+◌, ◌≤◌, subst, inl, inr, ◌⊎◌, Bool, true, false, List, [], ◌∷◌, length, take, Some, None, arith, if◌then◌else◌}
+use Rattle.std.proofs.Common.{◌≡◌, refl, sym, ap, ◌∙◌, ℕ, suc, ◌+◌, ◌≤◌, subst, inl, inr, ◌⊎◌, Bool, true, false, List, [], ◌∷◌, length, take, None, arith, if◌then◌else◌}
 use Rattle.std.specs.Prelude.{nat_le}
 use Rattle.gsl_base.specs.declared.input.Input.{Input}
 use Rattle.gsl_instr.specs.Forms.{form_of}
@@ -28,7 +28,7 @@ use Rattle.gsl_lower_follows.specs.Frames.{Frame, Good, Inside, coming}
 use Rattle.gsl_lower_follows.specs.Stretching.{room, room_behind}
 use Rattle.gsl_lower_follows.proofs.Stretches.{stretch_one}
 use Rattle.gsl_lower_law_stmt.specs.Doing.{AtReturn}
-use Rattle.gsl_lower_law_returns.specs.Calling.{AreAlike, IsBack, IsCalled, back_with, call_of}
+use Rattle.gsl_lower_law_returns.specs.Calling.{AreAlike, IsBack, IsCalled, call_of}
 use Rattle.gsl_lower_law_returns.proofs.Untouched.{holders_stay, holds_back, params_are, typed_back}
 
 -- what a builder holds behind an instruction with a new id

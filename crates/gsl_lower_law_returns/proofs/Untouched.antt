@@ -1,10 +1,9 @@
 -- Variables that a function which was called cannot change, and all its caller's variables behind the call.
-use Rattle.std.proofs.Common.{◌≡◌, ◌≢◌, refl, sym, ap, ◌∙◌, subst, ℕ, zero, suc, ◌+◌, ◌<◌, ◌≤◌, Bool, true, false, List, [], ◌∷◌, ◌++◌, length, take, Option, Some, None, arith}
+use Rattle.std.proofs.Common.{◌≡◌, ◌≢◌, refl, sym, ap, ◌∙◌, subst, ℕ, zero, suc, ◌+◌, ◌<◌, ◌≤◌, Bool, true, false, List, [], ◌∷◌, ◌++◌, length, take, Some, arith}
 use Rattle.std.specs.Prelude.{nat_lt, slice_get}
 use Rattle.std.proofs.lemmas.List.{length-append, length-take-le}
 use Rattle.std.proofs.lemmas.Option.{slice_get_past}
 use Rattle.gsl_base.specs.declared.input.Input.{Input}
-use Rattle.gsl_types.specs.declared.ty.Ty.{Ty}
 use Rattle.gsl_words.specs.declared.module.Module.{Module}
 use Rattle.gsl_values.specs.declared.value.Value.{Value}
 use Rattle.gsl_tree.specs.Around.{Around}
@@ -16,7 +15,7 @@ use Rattle.gsl_spv.specs.Sections.{Sections}
 use Rattle.gsl_lower_holders.specs.Flow.{Flow}
 use Rattle.gsl_lower_follows.specs.Frames.{AreTyped, Frame, Global, Good, HasType, Holder, Holds, Interface, Local, Name, Param, Stage, type_named, type_of_global, type_of_interface, value_if, value_of}
 use Rattle.gsl_lower_follows.proofs.Holding.{holder_number}
-use Rattle.gsl_lower_law_returns.specs.Calling.{AreAlike, IsCalled, back_with, call_of, is_own, is_shared}
+use Rattle.gsl_lower_law_returns.specs.Calling.{AreAlike, IsCalled, back_with, is_own, is_shared}
 
 -- ---- the first items of a list
 

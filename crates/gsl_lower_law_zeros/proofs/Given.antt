@@ -1,7 +1,6 @@
 -- Zeros as they are lowered.
-use Rattle.std.proofs.Common.{◌≡◌, refl, sym, ap, ◌∙◌, subst, inr, ℕ, Bool, true, false, List, [], ◌∷◌, length, replicate, Option, Some, None, if◌then◌else◌, arith}
+use Rattle.std.proofs.Common.{◌≡◌, refl, sym, ap, ◌∙◌, subst, inr, ℕ, Bool, true, false, List, length, replicate, Option, Some, None, if◌then◌else◌}
 use Rattle.std.specs.Prelude.{nat_le, ◌==◌, nat_eq}
-use Rattle.std.specs.List.{Contains}
 use Rattle.gsl_base.specs.declared.input.Input.{Input}
 use Rattle.gsl_types.specs.Known.{IsSound}
 use Rattle.gsl_types.specs.Structs.{numbered}
@@ -24,7 +23,6 @@ use Rattle.gsl_machine.specs.Constants.{zeros as module_zeros}
 use Rattle.gsl_machine.specs.State.{Ids, State}
 use Rattle.gsl_spv.specs.Calls as call
 use Rattle.gsl_spv.specs.Declarations as d
-use Rattle.gsl_spv.specs.Declarations.{defining}
 use Rattle.gsl_spv.specs.Sections.{Sections}
 use Rattle.gsl_spv.specs.declared.plain.PlainConst.TheVariants as of
 use Rattle.gsl_spv.specs.declared.plain.PlainType.TheVariants as plain
@@ -39,10 +37,10 @@ use Rattle.gsl_lower_law.specs.Values.{Stands}
 use Rattle.gsl_lower_law.proofs.Adding.{extends_intern}
 use Rattle.gsl_lower_law.proofs.Joining.{does_then as step_then, given_does}
 use Rattle.gsl_lower_law.proofs.Plain.{intern_does}
-use Rattle.gsl_lower_holders.specs.Flow.{Flow, Lowered, find_type, flow_of, id_at, lift, type_by, type_id, ◌>>=◌}
+use Rattle.gsl_lower_holders.specs.Flow.{Flow, find_type, flow_of, id_at, lift, type_by, type_id}
 use Rattle.gsl_lower_expr.specs.Calls.{zeros}
 use Rattle.gsl_lower_follows.specs.Frames.{Frame, Good, Local, coming}
-use Rattle.gsl_lower_follows.specs.Giving.{Adds, After, Does, GivesValue, Grown, HasGiven, none_waits}
+use Rattle.gsl_lower_follows.specs.Giving.{Adds, After, Does, GivesValue, HasGiven, none_waits}
 use Rattle.gsl_lower_follows.proofs.Behind.{reaches_here}
 use Rattle.gsl_lower_follows.proofs.Doing.{does_lift, does_then}
 use Rattle.gsl_lower_follows.proofs.Drawn.{after_drawn, choices_are, left_with}

@@ -1,5 +1,5 @@
 -- The zeros of a valid module.
-use Rattle.std.proofs.Common.{◌≡◌, refl, sym, ap, ◌∙◌, ℕ, Bool, true, false, List, [], ◌∷◌, Option, Some, None, replicate}
+use Rattle.std.proofs.Common.{◌≡◌, refl, sym, ap, ◌∙◌, ℕ, Bool, true, false, [], ◌∷◌, Some, replicate}
 use Rattle.std.specs.List.{Contains, list_all}
 use Rattle.std.proofs.lemmas.Bool.{and_parts, cond-false, cond-true, or_left, or_right}
 use Rattle.gsl_instr.specs.Forms.{form_of}
@@ -10,11 +10,11 @@ use Rattle.gsl_words.specs.declared.module.Module.{Module}
 use Rattle.gsl_values.specs.declared.value.Value.TheVariants.{Word, Many}
 use Rattle.gsl_valid.specs.Ids.{defined, defines, needs, result}
 use Rattle.gsl_valid.specs.Instruction.{read}
-use Rattle.gsl_valid.specs.Kinds.{Value as Fixed, Zeros, constant_is, shape_of}
+use Rattle.gsl_valid.specs.Kinds.{Zeros, constant_is, shape_of}
 use Rattle.gsl_valid.specs.Placed.{Code}
 use Rattle.gsl_valid.specs.Search.{passed}
 use Rattle.gsl_valid.specs.Valid.{Valid}
-use Rattle.gsl_machine.specs.Constants.{constant, constant_in, fixed_if, zeros, zeros_as, zeros_in}
+use Rattle.gsl_machine.specs.Constants.{constant, zeros, zeros_as, zeros_in}
 use Rattle.gsl_machine.specs.State.{Ids, Whole}
 use Rattle.gsl_sound_code.specs.Rules.{KeepAll}
 use Rattle.gsl_sound_code.proofs.Looks.{kept}
