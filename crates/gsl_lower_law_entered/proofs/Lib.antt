@@ -1,0 +1,6 @@
+pub mod Lasting
+pub mod Given
+pub mod Framed
+pub mod Opening
+pub mod Begun
+pub mod Called

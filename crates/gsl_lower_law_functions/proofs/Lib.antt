@@ -1,0 +1,4 @@
+pub mod Valued
+pub mod Ended
+pub mod Done
+pub mod Depths
