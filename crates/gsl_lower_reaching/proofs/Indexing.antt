@@ -54,7 +54,7 @@ use Rattle.gsl_lower_reaching.proofs.Seen.{parts_counted}
 use Rattle.gsl_lower_reaching.proofs.Deeper.{KnownBelow, component_inside, component_lost, component_outside, component_trail, longer_lost, next_chosen, rechosen, reworded}
 use Rattle.gsl_lower_reaching.proofs.Tables.{position_computes, position_grows, position_strays}
 
-none_shape : (base : Ty) → shape_of base ≡ None → (shape : Shape) → shape_of base ≡ Some shape → ⊥
+pub none_shape : (base : Ty) → shape_of base ≡ None → (shape : Shape) → shape_of base ≡ Some shape → ⊥
 none_shape base none shape some = let e : None ≡ Some shape = sym none ∙ some in cc
 
 module _ (m : Module) (input : Input) (sections : Sections) (f : Frame m input sections) (p : Program) (around : Around) where
@@ -69,7 +69,7 @@ module _ (m : Module) (input : Input) (sections : Sections) (f : Frame m input s
   with_picks lies b state r l q c x picks = record { begins = begins_swizzled m input sections f p around (λ id v. HeldAs m input sections f false id v b state) b.place.used state lies r.base r.path l (Some c) x.begins; numbers = x.numbers; picks = picks }
 
   -- behind a step that stores nothing and draws nothing
-  after_step : {A : Type 0} (Is : A → Ids → Type 0) (b : Flow) (s : shader.State) (state : State) (a : A) (after : Sections) → Good m input sections f p around b s state → Inside m input sections f after → (l : Lifted m input sections f p around Is (drawing state state.choices) b state a after)
+  pub after_step : {A : Type 0} (Is : A → Ids → Type 0) (b : Flow) (s : shader.State) (state : State) (a : A) (after : Sections) → Good m input sections f p around b s state → Inside m input sections f after → (l : Lifted m input sections f p around Is (drawing state state.choices) b state a after)
       → After m input sections f p around false b state (flow_of after b.place) s (record (leaving state (drawing state state.choices) l.ids) { rest = coming m input sections f after })
   after_step Is b s state a after good inside l =
       subst (λ t. After m input sections f p around false b state (flow_of after b.place) t (record (leaving state (drawing state state.choices) l.ids) { rest = coming m input sections f after })) (ap (left_with s) good.holds.choices)

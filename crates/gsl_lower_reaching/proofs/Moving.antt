@@ -86,7 +86,7 @@ module _ (m : Module) (input : Input) (whole : Sections) (f : Frame m input whol
   pub begins_so : (one other : At) (few more : ℕ) (state last : State) (loose : Bool) (base : Base) (parts : List Part) (l : Trail) → ((id : ℕ) (v : Value) → one id v → other id v)
       → ((id : ℕ) (v : Value) → Waits m input whole f few id v state → Waits m input whole f more id v last)
       → Begins m input whole f p around one few state loose base parts l → Begins m input whole f p around other more last loose base parts l
-  begins_so one other few more state last loose base parts l so waits (variable x) = variable (record { name = x.name; id = x.id; class = x.class; number = x.number; is = x.is; outside = x.outside; begins = x.begins; none = x.none; seat = x.seat; points = x.points; typed = x.typed })
+  begins_so one other few more state last loose base parts l so waits (variable x) = variable (record { name = x.name; id = x.id; class = x.class; number = x.number; is = x.is; marked = x.marked; outside = x.outside; begins = x.begins; none = x.none; seat = x.seat; points = x.points; typed = x.typed })
   begins_so one other few more state last loose base parts l so waits (value x) = value (record { id = x.id; type_id = x.type_id; value = x.value; is = x.is; marked = x.marked; fixed = x.fixed; begins = x.begins; none = x.none; stands = so x.id _ x.stands; typed = x.typed; has = x.has })
   begins_so one other few more state last loose base parts l so waits (holder x) = holder (record { id = x.id; value = x.value; is = x.is; begins = x.begins; waits = waits x.id _ x.waits; typed = x.typed })
 

@@ -200,14 +200,14 @@ module _ (structs : List StructType) (writes written : Bool) (base t : Ty) (shap
 module _ (m : Module) (input : Input) (sections : Sections) (f : Frame m input sections) (p : Program) (around : Around) where
   pub begins_longer : (at : At) (count : ℕ) (state : State) (loose : Bool) (base : Base) (parts : List Part) (l : Trail) (part : Part) (k : ℕ) → (loose ≡ true → (number : ℕ) × (part ≡ Fixed number))
       → ((x : AtValue m input sections f p around at loose base parts l) → HasPart x.value (l.words ++ k ∷ [])) → Begins m input sections f p around at count state loose base parts l → Begins m input sections f p around at count state loose base (parts ++ part ∷ []) (longer l k)
-  begins_longer at count state loose base parts l part k fixed more (variable x) = variable (record { name = x.name; id = x.id; class = x.class; number = x.number; is = x.is; outside = x.outside; begins = x.begins; none = x.none; seat = x.seat; points = x.points; typed = x.typed })
+  begins_longer at count state loose base parts l part k fixed more (variable x) = variable (record { name = x.name; id = x.id; class = x.class; number = x.number; is = x.is; marked = x.marked; outside = x.outside; begins = x.begins; none = x.none; seat = x.seat; points = x.points; typed = x.typed })
   begins_longer at count state loose base parts l part k fixed more (value x) =
       let known = fixed x.marked in
       value (record { id = x.id; type_id = x.type_id; value = x.value; is = x.is; marked = x.marked; fixed = subst (λ one. AllByRecursion IsFixed (parts ++ one ∷ [])) (sym known.1) (fixed_longer parts known.0 x.fixed); begins = x.begins; none = x.none; stands = x.stands; typed = x.typed; has = more x })
   begins_longer at count state loose base parts l part k fixed more (holder x) = holder (record { id = x.id; value = x.value; is = x.is; begins = x.begins; waits = x.waits; typed = x.typed })
 
   pub begins_swizzled : (at : At) (count : ℕ) (state : State) (loose : Bool) (base : Base) (parts : List Part) (l : Trail) (picks : Option Chosen) → Begins m input sections f p around at count state loose base parts l → Begins m input sections f p around at count state loose base parts (record l { picks = picks })
-  begins_swizzled at count state loose base parts l picks (variable x) = variable (record { name = x.name; id = x.id; class = x.class; number = x.number; is = x.is; outside = x.outside; begins = x.begins; none = x.none; seat = x.seat; points = x.points; typed = x.typed })
+  begins_swizzled at count state loose base parts l picks (variable x) = variable (record { name = x.name; id = x.id; class = x.class; number = x.number; is = x.is; marked = x.marked; outside = x.outside; begins = x.begins; none = x.none; seat = x.seat; points = x.points; typed = x.typed })
   begins_swizzled at count state loose base parts l picks (value x) = value (record { id = x.id; type_id = x.type_id; value = x.value; is = x.is; marked = x.marked; fixed = x.fixed; begins = x.begins; none = x.none; stands = x.stands; typed = x.typed; has = x.has })
   begins_swizzled at count state loose base parts l picks (holder x) = holder (record { id = x.id; value = x.value; is = x.is; begins = x.begins; waits = x.waits; typed = x.typed })
 

@@ -91,7 +91,7 @@ module _ (m : Module) (input : Input) (sections : Sections) (f : Frame m input s
               (record {
                 trail = named_trail;
                 is = record {
-                  begins = variable (record { name = name; id = id; class = class; number = seated.0; is = refl; outside = outside; begins = begins; none = refl; seat = seated.1; points = seated.2; typed = known.typed });
+                  begins = variable (record { name = name; id = id; class = class; number = seated.0; is = refl; marked = refl; outside = outside; begins = begins; none = refl; seat = seated.1; points = seated.2; typed = known.typed });
                   numbers = tt;
                   picks = tt;
                 };

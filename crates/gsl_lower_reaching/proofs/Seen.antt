@@ -53,16 +53,16 @@ root_named stages s (Holder number) root v e is = absurd cc
 
 module _ (m : Module) (input : Input) (sections : Sections) (f : Frame m input sections) (p : Program) (around : Around) where
   -- The value of a variable at which a trail begins.
-  pub record HasValue (s : shader.State) (base : Base) (l : Trail) (x : AtVariable m input sections f p around base l) : Type 0 where
+  pub record HasValue (s : shader.State) (loose : Bool) (base : Base) (l : Trail) (x : AtVariable m input sections f p around loose base l) : Type 0 where
     pub v : Value
     pub is : value_of f.stages s x.name ≡ Some v
     pub root : root_value l.root s ≡ v
     pub typed : is_value_of p.structs l.ty v ≡ true
 
-  pub has_value : (b : Flow) (s : shader.State) (state : State) (base : Base) (l : Trail) (x : AtVariable m input sections f p around base l) → Good m input sections f p around b s state → HasValue s base l x
-  has_value b s state base l x good = by (value_of f.stages s x.name) refl (subst (λ o. HasType m input sections f p around o (value_of f.stages s x.name)) x.typed (good.typed.each x.name))
+  pub has_value : (b : Flow) (s : shader.State) (state : State) (loose : Bool) (base : Base) (l : Trail) (x : AtVariable m input sections f p around loose base l) → Good m input sections f p around b s state → HasValue s loose base l x
+  has_value b s state loose base l x good = by (value_of f.stages s x.name) refl (subst (λ o. HasType m input sections f p around o (value_of f.stages s x.name)) x.typed (good.typed.each x.name))
     where
-      by : (o : Option Value) → value_of f.stages s x.name ≡ o → HasType m input sections f p around (Some l.ty) o → HasValue s base l x
+      by : (o : Option Value) → value_of f.stages s x.name ≡ o → HasType m input sections f p around (Some l.ty) o → HasValue s loose base l x
       by None e has = absurd has
       by (Some v) e has = record { v = v; is = e; root = root_named f.stages s x.name l.root v x.begins e; typed = has }
 
@@ -70,7 +70,7 @@ module _ (m : Module) (input : Input) (sections : Sections) (f : Frame m input s
   pub begins_typed : (at : At) (count : ℕ) (b : Flow) (s : shader.State) (state last : State) (loose : Bool) (base : Base) (parts : List Part) (l : Trail) → Good m input sections f p around b s state → Begins m input sections f p around at count last loose base parts l
       → is_value_of p.structs l.ty (value_at (root_value l.root s) l.front) ≡ true
   begins_typed at count b s state last loose base parts l good (variable x) =
-      let has = has_value b s state base l x good in
+      let has = has_value b s state loose base l x good in
       ap (λ front. is_value_of p.structs l.ty (value_at (root_value l.root s) front)) x.none ∙ ap (is_value_of p.structs l.ty) has.root ∙ has.typed
   begins_typed at count b s state last loose base parts l good (value x) =
       ap (λ front. is_value_of p.structs l.ty (value_at (root_value l.root s) front)) x.none ∙ ap (λ root. is_value_of p.structs l.ty (root_value root s)) x.begins ∙ x.typed

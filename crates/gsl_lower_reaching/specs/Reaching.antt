@@ -79,12 +79,13 @@ IsFixed (By s id) = ⊥
 
 module _ (m : Module) (input : Input) (whole : Sections) (f : Frame m input whole) (p : Program) (around : Around) where
   -- at the variable of a name, which is in no block
-  pub record AtVariable (base : Base) (l : Trail) : Type 0 where
+  pub record AtVariable (loose : Bool) (base : Base) (l : Trail) : Type 0 where
     pub name : Name
     pub id : ℕ
     pub class : ℕ
     pub number : ℕ
     pub is : base ≡ Variable id class
+    pub marked : loose ≡ false
     pub outside : is_block_class class ≡ false
     pub begins : root_of name ≡ Some l.root
     pub none : l.front ≡ []
@@ -116,11 +117,11 @@ module _ (m : Module) (input : Input) (whole : Sections) (f : Frame m input whol
     pub typed : is_value_of p.structs l.ty (value_at value l.front) ≡ true
 
   pub data Begins (at : At) (count : ℕ) (state : State) (loose : Bool) (base : Base) (parts : List Part) (l : Trail) : Type 0 where
-    variable : AtVariable base l → Begins at count state loose base parts l
+    variable : AtVariable loose base l → Begins at count state loose base parts l
     value : AtValue at loose base parts l → Begins at count state loose base parts l
     holder : AtHolder count state base l → Begins at count state loose base parts l
 
-  -- Ids are of a trail, or wait to be so. Where it is not loose, it begins at a variable.
+  -- Ids are of a trail, or wait to be so. What is loose begins at a value, or at a holder with a part of one, and what is not at a variable.
   pub record IsTrail (waits loose : Bool) (b : Flow) (state : State) (r : Reached) (l : Trail) : Type 0 where
     pub begins : Begins (λ id v. HeldAs m input whole f waits id v b state) b.place.used state loose r.base r.path l
     pub numbers : NumberEachBy (λ id v. HeldAs m input whole f waits id v b state) r.path l.words

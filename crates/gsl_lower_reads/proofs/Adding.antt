@@ -92,7 +92,7 @@ module _ (m : Module) (input : Input) (whole : Sections) where
       by true = always_scalar id class p.shape.0 p.positions parts
       by false = by_part p.by
 
-  always_extracted : (id type : ℕ) (parts : List Part) → Always (extracted id type parts)
+  pub always_extracted : (id type : ℕ) (parts : List Part) → Always (extracted id type parts)
   always_extracted id type parts before = extracted_grows m input whole id type parts no_state before
 
   always_extracted_shape : (id : ℕ) (shape : Shape) (parts : List Part) → Always (extracted_shape id shape parts)
@@ -139,7 +139,7 @@ module _ (m : Module) (input : Input) (whole : Sections) where
 
   pub always_each : (step : Leaf → Step (Unit {0})) (leaves : List Leaf) → ((one : Leaf) → Always (step one)) → Always (each step leaves)
   unfolding each
-  always_each step [] p = always_given m input whole tt
+  always_each step [] p = always_given m input whole {A = Unit {0}} tt
   always_each step (one ∷ more) p = always_then m input whole (step one) (λ done. each step more) (p one) (λ done. always_each step more p)
 
   always_out : (block class : ℕ) (parts : List Part) (variable : ℕ) (one : Leaf) → Always (copied_out block class parts variable one)

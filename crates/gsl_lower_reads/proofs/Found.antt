@@ -29,7 +29,8 @@ use Rattle.gsl_spv.specs.Sections.{Sections}
 use Rattle.gsl_lower_places.specs.declared.reached.Base.{Base}
 use Rattle.gsl_lower_places.specs.declared.reached.Part.{Part}
 use Rattle.gsl_lower_law.specs.Values.{AreWords, IsOf}
-use Rattle.gsl_lower_law_constructors.proofs.Shares.{components_of, words_in}
+use Rattle.gsl_lower_law.proofs.Components.{components_of}
+use Rattle.gsl_lower_law_constructors.proofs.Shares.{words_in}
 use Rattle.gsl_lower_law_places.specs.Components.{AreWithin, chosen, picks_of}
 use Rattle.gsl_lower_law_places.proofs.Reading.{mapped_length}
 use Rattle.gsl_lower_law_places.proofs.Variables.{parts_are, value_on}

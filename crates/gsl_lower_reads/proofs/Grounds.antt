@@ -70,7 +70,7 @@ module _ (m : Module) (input : Input) (sections : Sections) (f : Frame m input s
   pub grounds : (b : Flow) (s : shader.State) (state : State) (loose : Bool) (base : Base) (parts : List Part) (l : Trail) → Good m input sections f p around b s state
       → Begins m input sections f p around (λ id v. HeldAs m input sections f false id v b state) b.place.used state loose base parts l → InPlace s state base l ⊎ InValue s state base parts l
   grounds b s state loose base parts l good (variable x) =
-      let has = has_value m input sections f p around b s state base l x good in
+      let has = has_value m input sections f p around b s state loose base l x good in
       let there = good.holds.values x.name has.v has.is in
       inl (record {
         id = x.id;
