@@ -32,22 +32,22 @@ use Rattle.gsl_lower_reaching.proofs.Moving.{begins_so, chooses_so, number_so, n
 module _ (emit_base : Base → Emit Base) (emit_part : Part → Emit Part) (adds_base : (base : Base) → Adds (emit_base base)) (adds_part : (part : Part) → Adds (emit_part part)) where
   adds_each : (parts : List Part) → Adds (each emit_part parts)
   unfolding each
-  adds_each [] = adds_given []
+  adds_each [] = adds_given {A = List Part} []
   adds_each (part ∷ parts) = adds_then (emit_part part) (λ one. each emit_part parts >>= (λ more. given (one ∷ more))) (adds_part part) (λ one. adds_then (each emit_part parts) (λ more. given (one ∷ more)) (adds_each parts) (λ more. adds_given (one ∷ more)))
 
   adds_by : (o : Option Part) → Adds (picked_by emit_part o)
-  adds_by None = adds_given None
+  adds_by None = adds_given {A = Option Part} None
   adds_by (Some part) = adds_then (emit_part part) (λ one. given (Some one)) (adds_part part) (λ one. adds_given (Some one))
 
   adds_picked : (o : Option Picked) → Adds (in_picked emit_part o)
-  adds_picked None = adds_given None
+  adds_picked None = adds_given {A = Option Picked} None
   adds_picked (Some q) = adds_then (picked_by emit_part q.by) (λ by. given (Some (record q { by = by }))) (adds_by q.by) (λ by. adds_given (Some (record q { by = by })))
 
   pub adds_reached : (r : Reached) → Adds (in_reached emit_base emit_part r)
   adds_reached r =
       adds_then (emit_base r.base) (λ base. each emit_part r.path >>= (λ path. in_picked emit_part r.picked >>= (λ picked. given (record { base = base; path = path; picked = picked })))) (adds_base r.base)
       (λ base. adds_then (each emit_part r.path) (λ path. in_picked emit_part r.picked >>= (λ picked. given (record { base = base; path = path; picked = picked }))) (adds_each r.path)
-      (λ path. adds_then (in_picked emit_part r.picked) (λ picked. given (record { base = base; path = path; picked = picked })) (adds_picked r.picked) (λ picked. adds_given (record { base = base; path = path; picked = picked }))))
+      (λ path. adds_then (in_picked emit_part r.picked) (λ picked. given (record { base = base; path = path; picked = picked })) (adds_picked r.picked) (λ picked. adds_given {A = Reached} (record { base = base; path = path; picked = picked }))))
 
 module _ (m : Module) (input : Input) (sections : Sections) (f : Frame m input sections) (p : Program) (around : Around) where
   -- Something was made in this block, of which this is so, and the shader is where it was.
@@ -168,14 +168,14 @@ module _ (m : Module) (input : Input) (sections : Sections) (f : Frame m input s
         moves_reached r l units b state good x =
             made_then (IsBase r.path l) (IsMoved l) units b state (emit_base r.base) (λ base. each emit_part r.path >>= (λ path. in_picked emit_part r.picked >>= (λ picked. given (record { base = base; path = path; picked = picked })))) good (adds_base r.base)
             (λ base. adds_then (each emit_part r.path) (λ path. in_picked emit_part r.picked >>= (λ picked. given (record { base = base; path = path; picked = picked }))) (adds_each emit_base emit_part adds_base adds_part r.path)
-            (λ path. adds_then (in_picked emit_part r.picked) (λ picked. given (record { base = base; path = path; picked = picked })) (adds_picked emit_base emit_part adds_base adds_part r.picked) (λ picked. adds_given (record { base = base; path = path; picked = picked }))))
+            (λ path. adds_then (in_picked emit_part r.picked) (λ picked. given (record { base = base; path = path; picked = picked })) (adds_picked emit_base emit_part adds_base adds_part r.picked) (λ picked. adds_given {A = Reached} (record { base = base; path = path; picked = picked }))))
             (moves_base r.base r.path l units b state good x.begins)
             (λ base b1 s1 u1 g1 after1 y1.
             made_then (AreParts r.path l.words) (IsMoved l) u1 b1 s1 (each emit_part r.path) (λ path. in_picked emit_part r.picked >>= (λ picked. given (record { base = base; path = path; picked = picked }))) after1.good (adds_each emit_base emit_part adds_base adds_part r.path)
-            (λ path. adds_then (in_picked emit_part r.picked) (λ picked. given (record { base = base; path = path; picked = picked })) (adds_picked emit_base emit_part adds_base adds_part r.picked) (λ picked. adds_given (record { base = base; path = path; picked = picked })))
+            (λ path. adds_then (in_picked emit_part r.picked) (λ picked. given (record { base = base; path = path; picked = picked })) (adds_picked emit_base emit_part adds_base adds_part r.picked) (λ picked. adds_given {A = Reached} (record { base = base; path = path; picked = picked })))
             (moves_each r.path l.words u1 b1 s1 after1.good (numbers_so (Old b state) (Old b1 s1) (old_after b b1 state s1 g1 after1) r.path l.words x.numbers))
             (λ path b2 s2 u2 g2 after2 y2.
-            made_then (ArePicks l.picks) (IsMoved l) u2 b2 s2 (in_picked emit_part r.picked) (λ picked. given (record { base = base; path = path; picked = picked })) after2.good (adds_picked emit_base emit_part adds_base adds_part r.picked) (λ picked. adds_given (record { base = base; path = path; picked = picked }))
+            made_then (ArePicks l.picks) (IsMoved l) u2 b2 s2 (in_picked emit_part r.picked) (λ picked. given (record { base = base; path = path; picked = picked })) after2.good (adds_picked emit_base emit_part adds_base adds_part r.picked) (λ picked. adds_given {A = Reached} (record { base = base; path = path; picked = picked }))
             (moves_picked r.picked l.picks u2 b2 s2 after2.good (picks_so (Old b1 s1) (Old b2 s2) (old_after b1 b2 s1 s2 g2 after2) r.picked l.picks (picks_so (Old b state) (Old b1 s1) (old_after b b1 state s1 g1 after1) r.picked l.picks x.picks)))
             (λ picked b3 s3 u3 g3 after3 y3.
             made_here (IsMoved l) u3 b3 s3 (record { base = base; path = path; picked = picked }) after3.good
