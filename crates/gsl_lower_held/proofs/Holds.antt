@@ -1,5 +1,5 @@
 -- What was reached waits in holders, and is there again.
-use Rattle.std.proofs.Common.{◌≡◌, refl, sym, subst, ℕ, Bool, true, false, List, Option, Some, None}
+use Rattle.std.proofs.Common.{refl, sym, subst, ℕ, Bool, true, false, List}
 use Rattle.gsl_base.specs.declared.input.Input.{Input}
 use Rattle.gsl_instr.specs.declared.enumerant.storage_class.TheConstants as storage_class
 use Rattle.gsl_types.specs.declared.ty.Scalar.{Scalar}
@@ -29,7 +29,7 @@ use Rattle.gsl_lower_follows.proofs.Fetching.{adds_keep, adds_take_back, no_stat
 use Rattle.gsl_lower_follows.proofs.Growing.{adds_given, adds_lift, adds_then}
 use Rattle.gsl_lower_follows.proofs.Holding.{NowWaits, Unchanged, after_any, does_keep, does_so, does_take_back, held_after}
 use Rattle.gsl_lower_law_expr.proofs.Short.{does_change}
-use Rattle.gsl_lower_reaching.specs.Reaching.{Begins, IsFixed, IsTrail, NumberBy}
+use Rattle.gsl_lower_reaching.specs.Reaching.{Begins, IsTrail, NumberBy}
 use Rattle.gsl_lower_reaching.specs.Reaching.Begins.{variable, value, holder}
 use Rattle.gsl_lower_reaching.specs.Trails.{Trail}
 use Rattle.gsl_lower_held.specs.Waiting.{IsKept}

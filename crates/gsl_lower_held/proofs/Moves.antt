@@ -1,5 +1,5 @@
 -- What was reached is kept in holders, and taken back: the ids in it one by one.
-use Rattle.std.proofs.Common.{◌≡◌, refl, sym, ap, ◌∙◌, subst, ℕ, Bool, true, false, ◌||◌, List, [], ◌∷◌, Option, Some, None}
+use Rattle.std.proofs.Common.{◌≡◌, refl, sym, subst, ℕ, Bool, false, List, [], ◌∷◌, Option, Some, None}
 use Rattle.std.specs.List.{AllByRecursion}
 use Rattle.gsl_base.specs.declared.input.Input.{Input}
 use Rattle.gsl_words.specs.declared.module.Module.{Module}
@@ -16,8 +16,8 @@ use Rattle.gsl_lower_places.specs.declared.reached.Picked.{Picked}
 use Rattle.gsl_lower_places.specs.declared.reached.Reached.{Reached}
 use Rattle.gsl_lower_holders.specs.Flow.{Emit, Flow, Gives, Lowered, each, given, ◌>>=◌}
 use Rattle.gsl_lower_holders.specs.Waiting.{in_picked, in_reached, picked_by}
-use Rattle.gsl_lower_follows.specs.Frames.{Frame, Good, HeldAs, Waits}
-use Rattle.gsl_lower_follows.specs.Giving.{Adds, After, Does, Grown, GrownTo, none_waits}
+use Rattle.gsl_lower_follows.specs.Frames.{Frame, Good, HeldAs}
+use Rattle.gsl_lower_follows.specs.Giving.{Adds, After, Does, Grown, none_waits}
 use Rattle.gsl_lower_follows.proofs.Behind.{reaches_here}
 use Rattle.gsl_lower_follows.proofs.Doing.{does_then}
 use Rattle.gsl_lower_follows.proofs.Growing.{adds_given, adds_then}
@@ -25,7 +25,7 @@ use Rattle.gsl_lower_follows.proofs.Holding.{after_any, after_same, after_then, 
 use Rattle.gsl_lower_reaching.specs.Reaching.{At, Begins, ChoosesBy, IsFixed, IsTrail, NumberBy, NumberEachBy, PicksBy}
 use Rattle.gsl_lower_reaching.specs.Reaching.Begins.{variable, value, holder}
 use Rattle.gsl_lower_reaching.specs.Trails.{Chosen, Trail}
-use Rattle.gsl_lower_reaching.proofs.Moving.{begins_so, chooses_so, number_so, numbers_so, picks_so}
+use Rattle.gsl_lower_reaching.proofs.Moving.{begins_so, number_so, numbers_so, picks_so}
 
 -- ---- what only adds
 

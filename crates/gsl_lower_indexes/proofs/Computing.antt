@@ -1,5 +1,5 @@
 -- Indexes that are computed.
-use Rattle.std.proofs.Common.{◌≡◌, ◌≢◌, refl, sym, ap, ◌∙◌, subst, ℕ, Bool, true, false, not, ◌&&◌, ◌||◌, length, Option, Some, None}
+use Rattle.std.proofs.Common.{◌≡◌, ◌≢◌, refl, sym, ap, ◌∙◌, subst, ℕ, Bool, true, false, not, ◌&&◌, ◌||◌, Option, Some, None}
 use Rattle.std.proofs.lemmas.Bool.{and_parts}
 use Rattle.gsl_base.specs.declared.input.Input.{Input}
 use Rattle.gsl_instr.specs.declared.enumerant.storage_class.TheConstants as storage_class
@@ -13,22 +13,21 @@ use Rattle.gsl_tree.specs.Shapes.{Shape, shape_of}
 use Rattle.gsl_tree.specs.Values.{word_in}
 use Rattle.gsl_tree.specs.declared.program.Program.{Program}
 use Rattle.gsl_meaning.specs.Accesses.{Access}
-use Rattle.gsl_meaning.specs.Running.{Got, Ran, Run, Strays, indexing}
+use Rattle.gsl_meaning.specs.Running.{Got, Run, Strays, indexing}
 use Rattle.gsl_meaning.specs.Running as shader_run
 use Rattle.gsl_meaning.specs.State as shader
 use Rattle.gsl_machine.specs.State.{State}
 use Rattle.gsl_spv.specs.Sections.{Sections}
 use Rattle.gsl_lower_places.specs.Reached.{whole}
 use Rattle.gsl_lower_places.specs.declared.reached.Base.TheVariants.{Variable}
-use Rattle.gsl_lower_places.specs.declared.reached.Part.{Part}
 use Rattle.gsl_lower_places.specs.declared.reached.Part.TheVariants.{By}
 use Rattle.gsl_lower_places.specs.declared.reached.Reached.{Reached}
 use Rattle.gsl_lower_traits.specs.Traits.{has_shape, is_dynamic, is_plain}
-use Rattle.gsl_lower_holders.specs.Flow.{Emit, Flow, Lowered, behind, given, lift, ◌>>=◌}
+use Rattle.gsl_lower_holders.specs.Flow.{Emit, Flow, behind, given, lift, ◌>>=◌}
 use Rattle.gsl_lower_holders.specs.Waiting.{fetch_reached, hold_reached, keep}
 use Rattle.gsl_lower_expr.specs.Parts.{Lower, after_index, before_index, index_by, indexed, known_of, probe, reads, scalar_of, spilled, step_into}
 use Rattle.gsl_lower_follows.specs.Frames.{Frame, Good}
-use Rattle.gsl_lower_follows.specs.Giving.{Adds, After, Does, GivesValue, Grown, GrownTo, HasGiven, none_waits}
+use Rattle.gsl_lower_follows.specs.Giving.{Adds, After, Does, GivesValue, GrownTo, none_waits}
 use Rattle.gsl_lower_follows.proofs.Doing.{does_then}
 use Rattle.gsl_lower_follows.proofs.Fetching.{adds_keep}
 use Rattle.gsl_lower_follows.proofs.Growing.{adds_given, adds_then}
@@ -44,7 +43,7 @@ use Rattle.gsl_lower_reads.proofs.Adding.{adds_reads}
 use Rattle.gsl_lower_reads.proofs.Straying.{read_strays}
 use Rattle.gsl_lower_indexes.specs.Computed.{IsComputed}
 use Rattle.gsl_lower_indexes.proofs.Spilling.{IsReady, MaySpill, adds_spilled, loose_then, spilled_in}
-use Rattle.gsl_lower_indexes.proofs.Stages.{adds_kept, behind_after, behind_index, behind_kept, kept_in, kept_out}
+use Rattle.gsl_lower_indexes.proofs.Stages.{adds_kept, behind_after, behind_kept, kept_in, kept_out}
 
 module _ (m : Module) (input : Input) (sections : Sections) (f : Frame m input sections) (p : Program) (around : Around) (are : AreStructs p.structs) where
   module _ (spill lies writes : Bool) (base t : Ty) (is : Indexes p base t) (real_base : base ≢ Void) (may : MaySpill m input sections f p around are writes base is.sound spill lies) (fast : shape_of base ≡ None → loose_then m input sections f p around are writes base is.sound spill lies ≡ false) (i : Lower) (y : Run Value) (real : i.ty ≢ Void) (known : IsComputed i y)
@@ -218,7 +217,7 @@ module _ (m : Module) (input : Input) (sections : Sections) (f : Frame m input s
     pub computed_place : GivesPlace m input sections f p around splits a.traits.is_loose writes a.ty a.reach run → GivesPlace m input sections f p around (splits || i.traits.splits) (a.traits.is_loose && not spill_of) writes t (indexed p.structs a i) (indexed_means run y)
     computed_place leads =
         let all = place_then m input sections f p around splits i.traits.splits a.traits.is_loose (loose_then m input sections f p around are writes a.ty is.sound spill_of a.traits.is_loose) writes a.ty t a.reach run next_all (λ x. shader_run.◌>>=◌ y (λ v. indexing x (word_in v))) leads
-            (goes_on spill_of a.traits.is_loose writes a.ty t is real_base may fast i y real known gives splits a.reach run) in
+        (goes_on spill_of a.traits.is_loose writes a.ty t is real_base may fast i y real known gives splits a.reach run) in
         subst (λ c. GivesPlace m input sections f p around (splits || i.traits.splits) c writes t (indexed p.structs a i) (indexed_means run y)) loose_is
         (record {
           adds = λ b. subst (GrownTo b) (sym (joined b)) (all.adds b);

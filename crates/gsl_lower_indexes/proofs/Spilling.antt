@@ -1,5 +1,5 @@
 -- An array in no variable is put into a holder before an index into it is computed.
-use Rattle.std.proofs.Common.{◌≡◌, ◌≢◌, refl, sym, ap, ◌∙◌, subst, ℕ, Bool, true, false, ◌||◌, List, [], ◌∷◌, ◌++◌, length, Option, Some, None, append-nil}
+use Rattle.std.proofs.Common.{◌≡◌, ◌≢◌, refl, sym, ap, ◌∙◌, subst, ℕ, Bool, true, false, [], ◌++◌, length, None, append-nil}
 use Rattle.gsl_base.specs.declared.input.Input.{Input}
 use Rattle.gsl_instr.specs.declared.enumerant.storage_class.TheConstants as storage_class
 use Rattle.gsl_types.specs.Known.{AreStructs, IsSound}
@@ -9,38 +9,37 @@ use Rattle.gsl_words.specs.declared.module.Module.{Module}
 use Rattle.gsl_values.specs.declared.value.Value.{Value}
 use Rattle.gsl_tree.specs.Around.{Around}
 use Rattle.gsl_tree.specs.Operations.{value_at}
-use Rattle.gsl_tree.specs.Shapes.{Shape, shape_of}
+use Rattle.gsl_tree.specs.Shapes.{shape_of}
 use Rattle.gsl_tree.specs.Values.{is_value_of}
 use Rattle.gsl_tree.specs.declared.program.Program.{Program}
 use Rattle.gsl_meaning.specs.Accesses as access
 use Rattle.gsl_meaning.specs.Accesses.{Access, read, root_value}
-use Rattle.gsl_meaning.specs.Running.{Got, Ran, Strays}
+use Rattle.gsl_meaning.specs.Running.{Got}
 use Rattle.gsl_meaning.specs.State as shader
 use Rattle.gsl_machine.specs.State.{State}
 use Rattle.gsl_spv.specs.Sections.{Sections}
 use Rattle.gsl_lower_places.specs.Reached.{whole}
 use Rattle.gsl_lower_places.specs.declared.reached.Base.TheVariants.{Variable}
 use Rattle.gsl_lower_places.specs.declared.reached.Reached.{Reached}
-use Rattle.gsl_lower_holders.specs.Flow.{Emit, Flow, Gives, Lacks, Lowered, behind, given, ◌>>=◌}
+use Rattle.gsl_lower_holders.specs.Flow.{Flow, given, ◌>>=◌}
 use Rattle.gsl_lower_holders.specs.Waiting.{keep}
 use Rattle.gsl_lower_expr.specs.Parts.{reads, spilled}
 use Rattle.gsl_lower_follows.specs.Frames.{Frame, Good, HeldAs, Waits}
-use Rattle.gsl_lower_follows.specs.Giving.{Adds, After, Does, Grown, HasGiven, none_waits}
+use Rattle.gsl_lower_follows.specs.Giving.{Adds, After, Does, HasGiven, none_waits}
 use Rattle.gsl_lower_follows.proofs.Behind.{reaches_here}
 use Rattle.gsl_lower_follows.proofs.Doing.{does_then}
 use Rattle.gsl_lower_follows.proofs.Fetching.{adds_keep}
-use Rattle.gsl_lower_follows.proofs.Growing.{adds_given, adds_then, grown_then}
+use Rattle.gsl_lower_follows.proofs.Growing.{adds_given, adds_then}
 use Rattle.gsl_lower_follows.proofs.Holding.{NowWaits, after_same, after_then, does_keep, does_map}
 use Rattle.gsl_lower_law_expr.proofs.Operands.{given_value}
 use Rattle.gsl_lower_law_expr.proofs.Short.{does_change}
-use Rattle.gsl_lower_reaching.specs.Reaching.{Begins, HasReached, HasStrayed, IsTrail}
+use Rattle.gsl_lower_reaching.specs.Reaching.{Begins, IsTrail}
 use Rattle.gsl_lower_reaching.specs.Reaching.Begins.{variable, value, holder}
-use Rattle.gsl_lower_reaching.specs.Trails.{IsInside, IsOutside, Trail}
+use Rattle.gsl_lower_reaching.specs.Trails.{IsInside, IsOfVariable, Trail}
 use Rattle.gsl_lower_reaching.proofs.Indexing.{none_shape}
 use Rattle.gsl_lower_reaching.proofs.Parts.{whole_picked}
 use Rattle.gsl_lower_reads.proofs.Adding.{adds_reads}
 use Rattle.gsl_lower_reads.proofs.Found.{found_whole, read_found, read_typed}
-use Rattle.gsl_lower_reads.proofs.Straying.{read_strays}
 use Rattle.gsl_lower_reads.proofs.Taking.{taken}
 
 module _ (m : Module) (input : Input) (sections : Sections) (f : Frame m input sections) (p : Program) (around : Around) (are : AreStructs p.structs) (writes : Bool) (t : Ty) (sound : IsSound (length p.structs) t) where
@@ -81,6 +80,7 @@ module _ (m : Module) (input : Input) (sections : Sections) (f : Frame m input s
           leads = refl;
           picks = (refl, w.path_is ∙ sym (append-nil (l.front ++ l.words)), w.unpicked);
           may = tt;
+          named = λ e. subst IsOfVariable root (inside.named e);
         };
         after = after;
         still = refl;

@@ -1,5 +1,5 @@
 -- What is lowered behind what is indexed by a value: it waits, the index is computed, and the step is made.
-use Rattle.std.proofs.Common.{◌≡◌, ◌≢◌, refl, sym, ap, ◌∙◌, subst, inl, inr, ℕ, Bool, true, false, not, ◌&&◌, ◌||◌, length, Option, Some, None}
+use Rattle.std.proofs.Common.{◌≡◌, ◌≢◌, refl, sym, ap, ◌∙◌, subst, inl, inr, ℕ, Bool, true, false, ◌||◌, length, Some, None}
 use Rattle.gsl_base.specs.declared.input.Input.{Input}
 use Rattle.gsl_types.specs.Known.{AreStructs, IsSound}
 use Rattle.gsl_types.specs.declared.ty.Scalar.{Scalar}
@@ -14,8 +14,7 @@ use Rattle.gsl_values.specs.declared.value.Value.TheVariants.{Word, rolls-Word}
 use Rattle.gsl_values.specs.declared.value.Value.TheViews.{out-Value, roll-Value, roll-out-Value}
 use Rattle.gsl_tree.specs.Around.{Around}
 use Rattle.gsl_tree.specs.Expressions.{IsIndex, element_of}
-use Rattle.gsl_tree.specs.Operations.{length_of}
-use Rattle.gsl_tree.specs.Shapes.{Shape, shape_of}
+use Rattle.gsl_tree.specs.Shapes.{shape_of}
 use Rattle.gsl_tree.specs.Values.{is_scalar_layer, is_value_of, word_in, word_layer}
 use Rattle.gsl_tree.specs.declared.program.Program.{Program}
 use Rattle.gsl_tree.proofs.Nodes.{value_of_one}
@@ -29,22 +28,22 @@ use Rattle.gsl_lower_places.specs.declared.reached.Part.{Part}
 use Rattle.gsl_lower_places.specs.declared.reached.Part.TheVariants.{Fixed, By}
 use Rattle.gsl_lower_places.specs.declared.reached.Reached.{Reached}
 use Rattle.gsl_lower_law.specs.Values.{Stands}
-use Rattle.gsl_lower_holders.specs.Flow.{Emit, Flow, Gives, Lacks, Lowered, behind, given, lift, ◌>>=◌}
-use Rattle.gsl_lower_holders.specs.Waiting.{fetch_reached, hold_reached}
+use Rattle.gsl_lower_holders.specs.Flow.{Emit, Flow, Lowered, behind, given, lift, ◌>>=◌}
+use Rattle.gsl_lower_holders.specs.Waiting.{fetch_reached}
 use Rattle.gsl_lower_expr.specs.Parts.{Lower, scalar_of, step_into}
-use Rattle.gsl_lower_follows.specs.Frames.{Frame, Good, HeldAs}
-use Rattle.gsl_lower_follows.specs.Giving.{Adds, After, Does, GivesValue, Grown, GrownTo, HasGiven, none_waits}
+use Rattle.gsl_lower_follows.specs.Frames.{Frame, Good}
+use Rattle.gsl_lower_follows.specs.Giving.{Adds, After, Does, GivesValue, Grown, HasGiven, none_waits}
 use Rattle.gsl_lower_follows.proofs.Doing.{does_then}
-use Rattle.gsl_lower_follows.proofs.Growing.{adds_given, adds_lift, adds_then, grown_then}
+use Rattle.gsl_lower_follows.proofs.Growing.{adds_lift, adds_then}
 use Rattle.gsl_lower_follows.proofs.Holding.{after_then}
 use Rattle.gsl_lower_law_expr.proofs.Operands.{after_less, given_value}
-use Rattle.gsl_lower_reaching.specs.Reaching.{GivesPlace, HasReached, HasStrayed, IsTrail}
+use Rattle.gsl_lower_reaching.specs.Reaching.{HasReached, HasStrayed, IsTrail}
 use Rattle.gsl_lower_reaching.specs.Trails.{IsInside, IsOutside, Trail}
 use Rattle.gsl_lower_reaching.proofs.Indexing.{MayIndex, step_in, step_out}
 use Rattle.gsl_lower_reaching.proofs.Moving.{trail_after}
 use Rattle.gsl_lower_reaching.proofs.Rebased.{does_both}
 use Rattle.gsl_lower_held.specs.Waiting.{IsKept}
-use Rattle.gsl_lower_held.proofs.Holds.{adds_fetched, adds_held, is_fetched, is_held}
+use Rattle.gsl_lower_held.proofs.Holds.{adds_fetched, is_fetched}
 use Rattle.gsl_lower_indexes.specs.Computed.{Comes, IsComputed}
 use Rattle.gsl_lower_indexes.proofs.Always.{always_step}
 
@@ -116,7 +115,7 @@ module _ (m : Module) (input : Input) (sections : Sections) (f : Frame m input s
     no_more false e = e
 
     -- what is done from one flow on was done from an earlier one on
-    behind_after : (first more splits : Bool) (b0 b1 : Flow) (state0 state1 : State) (s : shader.State) (units : ℕ) (ran : Ran Access) (low : Lowered Reached) → (splits ≡ false → (first || more) ≡ false) → Grown b0 b1 → After m input sections f p around first b0 state0 b1 s state1
+    pub behind_after : (first more splits : Bool) (b0 b1 : Flow) (state0 state1 : State) (s : shader.State) (units : ℕ) (ran : Ran Access) (low : Lowered Reached) → (splits ≡ false → (first || more) ≡ false) → Grown b0 b1 → After m input sections f p around first b0 state0 b1 s state1
         → Does m input sections f p 0 units state1 (Reaches more b1 state1) (Strayed more b1 state1) ran low → Does m input sections f p 0 units state1 (Reaches splits b0 state0) (Strayed splits b0 state0) ran low
     behind_after first more splits b0 b1 state0 state1 s units ran low less grown after does =
         does_both m input sections f p units state1 (Reaches more b1 state1) (Reaches splits b0 state0) (Strayed more b1 state1) (Strayed splits b0 state0) ran low

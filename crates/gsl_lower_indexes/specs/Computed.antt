@@ -1,6 +1,5 @@
 -- Indexes that are computed (GLSL 4.50, 5.5 and 5.7).
 use Rattle.std.specs.Prelude.{◌≡◌, ℕ, false, None}
-use Rattle.gsl_types.specs.declared.ty.Ty.{Ty}
 use Rattle.gsl_values.specs.declared.value.Value.{Value}
 use Rattle.gsl_tree.specs.Expressions.{IsIndex}
 use Rattle.gsl_meaning.specs.Running.{Ends, Goes, Got, Ran, Run, Strays}

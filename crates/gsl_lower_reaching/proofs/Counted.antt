@@ -1,13 +1,12 @@
 -- How many parts values of types have, and where numbers lead in them.
-use Rattle.std.proofs.Common.{◌≡◌, refl, sym, ap, ◌∙◌, subst, ℕ, zero, suc, ◌<◌, ◌≤◌, ◌⊎◌, inl, inr, Bool, true, false, ◌&&◌, List, [], ◌∷◌, ◌++◌, map, replicate, length, Option, Some, None, arith}
-use Rattle.std.specs.Prelude.{nat_eq, nat_le, slice_get, if◌then◌else◌}
-use Rattle.std.proofs.lemmas.Bool.{and_parts, eqb-true, false≢true, leb-true, true≢false}
+use Rattle.std.proofs.Common.{◌≡◌, refl, sym, ap, ◌∙◌, subst, ℕ, suc, ◌<◌, ◌≤◌, inl, inr, Bool, true, false, ◌&&◌, List, [], ◌∷◌, ◌++◌, map, replicate, length, Some, None, arith}
+use Rattle.std.specs.Prelude.{nat_le}
+use Rattle.std.proofs.lemmas.Bool.{and_parts, false≢true, leb-true}
 use Rattle.std.proofs.lemmas.List.{length-map, length-replicate}
 use Rattle.std.proofs.lemmas.Option.{slice_get_within}
 use Rattle.gsl_types.specs.Known.{AreStructs, IsSound, sound, sound_kind}
 use Rattle.gsl_types.specs.Structs.{numbered}
 use Rattle.gsl_types.specs.declared.ty.Member.{Member}
-use Rattle.gsl_types.specs.declared.ty.Scalar.{Scalar}
 use Rattle.gsl_types.specs.declared.ty.StructType.{StructType}
 use Rattle.gsl_types.specs.declared.ty.Ty.{Ty}
 use Rattle.gsl_types.specs.declared.ty.Ty.TheFolds.{fold-roll-Ty}
@@ -20,8 +19,8 @@ use Rattle.gsl_values.specs.declared.value.Value.{Value}
 use Rattle.gsl_values.specs.declared.value.Value.TheOpen.{Value-F}
 use Rattle.gsl_values.specs.declared.value.Value.TheViews.{out-Value}
 use Rattle.gsl_tree.specs.Expressions.{element_kind, element_of, member_types}
-use Rattle.gsl_tree.specs.Operations.{length_kind, length_of, member_value, value_at}
-use Rattle.gsl_tree.specs.Shapes.{Shape, of_shape, shape_kind, shape_of}
+use Rattle.gsl_tree.specs.Operations.{length_kind, length_of, member_value}
+use Rattle.gsl_tree.specs.Shapes.{Shape, shape_kind, shape_of}
 use Rattle.gsl_tree.specs.Values.{all_pass, has_parts, has_parts_layer, is_scalar, is_value_of, parts_in, parts_layer, value_meaning}
 use Rattle.gsl_tree.proofs.Nodes.{value_of_array, value_of_vector}
 use Rattle.gsl_typed_law.specs.Parts.{IsPart, LeadsTo}

@@ -1,7 +1,6 @@
 -- An index more of a trail, and the component of a vector or a swizzle at it.
-use Rattle.std.proofs.Common.{◌≡◌, refl, sym, ap, ◌∙◌, subst, inl, inr, ℕ, suc, ◌<◌, ◌≤◌, ◌⊎◌, Bool, true, false, List, [], ◌∷◌, ◌++◌, map, length, Option, Some, None, arith}
+use Rattle.std.proofs.Common.{◌≡◌, refl, sym, ap, ◌∙◌, subst, inl, inr, ℕ, ◌<◌, ◌≤◌, ◌⊎◌, Bool, List, [], ◌∷◌, ◌++◌, map, length, Option, Some, None, arith}
 use Rattle.std.specs.Prelude.{slice_index}
-use Rattle.std.specs.List.{AllByRecursion}
 use Rattle.std.proofs.lemmas.List.{length-map}
 use Rattle.gsl_types.specs.Known.{IsSound}
 use Rattle.gsl_types.specs.declared.ty.Scalar.{Scalar}
@@ -16,9 +15,9 @@ use Rattle.gsl_lower_places.specs.declared.reached.Part.TheVariants.{Fixed, By}
 use Rattle.gsl_lower_law_places.specs.Components.{AreWithin, chosen}
 use Rattle.gsl_lower_reaching.specs.Trails.{ArePicked, ArePositions, Chosen, IsChosen, IsInside, IsMissing, IsOut, IsOutside, IsPicked, LacksComponent, LeadsOut, MayWrite, Trail, effective}
 use Rattle.gsl_lower_reaching.specs.Trails.ArePicked.{swizzled, component, repeated}
-use Rattle.gsl_lower_reaching.proofs.Counted.{component_shape, leads_out, out_on, vector_counted}
+use Rattle.gsl_lower_reaching.proofs.Counted.{component_shape, leads_out, vector_counted}
 use Rattle.gsl_lower_reaching.proofs.Lists.{index_has, index_mapped}
-use Rattle.gsl_lower_reaching.proofs.Parts.{IsWhole, inside_longer, longer, out_whole, outside_longer, whole_picked}
+use Rattle.gsl_lower_reaching.proofs.Parts.{longer, whole_picked}
 
 -- ---- what is picked then
 
@@ -203,6 +202,7 @@ module _ (structs : List StructType) (writes : Bool) (base t : Ty) (part : Part)
       leads = x.leads;
       picks = picks_indexed x.whole (l.front ++ l.words) l.picks a x.picks;
       may = may_indexed l.picks;
+      named = x.named;
     }
 
   -- ---- out of bounds already: an index more, which is below the count of what a swizzle picks, and of a vector where it is known
@@ -242,7 +242,7 @@ module _ (structs : List StructType) (writes : Bool) (base t : Ty) (part : Part)
     }
 
     pub component_outside : (l : Trail) → KnownBelow shape k part → ((c : Chosen) → l.picks ≡ Some c → k < length c.positions) → IsOutside structs writes base l → IsOutside structs writes t (component_trail shape part k l)
-    component_outside l less near x = record { out = by l.picks near x.out; may = may l.picks }
+    component_outside l less near x = record { out = by l.picks near x.out; may = may l.picks; named = x.named }
       where
         by : (o : Option Chosen) → ((c : Chosen) → o ≡ Some c → k < length c.positions) → IsOut structs l.ty base l.words o → IsMissing structs l.ty t l.words (next_chosen shape part k o)
         by None near out = missing_component l.ty l.words less (inl out)
@@ -261,6 +261,7 @@ module _ (structs : List StructType) (writes : Bool) (base t : Ty) (part : Part)
       record {
         out = subst (λ c. IsOut structs l.ty t (l.words ++ k ∷ []) c) (sym w.none) (leads_out structs l.ty l.words x.whole t k x.leads (ap element_of w.same ∙ has) (subst (λ u. length_of u ≤ k) (sym w.same) most));
         may = x.may;
+        named = x.named;
       }
 
 -- a component that is not there
@@ -274,4 +275,5 @@ component_lost structs writes base t s id k shape a l sound has of none most x =
           (missing_component structs writes base t (By s id) k sound has shape of l.ty l.words tt
           (inr (record { whole = x.whole; sound = x.sound; leads = x.leads; of = ap shape_of is.0 ∙ of; word = k; is = refl; several = v.1; outside = (let same = v.0 in omega (arith, same, most)) })));
       may = subst (λ c. MayWrite writes (Some (next_chosen shape (By s id) k c))) (sym none) (λ e. refl);
+      named = x.named;
     }

@@ -1,22 +1,20 @@
 -- What an index leads to, where it is known.
-use Rattle.std.proofs.Common.{◌≡◌, refl, sym, ap, ◌∙◌, subst, inl, inr, ℕ, ◌<◌, ◌≤◌, ◌⊎◌, Bool, true, false, List, [], ◌∷◌, ◌++◌, length, Option, Some, None, arith}
+use Rattle.std.proofs.Common.{◌≡◌, refl, sym, ap, ◌∙◌, subst, inl, inr, ℕ, ◌<◌, ◌≤◌, ◌⊎◌, Bool, true, false, [], ◌∷◌, ◌++◌, length, Option, Some, None, arith}
 use Rattle.std.specs.Prelude.{nat_lt, slice_index}
 use Rattle.std.proofs.lemmas.Bool.{cases_lt, cond-true, cond-false, lt-ltb, le-ltb}
 use Rattle.gsl_base.specs.declared.input.Input.{Input}
 use Rattle.gsl_types.specs.Known.{AreStructs, IsSound}
 use Rattle.gsl_types.specs.declared.ty.Scalar.{Scalar}
-use Rattle.gsl_types.specs.declared.ty.Scalar.TheVariants.{Uint}
 use Rattle.gsl_types.specs.declared.ty.Ty.{Ty}
 use Rattle.gsl_words.specs.declared.module.Module.{Module}
-use Rattle.gsl_values.specs.declared.value.Value.{Value}
 use Rattle.gsl_values.specs.declared.value.Value.TheVariants.{Word}
 use Rattle.gsl_tree.specs.Around.{Around}
 use Rattle.gsl_tree.specs.Expressions.{element_of}
 use Rattle.gsl_tree.specs.Operations.{length_of}
 use Rattle.gsl_tree.specs.Shapes.{Shape, shape_of}
 use Rattle.gsl_tree.specs.declared.program.Program.{Program}
-use Rattle.gsl_meaning.specs.Accesses.{Access, index_in, index_of, member_of, parts_at}
-use Rattle.gsl_meaning.specs.Running.{Got, Ran, Strays, indexing}
+use Rattle.gsl_meaning.specs.Accesses.{Access, index_in, index_of, parts_at}
+use Rattle.gsl_meaning.specs.Running.{Got, Strays, indexing}
 use Rattle.gsl_meaning.specs.State as shader
 use Rattle.gsl_machine.specs.State.{Ids, State}
 use Rattle.gsl_spv.specs.Sections.{Sections}
@@ -31,11 +29,11 @@ use Rattle.gsl_lower_law.specs.Computing as law
 use Rattle.gsl_lower_law.specs.Computing.{Grows, drawing, leaving}
 use Rattle.gsl_lower_law.specs.Straying.{Strays as StepStrays}
 use Rattle.gsl_lower_law.specs.Values.{Keeps, Stands}
-use Rattle.gsl_lower_law.proofs.Joining.{does_then as step_then, given_does, grows_then, keeps_same}
+use Rattle.gsl_lower_law.proofs.Joining.{does_then as step_then, given_does, grows_then}
 use Rattle.gsl_lower_law.proofs.Straying.{strays_before}
 use Rattle.gsl_spv.proofs.Extending.{extends_same}
 use Rattle.gsl_lower_law_picks.specs.Outside.{HasPart}
-use Rattle.gsl_lower_holders.specs.Flow.{Emit, Flow, Gives, Lacks, Lowered, flow_of, lift}
+use Rattle.gsl_lower_holders.specs.Flow.{Flow, Gives, Lacks, Lowered, flow_of, lift}
 use Rattle.gsl_lower_expr.specs.Parts.{step_into}
 use Rattle.gsl_lower_follows.specs.Following.Astray.{later}
 use Rattle.gsl_lower_follows.specs.Frames.{Frame, Good, HeldAs, Inside, coming}
@@ -43,12 +41,11 @@ use Rattle.gsl_lower_follows.specs.Giving.{After, Does, Grown, none_waits}
 use Rattle.gsl_lower_follows.proofs.Behind.{reaches_here}
 use Rattle.gsl_lower_follows.proofs.Doing.{Lifted, does_lift, strays_lift}
 use Rattle.gsl_lower_follows.proofs.Drawn.{after_drawn, choices_are, left_with}
-use Rattle.gsl_lower_follows.proofs.Growing.{adds_lift}
 use Rattle.gsl_lower_follows.proofs.Holding.{after_same}
-use Rattle.gsl_lower_reaching.specs.Reaching.{At, AtValue, ChoosesBy, HasReached, HasStrayed, IsTrail, NumberBy, PicksBy}
+use Rattle.gsl_lower_reaching.specs.Reaching.{AtValue, ChoosesBy, HasReached, HasStrayed, IsTrail, NumberBy, PicksBy}
 use Rattle.gsl_lower_reaching.specs.Trails.{Chosen, IsInside, IsOut, IsOutside, IsPicked, Trail}
 use Rattle.gsl_lower_reaching.proofs.Counted.{vector_counted}
-use Rattle.gsl_lower_reaching.proofs.Moving.{chooses_so, number_so, numbers_longer, picks_so, trail_after}
+use Rattle.gsl_lower_reaching.proofs.Moving.{number_so, numbers_longer, trail_after}
 use Rattle.gsl_lower_reaching.proofs.Parts.{IsWhole, begins_longer, begins_swizzled, inside_longer, longer, more_inside, more_outside, outside_longer, whole_picked}
 use Rattle.gsl_lower_reaching.proofs.Seen.{parts_counted}
 use Rattle.gsl_lower_reaching.proofs.Deeper.{KnownBelow, component_inside, component_lost, component_outside, component_trail, longer_lost, next_chosen, rechosen, reworded}

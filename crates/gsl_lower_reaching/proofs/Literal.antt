@@ -1,5 +1,5 @@
 -- Indexes that are known.
-use Rattle.std.proofs.Common.{◌≡◌, refl, sym, ap, ◌∙◌, subst, ℕ, ◌<◌, Bool, true, false, not, ◌&&◌, ◌||◌, length, Option, Some, None}
+use Rattle.std.proofs.Common.{◌≡◌, refl, sym, ap, ◌∙◌, subst, ℕ, ◌<◌, Bool, true, false, not, ◌&&◌, ◌||◌, Option, Some, None}
 use Rattle.gsl_base.specs.declared.input.Input.{Input}
 use Rattle.gsl_types.specs.Known.{AreStructs}
 use Rattle.gsl_types.specs.declared.ty.Ty.{Ty}
@@ -11,26 +11,24 @@ use Rattle.gsl_tree.specs.Shapes.{Shape, shape_of}
 use Rattle.gsl_tree.specs.Values.{word_in}
 use Rattle.gsl_tree.specs.declared.program.Program.{Program}
 use Rattle.gsl_meaning.specs.Accesses.{Access}
-use Rattle.gsl_meaning.specs.Running.{Got, Ran, Run, Strays, indexing}
+use Rattle.gsl_meaning.specs.Running.{Run, Strays, indexing}
 use Rattle.gsl_meaning.specs.Running as shader_run
 use Rattle.gsl_meaning.specs.State as shader
 use Rattle.gsl_machine.specs.State.{State}
 use Rattle.gsl_spv.specs.Sections.{Sections}
 use Rattle.gsl_spv.proofs.Extending.{extends_same}
 use Rattle.gsl_lower_values.specs.Building as steps
-use Rattle.gsl_lower_places.specs.Reached.{component_at, component_if, component_in, component_of, part_of, with_picked}
-use Rattle.gsl_lower_places.specs.declared.reached.Part.{Part}
+use Rattle.gsl_lower_places.specs.Reached.{component_at, component_if, with_picked}
 use Rattle.gsl_lower_places.specs.declared.reached.Part.TheVariants.{Fixed}
 use Rattle.gsl_lower_places.specs.declared.reached.Picked.{Picked}
 use Rattle.gsl_lower_places.specs.declared.reached.Reached.{Reached}
 use Rattle.gsl_lower_law.specs.Computing.{Grows}
-use Rattle.gsl_lower_law.proofs.Joining.{grows_then}
 use Rattle.gsl_lower_traits.specs.Traits.{is_dynamic, is_plain}
 use Rattle.gsl_lower_holders.specs.Flow.{Emit, Flow, lift, ◌>>=◌}
 use Rattle.gsl_lower_holders.specs.Waiting.{fetch_reached, hold_reached}
 use Rattle.gsl_lower_expr.specs.Parts.{Lower, after_index, before_index, index_by, indexed, known_of, probe, spilled, step_into}
-use Rattle.gsl_lower_follows.specs.Frames.{Frame, Good, HeldAs}
-use Rattle.gsl_lower_follows.specs.Giving.{Adds, Does, GrownTo}
+use Rattle.gsl_lower_follows.specs.Frames.{Frame}
+use Rattle.gsl_lower_follows.specs.Giving.{Does, GrownTo}
 use Rattle.gsl_lower_follows.proofs.Growing.{adds_lift}
 use Rattle.gsl_lower_law_expr.proofs.Short.{behind_assoc}
 use Rattle.gsl_lower_reaching.specs.Indexes.{Indexes, IsLiteral, indexed_means}

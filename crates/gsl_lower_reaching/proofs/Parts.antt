@@ -1,5 +1,5 @@
 -- Members and swizzles: one step more of a trail.
-use Rattle.std.proofs.Common.{◌≡◌, refl, sym, ap, ◌∙◌, subst, inl, inr, ℕ, suc, ◌<◌, ◌≤◌, ◌⊎◌, Bool, true, false, List, [], ◌∷◌, ◌++◌, map, length, Option, Some, None, append_assoc, arith}
+use Rattle.std.proofs.Common.{◌≡◌, refl, sym, ap, ◌∙◌, subst, inl, inr, ℕ, ◌<◌, ◌≤◌, ◌⊎◌, Bool, true, false, List, [], ◌∷◌, ◌++◌, map, length, Option, Some, None, append_assoc}
 use Rattle.std.specs.Prelude.{slice_index}
 use Rattle.std.specs.List.{AllByRecursion}
 use Rattle.std.proofs.lemmas.List.{length-map}
@@ -7,7 +7,6 @@ use Rattle.gsl_base.specs.declared.input.Input.{Input}
 use Rattle.gsl_types.specs.Known.{AreStructs, IsSound}
 use Rattle.gsl_types.specs.declared.ty.StructType.{StructType}
 use Rattle.gsl_types.specs.declared.ty.Ty.{Ty}
-use Rattle.gsl_types.specs.declared.ty.Ty.TheVariants.{Struct}
 use Rattle.gsl_words.specs.declared.module.Module.{Module}
 use Rattle.gsl_tree.specs.Around.{Around}
 use Rattle.gsl_tree.specs.Expressions.{HasPartType}
@@ -23,7 +22,7 @@ use Rattle.gsl_spv.specs.Sections.{Sections}
 use Rattle.gsl_lower_places.specs.Reached.{part_of, swizzled, swizzled_of}
 use Rattle.gsl_lower_places.specs.declared.reached.Base.{Base}
 use Rattle.gsl_lower_places.specs.declared.reached.Part.{Part}
-use Rattle.gsl_lower_places.specs.declared.reached.Part.TheVariants.{Fixed, By}
+use Rattle.gsl_lower_places.specs.declared.reached.Part.TheVariants.{Fixed}
 use Rattle.gsl_lower_places.specs.declared.reached.Picked.{Picked}
 use Rattle.gsl_lower_places.specs.declared.reached.Reached.{Reached}
 use Rattle.gsl_lower_law_places.specs.Components.{AreWithin, chosen}
@@ -33,10 +32,10 @@ use Rattle.gsl_lower_follows.specs.Frames.{Frame, HeldAs}
 use Rattle.gsl_lower_reaching.specs.Reaching.{At, AtValue, Begins, IsFixed, IsTrail, PicksBy}
 use Rattle.gsl_lower_reaching.specs.Reaching.Begins.{variable, value, holder}
 use Rattle.gsl_lower_reaching.specs.Stepping.{Swizzles}
-use Rattle.gsl_lower_reaching.specs.Trails.{ArePicked, ArePositions, Chosen, IsChosen, IsInside, IsMissing, IsOut, IsOutside, IsPicked, LacksComponent, LeadsOut, MayWrite, Trail, effective}
+use Rattle.gsl_lower_reaching.specs.Trails.{ArePicked, ArePositions, Chosen, IsInside, IsMissing, IsOut, IsOutside, IsPicked, LacksComponent, LeadsOut, MayWrite, Trail}
 use Rattle.gsl_lower_reaching.specs.Trails.ArePicked.{swizzled as as_swizzle, component, repeated}
 use Rattle.gsl_lower_reaching.proofs.Counted.{has_part, lacks_part, leads_on, not_both, out_on, struct_shapeless}
-use Rattle.gsl_lower_reaching.proofs.Lists.{index_of_one, indexes_have, indexes_mapped, map_again, map_same, picked_once}
+use Rattle.gsl_lower_reaching.proofs.Lists.{index_of_one, indexes_have, indexes_mapped, map_same, picked_once}
 use Rattle.gsl_lower_reaching.proofs.Moving.{fixed_longer, numbers_longer}
 
 -- ---- a number more
@@ -71,12 +70,13 @@ inside_longer structs writes base t k a l none part sound is =
       leads = leads_on structs l.ty l.words is.whole k t is.leads (subst (λ u. IsPart structs u k t) (sym w.same) part);
       picks = subst (λ c. IsPicked t t (l.front ++ (l.words ++ k ∷ [])) c (a.path ++ k ∷ []) a.picked) (sym w.none) (refl, ap (λ path. path ++ k ∷ []) w.path_is ∙ append_assoc l.front l.words (k ∷ []), w.unpicked);
       may = is.may;
+      named = is.named;
     }
 
 pub outside_longer : (structs : List StructType) (writes : Bool) (base t : Ty) (k : ℕ) (l : Trail) → ((shape : Shape) → shape_of base ≡ Some shape → ⊥) → IsOutside structs writes base l → IsOutside structs writes t (longer l k)
 outside_longer structs writes base t k l none is =
     let w = out_whole structs l.ty base l.words l.picks none is.out in
-    record { out = subst (λ c. IsOut structs l.ty t (l.words ++ k ∷ []) c) (sym w.0) (out_on structs l.ty l.words (k ∷ []) w.1); may = is.may }
+    record { out = subst (λ c. IsOut structs l.ty t (l.words ++ k ∷ []) c) (sym w.0) (out_on structs l.ty l.words (k ∷ []) w.1); may = is.may; named = is.named }
 
 -- a value at which it begins has that part too
 pub more_inside : (structs : List StructType) → AreStructs structs → (writes : Bool) (base t : Ty) (k : ℕ) (a : Access) (l : Trail) → ((shape : Shape) → shape_of base ≡ Some shape → ⊥) → IsPart structs base k t → IsSound (length structs) t → IsInside structs writes base a l
@@ -176,6 +176,7 @@ module _ (structs : List StructType) (writes written : Bool) (base t : Ty) (shap
     leads = x.leads;
     picks = picks_inside x.whole (l.front ++ l.words) a.path a.picked l.picks x.picks;
     may = may_swizzled l.picks (below_inside x.whole (l.front ++ l.words) a.path a.picked l.picks x.picks) x.may;
+    named = λ e. x.named (may e).0;
   }
 
   picks_outside : (ty : Ty) (words : List ℕ) (c : Option Chosen) → IsOut structs ty base words c → IsMissing structs ty t words (swizzled_chosen shape positions c)
@@ -193,7 +194,7 @@ module _ (structs : List StructType) (writes written : Bool) (base t : Ty) (shap
   below_outside ty words (Some c) x d e = let same : c ≡ d = cc in subst (λ (d : Chosen). AllByRecursion (λ position. position < length d.positions) positions) same (below_chosen (c.shape.0, length c.positions) x.gives)
 
   pub outside_swizzled : (l : Trail) → IsOutside structs writes base l → IsOutside structs written t (swizzled_trail shape positions l)
-  outside_swizzled l x = record { out = picks_outside l.ty l.words l.picks x.out; may = may_swizzled l.picks (below_outside l.ty l.words l.picks x.out) x.may }
+  outside_swizzled l x = record { out = picks_outside l.ty l.words l.picks x.out; may = may_swizzled l.picks (below_outside l.ty l.words l.picks x.out) x.may; named = λ e. x.named (may e).0 }
 
 -- ---- what was reached
 

@@ -1,5 +1,5 @@
 -- What names, values, members and swizzles lead to.
-use Rattle.std.proofs.Common.{◌≡◌, ◌≢◌, refl, sym, ap, ◌∙◌, subst, inl, ℕ, ◌≤◌, ◌||◌, Bool, true, false, List, [], ◌∷◌, length, Option, Some, None}
+use Rattle.std.proofs.Common.{◌≡◌, ◌≢◌, refl, sym, ◌∙◌, subst, inl, ℕ, ◌||◌, Bool, true, false, List, [], length, Option, Some, None}
 use Rattle.std.specs.Prelude.{slice_get}
 use Rattle.gsl_base.specs.declared.input.Input.{Input}
 use Rattle.gsl_instr.specs.declared.enumerant.storage_class.TheConstants as storage_class
@@ -32,21 +32,33 @@ use Rattle.gsl_lower_holders.specs.declared.place.FlowPlace.{FlowPlace}
 use Rattle.gsl_lower_expr.specs.Parts.{Lower, class_by, interface_class, loose_value, member, named, shape_or, swizzled_by}
 use Rattle.gsl_lower_follows.specs.Following.{Follows}
 use Rattle.gsl_lower_follows.specs.Following.Astray.{later, now}
-use Rattle.gsl_lower_follows.specs.Frames.{Frame, Global, Good, Interface as Passed, Local, Name, Param, id_of}
-use Rattle.gsl_lower_follows.specs.Giving.{Adds, After, Does, GivesValue, GrownTo, HasGiven, none_waits}
+use Rattle.gsl_lower_follows.specs.Frames.{Frame, Global, Good, Holder, Interface as Passed, Local, Name, Param, Stage, id_of}
+use Rattle.gsl_lower_follows.specs.Giving.{Adds, Does, GivesValue, GrownTo, HasGiven, none_waits}
 use Rattle.gsl_lower_follows.proofs.Behind.{reaches_here}
 use Rattle.gsl_lower_follows.proofs.Doing.{does_then}
 use Rattle.gsl_lower_follows.proofs.Fetching.{adds_type_id}
-use Rattle.gsl_lower_follows.proofs.Growing.{adds_given, adds_then, grown_then}
+use Rattle.gsl_lower_follows.proofs.Growing.{adds_given, adds_then}
 use Rattle.gsl_lower_follows.proofs.Holding.{Unchanged, after_same, after_then, does_type_id}
 use Rattle.gsl_lower_law_expr.proofs.Operands.{after_less, given_value}
 use Rattle.gsl_lower_law_expr.proofs.Binary.{shape_is}
 use Rattle.gsl_lower_law_names.specs.Named.{IsNamed}
 use Rattle.gsl_lower_reaching.specs.Reaching.{GivesPlace, HasReached, HasStrayed, IsTrail, root_of}
 use Rattle.gsl_lower_reaching.specs.Reaching.Begins.{variable, value}
-use Rattle.gsl_lower_reaching.specs.Trails.{IsInside, IsOutside, Trail}
+use Rattle.gsl_lower_reaching.specs.Trails.{IsInside, IsOfVariable, IsOutside, Trail}
 use Rattle.gsl_lower_reaching.specs.Stepping.{Swizzles}
 use Rattle.gsl_lower_reaching.proofs.Parts.{inside_longer, inside_swizzled, longer, member_shapeless, more_inside, more_outside, outside_longer, outside_swizzled, swizzled_trail, trail_member, trail_swizzled}
+
+some_same : {a b : Root} → Some a ≡ Some b → a ≡ b
+some_same e = cc
+
+-- names are those of variables
+variable_root : (name : Name) (root : Root) → root_of name ≡ Some root → IsOfVariable root
+variable_root (Global number) root e = subst IsOfVariable (some_same e) tt
+variable_root (Passed number) root e = subst IsOfVariable (some_same e) tt
+variable_root (Stage number) root e = absurd cc
+variable_root (Param number) root e = subst IsOfVariable (some_same e) tt
+variable_root (Local number) root e = subst IsOfVariable (some_same e) tt
+variable_root (Holder number) root e = absurd cc
 
 module _ (m : Module) (input : Input) (sections : Sections) (f : Frame m input sections) (p : Program) where
   -- what is given by what was given, on both sides
@@ -95,27 +107,27 @@ module _ (m : Module) (input : Input) (sections : Sections) (f : Frame m input s
                   numbers = tt;
                   picks = tt;
                 };
-                inside = record { begins = refl; whole = t; sound = known.sound; leads = refl; picks = (refl, refl, refl); may = tt };
+                inside = record { begins = refl; whole = t; sound = known.sound; leads = refl; picks = (refl, refl, refl); may = tt; named = λ e. variable_root name root begins };
                 after = after_same m input sections f p around b s state good;
               })
 
     -- ---- values
 
-    pub value_place : (splits writes : Bool) (t : Ty) (emit : Emit ℕ) (run : Run Value) → t ≢ Void → IsSound (length p.structs) t → GivesValue m input sections f p around splits t emit run
-        → GivesPlace m input sections f p around splits true writes t (emit >>= loose_value t) (shader_run.◌>>=◌ run (λ v. shader_given (access.whole (access.Loose v))))
-    value_place splits writes t emit run real sound gives = record {
+    pub value_place : (splits : Bool) (t : Ty) (emit : Emit ℕ) (run : Run Value) → t ≢ Void → IsSound (length p.structs) t → GivesValue m input sections f p around splits t emit run
+        → GivesPlace m input sections f p around splits true false t (emit >>= loose_value t) (shader_run.◌>>=◌ run (λ v. shader_given (access.whole (access.Loose v))))
+    value_place splits t emit run real sound gives = record {
       adds = adds_then emit (loose_value t) gives.adds adds_loose;
       does = λ b s units state good.
-          does_then m input sections f p 0 units b state (HasGiven m input sections f p around splits t b state) none_waits (HasReached m input sections f p around splits true writes t b state) (HasStrayed m input sections f p around splits true writes t b state)
+          does_then m input sections f p 0 units b state (HasGiven m input sections f p around splits t b state) none_waits (HasReached m input sections f p around splits true false t b state) (HasStrayed m input sections f p around splits true false t b state)
           (run s units) (λ v. shader_given (access.whole (access.Loose v))) (emit b) (loose_value t) good.inside (gives.adds b) adds_loose
           (gives.does b s units state good)
           (λ id between v u left mid inside grown got less.
           let real_v = given_value m input sections f p around mid.ids id t v real got.given in
-          does_then m input sections f p 0 left between mid (Unchanged m input sections f p around between mid) none_waits (HasReached m input sections f p around splits true writes t b state) (HasStrayed m input sections f p around splits true writes t b state)
+          does_then m input sections f p 0 left between mid (Unchanged m input sections f p around between mid) none_waits (HasReached m input sections f p around splits true false t b state) (HasStrayed m input sections f p around splits true false t b state)
           (Got tt u left) (λ r w rest. Got (access.whole (access.Loose v)) w rest) (type_id t between) (λ type. given (loose id type)) inside (adds_type_id m input sections t between) (λ type. adds_given (loose id type))
           (does_type_id m input sections f p around t left between u mid got.after.good)
           (λ type flow r w rest last there grown2 same fewer ending.
-          reaches_here m input rest last (HasReached m input sections f p around splits true writes t b state (loose id type) flow (access.whole (access.Loose v)) w)
+          reaches_here m input rest last (HasReached m input sections f p around splits true false t b state (loose id type) flow (access.whole (access.Loose v)) w)
           (record {
             trail = record { root = access.Loose v; front = []; ty = t; words = []; picks = None };
             is = record {
@@ -123,7 +135,7 @@ module _ (m : Module) (input : Input) (sections : Sections) (f : Frame m input s
               numbers = tt;
               picks = tt;
             };
-            inside = record { begins = refl; whole = t; sound = sound; leads = refl; picks = (refl, refl, refl); may = tt };
+            inside = record { begins = refl; whole = t; sound = sound; leads = refl; picks = (refl, refl, refl); may = tt; named = λ e. absurd (let z : false ≡ true = e in cc) };
             after = after_less m input sections f p around (splits || false) splits b flow state last w (none_more splits) (after_then m input sections f p around splits false b between flow state mid last u w grown got.after same);
           }))
           (λ type flow w rest last there grown2 none fewer. absurd none))

@@ -1,5 +1,5 @@
 -- What is lowered behind what leads to a place.
-use Rattle.std.proofs.Common.{◌≡◌, ℕ, Bool, false, ◌||◌}
+use Rattle.std.proofs.Common.{ℕ, Bool, false, ◌||◌}
 use Rattle.gsl_base.specs.declared.input.Input.{Input}
 use Rattle.gsl_types.specs.declared.ty.Ty.{Ty}
 use Rattle.gsl_words.specs.declared.module.Module.{Module}

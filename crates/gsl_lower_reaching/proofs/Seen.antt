@@ -1,5 +1,5 @@
 -- The values where trails lead.
-use Rattle.std.proofs.Common.{◌≡◌, refl, sym, ap, ◌∙◌, subst, ℕ, zero, suc, ◌<◌, ◌≤◌, Bool, true, List, [], ◌∷◌, ◌++◌, length, map, Option, Some, None, arith}
+use Rattle.std.proofs.Common.{◌≡◌, refl, sym, ap, ◌∙◌, subst, ℕ, zero, suc, ◌≤◌, Bool, true, List, [], ◌∷◌, ◌++◌, length, Option, Some, None, arith}
 use Rattle.std.specs.Prelude.{slice_get, slice_index_or}
 use Rattle.std.proofs.lemmas.List.{length-map}
 use Rattle.gsl_base.specs.declared.input.Input.{Input}
@@ -13,7 +13,6 @@ use Rattle.gsl_tree.specs.Operations.{length_of, value_at}
 use Rattle.gsl_tree.specs.Values.{is_value_of, parts_in}
 use Rattle.gsl_tree.specs.declared.program.Program.{Program}
 use Rattle.gsl_typed_law.proofs.Parts.{value_typed}
-use Rattle.gsl_meaning.specs.Accesses as access
 use Rattle.gsl_meaning.specs.Accesses.{Access, Root, count_parts, nothing, parts_at, root_value}
 use Rattle.gsl_meaning.specs.State as shader
 use Rattle.gsl_machine.specs.State.{State}
@@ -23,7 +22,7 @@ use Rattle.gsl_lower_places.specs.declared.reached.Part.{Part}
 use Rattle.gsl_lower_law_places.specs.Components.{chosen}
 use Rattle.gsl_lower_law_places.proofs.Variables.{value_on}
 use Rattle.gsl_lower_holders.specs.Flow.{Flow}
-use Rattle.gsl_lower_follows.specs.Frames.{Frame, Global, Good, HasType, Holder, Interface as Passed, Local, Name, Param, Stage, type_named, value_of}
+use Rattle.gsl_lower_follows.specs.Frames.{Frame, Global, Good, HasType, Holder, Interface as Passed, Local, Name, Param, Stage, value_of}
 use Rattle.gsl_lower_reaching.specs.Reaching.{At, AtVariable, Begins, root_of}
 use Rattle.gsl_lower_reaching.specs.Reaching.Begins.{variable, value, holder}
 use Rattle.gsl_lower_reaching.specs.Trails.{ArePicked, Chosen, IsInside, IsPicked, Trail, effective}

@@ -1,10 +1,9 @@
 -- What indexes lead to, as the shader means them (GLSL 4.50, 5.5 to 5.7).
-use Rattle.std.specs.Prelude.{◌≡◌, ℕ, ◌<◌, false, Some, length}
+use Rattle.std.specs.Prelude.{◌≡◌, ℕ, false, Some, length}
 use Rattle.gsl_types.specs.Known.{IsSound}
 use Rattle.gsl_types.specs.declared.ty.Ty.{Ty}
 use Rattle.gsl_values.specs.declared.value.Value.{Value}
 use Rattle.gsl_tree.specs.Expressions.{element_of}
-use Rattle.gsl_tree.specs.Operations.{length_of}
 use Rattle.gsl_tree.specs.Values.{word_in}
 use Rattle.gsl_tree.specs.declared.program.Program.{Program}
 use Rattle.gsl_meaning.specs.Accesses.{Access}

@@ -10,7 +10,7 @@ use Rattle.gsl_tree.specs.Operations.{length_of}
 use Rattle.gsl_tree.specs.Paths.{repeats}
 use Rattle.gsl_tree.specs.Shapes.{Shape, shape_of}
 use Rattle.gsl_typed_law.specs.Parts.{IsPart, LeadsTo}
-use Rattle.gsl_meaning.specs.Accesses.{Access, Root}
+use Rattle.gsl_meaning.specs.Accesses.{Access, Loose, Root}
 use Rattle.gsl_lower_law_places.specs.Components.{AreWithin, chosen}
 
 -- What is picked of a scalar or vector of a shape: its components at some positions; or, where one is picked by a word, that one as often as there
@@ -60,12 +60,17 @@ abbrev pub IsPicked : Ty → Ty → List ℕ → Option Chosen → List ℕ → 
 IsPicked whole t numbers None path picked = (whole ≡ t) × (path ≡ numbers) × (picked ≡ None)
 IsPicked whole t numbers (Some c) path picked = IsChosen whole t numbers c path picked
 
+-- An access begins at a variable.
+abbrev pub IsOfVariable : Root → Type 0
+IsOfVariable (Loose v) = ⊥
+IsOfVariable _ = Unit {0}
+
 -- What may be written picks no component twice.
 abbrev pub MayWrite : Bool → Option Chosen → Type 0
 MayWrite writes None = Unit {0}
 MayWrite writes (Some c) = writes ≡ true → repeats c.positions ≡ false
 
--- A trail leads to a part of a type that is there, and is that of an access.
+-- A trail leads to a part of a type that is there, and is that of an access. What may be written is in a variable.
 pub record IsInside (structs : List StructType) (writes : Bool) (t : Ty) (a : Access) (l : Trail) : Type 0 where
   pub begins : a.root ≡ l.root
   pub whole : Ty
@@ -73,6 +78,7 @@ pub record IsInside (structs : List StructType) (writes : Bool) (t : Ty) (a : Ac
   pub leads : LeadsTo structs l.ty l.words whole
   pub picks : IsPicked whole t (l.front ++ l.words) l.picks a.path a.picked
   pub may : MayWrite writes l.picks
+  pub named : writes ≡ true → IsOfVariable l.root
 
 -- ---- out of bounds
 
@@ -107,3 +113,4 @@ IsOut structs ty t words (Some c) = IsMissing structs ty t words c
 pub record IsOutside (structs : List StructType) (writes : Bool) (t : Ty) (l : Trail) : Type 0 where
   pub out : IsOut structs l.ty t l.words l.picks
   pub may : MayWrite writes l.picks
+  pub named : writes ≡ true → IsOfVariable l.root

@@ -38,9 +38,9 @@ pub fn names_lead()
     ensures interface { (m : Module) (input : Input) (sections : Sections) (f : Frame m input sections) (p : Program) (around : Around) (number : ℕ) (i : Option Interface) (writes : Bool) (t : Ty) → IsNamed p around (name.Interface number) t → GivesPlace m input sections f p around false false writes t (named (λ place. place.interfaces) (interface_class i) number) (given (access.whole (access.Interface number))) }
 {}
 
-/// What gives a value leads to that value, which is in no variable.
+/// What gives a value leads to that value, which is in no variable, and is not written.
 pub fn values_lead()
-    ensures { (m : Module) (input : Input) (sections : Sections) (f : Frame m input sections) (p : Program) (around : Around) (writes : Bool) (t : Ty) (e : Lower) (run : Run Value) → t ≢ Void → IsSound (length p.structs) t → GivesValue m input sections f p around e.traits.splits t e.value run → GivesPlace m input sections f p around e.traits.splits true writes t (held_code t e) (held_means run) }
+    ensures { (m : Module) (input : Input) (sections : Sections) (f : Frame m input sections) (p : Program) (around : Around) (t : Ty) (e : Lower) (run : Run Value) → t ≢ Void → IsSound (length p.structs) t → GivesValue m input sections f p around e.traits.splits t e.value run → GivesPlace m input sections f p around e.traits.splits true false t (held_code t e) (held_means run) }
 {}
 
 /// A member leads to that member of what the struct leads to.

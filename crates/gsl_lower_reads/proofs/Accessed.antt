@@ -1,5 +1,5 @@
 -- What leads to a place gives the value there.
-use Rattle.std.proofs.Common.{◌≡◌, ℕ, Bool, true, false, ◌||◌, length}
+use Rattle.std.proofs.Common.{◌≡◌, Bool, true, false, ◌||◌, length}
 use Rattle.gsl_base.specs.declared.input.Input.{Input}
 use Rattle.gsl_types.specs.Known.{AreStructs, IsSound}
 use Rattle.gsl_types.specs.declared.ty.Ty.{Ty}

@@ -39,9 +39,9 @@ use Rattle.gsl_lower_holders.specs.Flow.{Flow}
 use Rattle.gsl_lower_follows.specs.Frames.{Frame, Global, Good, Holder, Interface as Passed, Local, Name, Param, Stage}
 use Rattle.gsl_lower_reaching.specs.Reaching.{At, Begins, root_of}
 use Rattle.gsl_lower_reaching.specs.Reaching.Begins.{variable, value, holder}
-use Rattle.gsl_lower_reaching.specs.Trails.{ArePicked, Chosen, IsChosen, IsInside, IsPicked, Trail, effective}
+use Rattle.gsl_lower_reaching.specs.Trails.{ArePicked, Chosen, IsInside, IsPicked, Trail, effective}
 use Rattle.gsl_lower_reaching.specs.Trails.ArePicked.{swizzled, component, repeated}
-use Rattle.gsl_lower_reaching.proofs.Lists.{index_has, index_of_one, indexes_mapped}
+use Rattle.gsl_lower_reaching.proofs.Lists.{index_has, index_of_one}
 use Rattle.gsl_lower_reaching.proofs.Seen.{there, there_typed}
 
 -- ---- components

@@ -18,7 +18,7 @@ use Rattle.gsl_meaning.specs.State as shader
 use Rattle.gsl_machine.specs.State.{InVariable, State}
 use Rattle.gsl_spv.specs.Sections.{Sections}
 use Rattle.gsl_lower_places.specs.Reached.{is_block_class}
-use Rattle.gsl_lower_places.specs.Reading.{extracted, number_in, pointer, read, read_from}
+use Rattle.gsl_lower_places.specs.Reading.{number_in, pointer, read, read_from}
 use Rattle.gsl_lower_places.specs.declared.reached.Base.TheVariants.{Variable, Value as Loose}
 use Rattle.gsl_lower_places.specs.declared.reached.Part.{Part}
 use Rattle.gsl_lower_places.specs.declared.reached.Picked.{Picked}
@@ -35,7 +35,7 @@ use Rattle.gsl_lower_law_picks.proofs.Outside.{path_out, picked_out, values_pick
 use Rattle.gsl_lower_law_expr.proofs.Shapes.{value_shape}
 use Rattle.gsl_lower_holders.specs.Flow as flow
 use Rattle.gsl_lower_holders.specs.Flow.{Flow, behind, find_type, giving_here, id_at, lift, type_by, type_id}
-use Rattle.gsl_lower_expr.specs.Parts.{read_block, read_by, read_composite, read_loose, read_own, reads}
+use Rattle.gsl_lower_expr.specs.Parts.{read_block, read_by, read_composite, read_own, reads}
 use Rattle.gsl_lower_follows.specs.Frames.{Frame, Good, HeldAs}
 use Rattle.gsl_lower_follows.specs.Giving.{Does, none_waits}
 use Rattle.gsl_lower_follows.proofs.Doing.{does_then, strays_lift}

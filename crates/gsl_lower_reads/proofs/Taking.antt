@@ -1,5 +1,5 @@
 -- What was reached is read.
-use Rattle.std.proofs.Common.{◌≡◌, refl, sym, ap, ◌∙◌, subst, inl, inr, ℕ, ◌≤◌, ◌⊎◌, Bool, true, false, List, [], ◌∷◌, ◌++◌, length, map, Option, Some, None, arith, if◌then◌else◌}
+use Rattle.std.proofs.Common.{◌≡◌, refl, sym, ap, ◌∙◌, subst, inl, inr, ℕ, ◌≤◌, ◌⊎◌, Bool, true, false, [], ◌∷◌, ◌++◌, length, map, Option, Some, None, if◌then◌else◌}
 use Rattle.std.specs.Prelude.{slice_get}
 use Rattle.gsl_base.specs.declared.input.Input.{Input}
 use Rattle.gsl_instr.specs.declared.op.TheConstants as op
@@ -7,7 +7,6 @@ use Rattle.gsl_types.specs.Known.{AreStructs, IsSound}
 use Rattle.gsl_types.specs.declared.ty.Ty.{Ty}
 use Rattle.gsl_words.specs.declared.module.Module.{Module}
 use Rattle.gsl_values.specs.declared.value.Value.{Value}
-use Rattle.gsl_values.specs.declared.value.Value.TheVariants.{Word}
 use Rattle.gsl_tree.specs.Around.{Around}
 use Rattle.gsl_tree.specs.Operations.{value_at}
 use Rattle.gsl_tree.specs.Shapes.{Shape, shape_of}
@@ -16,18 +15,16 @@ use Rattle.gsl_tree.specs.declared.program.Program.{Program}
 use Rattle.gsl_meaning.specs.Accesses.{Access, read as means_read, root_value}
 use Rattle.gsl_meaning.specs.Running.{Got}
 use Rattle.gsl_meaning.specs.State as shader
-use Rattle.gsl_machine.specs.State.{InVariable, Pointer, Points, State, on}
+use Rattle.gsl_machine.specs.State.{InVariable, Points, State, on}
 use Rattle.gsl_spv.specs.Sections.{Sections}
 use Rattle.gsl_lower_values.specs.Building.{giving}
 use Rattle.gsl_lower_places.specs.Reached.{is_block_class, stored_shape}
 use Rattle.gsl_lower_places.specs.Reading.{extracted, number_in, pointer, read, read_from}
-use Rattle.gsl_lower_places.specs.declared.reached.Base.{Base}
 use Rattle.gsl_lower_places.specs.declared.reached.Base.TheVariants.{Variable, Value as Loose}
-use Rattle.gsl_lower_places.specs.declared.reached.Part.{Part}
 use Rattle.gsl_lower_places.specs.declared.reached.Picked.{Picked}
 use Rattle.gsl_lower_places.specs.declared.reached.Reached.{Reached}
 use Rattle.gsl_lower_law.specs.Computing.{Computes, drawing}
-use Rattle.gsl_lower_law.specs.Values.{IsOf, Stands}
+use Rattle.gsl_lower_law.specs.Values.{IsOf}
 use Rattle.gsl_lower_law.proofs.Giving.{giving_does}
 use Rattle.gsl_lower_law_places.specs.Components.{AreWithin, HoldsComponents, Picks, picks_of}
 use Rattle.gsl_lower_law_places.specs.Leading.{HoldsValue, LeadsTo}
@@ -39,7 +36,7 @@ use Rattle.gsl_lower_law_picks.proofs.Along.{words_lead}
 use Rattle.gsl_lower_law_expr.proofs.Shapes.{value_shape}
 use Rattle.gsl_lower_law_names.proofs.Reading.{outside_blocks, value_as_it_is}
 use Rattle.gsl_lower_holders.specs.Flow as flow
-use Rattle.gsl_lower_holders.specs.Flow.{Flow, behind, find_type, flow_of, giving_here, id_at, lift, type_by, type_id}
+use Rattle.gsl_lower_holders.specs.Flow.{Flow, behind, find_type, giving_here, id_at, lift, type_by, type_id}
 use Rattle.gsl_lower_expr.specs.Parts.{read_block, read_by, read_composite, read_loose, read_own, reads}
 use Rattle.gsl_lower_follows.specs.Frames.{Frame, Good, HeldAs}
 use Rattle.gsl_lower_follows.specs.Giving.{After, Does, HasGiven, none_waits}
@@ -165,7 +162,6 @@ module _ (m : Module) (input : Input) (sections : Sections) (f : Frame m input s
         by : InPlace m input sections f p around s state r.base l ⊎ InValue m input sections f p around s state r.base r.path l → Computes m input sections (result, state.choices) state b.sections (read_from r.base r.path shape r.picked)
         by (inl x) = subst (λ base. Computes m input sections (result, state.choices) state b.sections (read_from base r.path shape r.picked)) (sym x.is) (place_read x shape shaped r.picked l.picks is.picks inside.picks)
         by (inr x) = subst (λ base. Computes m input sections (result, state.choices) state b.sections (read_from base r.path shape r.picked)) (sym x.is) (value_read x shape shaped r.picked l.picks is.picks inside.picks)
-
 
     module _ (units : ℕ) where
       shape_taken : (shape : Shape) → shape_of t ≡ Some shape → Does m input sections f p 0 units state (HasGiven m input sections f p around false t b state) none_waits (Got result s units) (lift (read shape r) b)
