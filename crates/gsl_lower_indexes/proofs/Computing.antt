@@ -33,10 +33,10 @@ use Rattle.gsl_lower_follows.proofs.Fetching.{adds_keep}
 use Rattle.gsl_lower_follows.proofs.Growing.{adds_given, adds_then}
 use Rattle.gsl_lower_follows.proofs.Holding.{after_then, does_so}
 use Rattle.gsl_lower_law_expr.proofs.Short.{behind_assoc}
-use Rattle.gsl_lower_reaching.specs.Indexes.{Indexes, indexed_means}
+use Rattle.gsl_lower_elements.specs.Indexes.{Indexes, indexed_means}
 use Rattle.gsl_lower_reaching.specs.Reaching.{GivesPlace, HasReached, HasStrayed, IsTrail}
 use Rattle.gsl_lower_reaching.specs.Trails.{IsInside, IsOutside, Trail}
-use Rattle.gsl_lower_reaching.proofs.Rebased.{GoesOn, place_then}
+use Rattle.gsl_lower_elements.proofs.Rebased.{GoesOn, place_then}
 use Rattle.gsl_lower_held.specs.Waiting.{IsKept}
 use Rattle.gsl_lower_held.proofs.Holds.{adds_held, is_held}
 use Rattle.gsl_lower_reads.proofs.Adding.{adds_reads}

@@ -36,7 +36,7 @@ use Rattle.gsl_lower_law_expr.proofs.Short.{does_change}
 use Rattle.gsl_lower_reaching.specs.Reaching.{Begins, IsTrail}
 use Rattle.gsl_lower_reaching.specs.Reaching.Begins.{variable, value, holder}
 use Rattle.gsl_lower_reaching.specs.Trails.{IsInside, IsOfVariable, Trail}
-use Rattle.gsl_lower_reaching.proofs.Indexing.{none_shape}
+use Rattle.gsl_lower_elements.proofs.Indexing.{none_shape}
 use Rattle.gsl_lower_reaching.proofs.Parts.{whole_picked}
 use Rattle.gsl_lower_reads.proofs.Adding.{adds_reads}
 use Rattle.gsl_lower_reads.proofs.Found.{found_whole, read_found, read_typed}

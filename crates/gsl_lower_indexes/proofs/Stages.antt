@@ -39,9 +39,9 @@ use Rattle.gsl_lower_follows.proofs.Holding.{after_then}
 use Rattle.gsl_lower_law_expr.proofs.Operands.{after_less, given_value}
 use Rattle.gsl_lower_reaching.specs.Reaching.{HasReached, HasStrayed, IsTrail}
 use Rattle.gsl_lower_reaching.specs.Trails.{IsInside, IsOutside, Trail}
-use Rattle.gsl_lower_reaching.proofs.Indexing.{MayIndex, step_in, step_out}
+use Rattle.gsl_lower_elements.proofs.Indexing.{MayIndex, step_in, step_out}
 use Rattle.gsl_lower_reaching.proofs.Moving.{trail_after}
-use Rattle.gsl_lower_reaching.proofs.Rebased.{does_both}
+use Rattle.gsl_lower_elements.proofs.Rebased.{does_both}
 use Rattle.gsl_lower_held.specs.Waiting.{IsKept}
 use Rattle.gsl_lower_held.proofs.Holds.{adds_fetched, is_fetched}
 use Rattle.gsl_lower_indexes.specs.Computed.{Comes, IsComputed}

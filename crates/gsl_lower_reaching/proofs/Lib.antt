@@ -4,8 +4,3 @@ pub mod Moving
 pub mod Parts
 pub mod Places
 pub mod Seen
-pub mod Tables
-pub mod Deeper
-pub mod Indexing
-pub mod Rebased
-pub mod Literal

@@ -1,4 +1,3 @@
 pub mod Trails
 pub mod Reaching
 pub mod Stepping
-pub mod Indexes

@@ -1,6 +1,6 @@
 //! Laws of the definitions: calls that do nothing, whose contracts are the laws.
 
-ghost use Rattle.std.specs.Prelude.{◌≡◌, ◌≢◌, ◌<◌, ◌||◌, ℕ, Bool, Option, false, length, true};
+ghost use Rattle.std.specs.Prelude.{◌≡◌, ◌≢◌, ℕ, Bool, Option, false, length, true};
 ghost use Rattle.gsl_base.specs.declared.input.Input.{Input};
 ghost use Rattle.gsl_instr.specs.declared.enumerant.storage_class.TheConstants as storage_class;
 ghost use Rattle.gsl_types.specs.Known.{AreStructs, IsSound};
@@ -12,7 +12,6 @@ ghost use Rattle.gsl_values.specs.declared.lane.Lanes.{Lanes};
 ghost use Rattle.gsl_values.specs.declared.value.Value.{Value};
 ghost use Rattle.gsl_tree.specs.Around.{Around};
 ghost use Rattle.gsl_tree.specs.Expressions.{HasPartType};
-ghost use Rattle.gsl_tree.specs.Operations.{length_of};
 ghost use Rattle.gsl_tree.specs.Paths.{repeats};
 ghost use Rattle.gsl_tree.specs.Shapes.{Shape};
 ghost use Rattle.gsl_tree.specs.declared.program.Program.{Program};
@@ -21,12 +20,11 @@ ghost use Rattle.gsl_meaning.specs.Accesses as access;
 ghost use Rattle.gsl_meaning.specs.Accesses.{Access};
 ghost use Rattle.gsl_meaning.specs.Running.{Run, given};
 ghost use Rattle.gsl_spv.specs.Sections.{Sections};
-ghost use Rattle.gsl_lower_expr.specs.Parts.{Lower, indexed, interface_class, member, named, swizzled_by};
+ghost use Rattle.gsl_lower_expr.specs.Parts.{Lower, interface_class, member, named, swizzled_by};
 ghost use Rattle.gsl_lower_follows.specs.Frames as name;
 ghost use Rattle.gsl_lower_follows.specs.Frames.{Frame};
 ghost use Rattle.gsl_lower_follows.specs.Giving.{GivesValue};
 ghost use Rattle.gsl_lower_law_names.specs.Named.{IsNamed};
-ghost use Rattle.gsl_lower_reaching.specs.Indexes.{Indexes, IsLiteral, indexed_means};
 ghost use Rattle.gsl_lower_reaching.specs.Reaching.{GivesPlace};
 ghost use Rattle.gsl_lower_reaching.specs.Stepping.{Swizzles, held_code, held_means, member_means, swizzle_means};
 
@@ -52,9 +50,4 @@ pub fn members_lead()
 /// no component is picked twice.
 pub fn swizzles_lead()
     ensures { (m : Module) (input : Input) (sections : Sections) (f : Frame m input sections) (p : Program) (around : Around) (splits loose writes written : Bool) (t : Ty) (shape : Shape) (lanes : Lanes) (a : Lower) (run : Run Access) → Swizzles a.ty t shape (components lanes) → (written ≡ true → (writes ≡ true) × (repeats (components lanes) ≡ false)) → GivesPlace m input sections f p around splits loose writes a.ty a.reach run → GivesPlace m input sections f p around splits loose written t (swizzled_by a lanes) (swizzle_means lanes run) }
-{}
-
-/// An index that is a literal in range leads to that element or component of what the array or vector leads to, which may itself be a swizzle.
-pub fn literals_lead()
-    ensures { (m : Module) (input : Input) (sections : Sections) (f : Frame m input sections) (p : Program) (around : Around) (splits loose writes : Bool) (t : Ty) (number : ℕ) (a i : Lower) (run : Run Access) (index : Run Value) → AreStructs p.structs → Indexes p a.ty t → IsLiteral i number index → number < length_of a.ty → GivesPlace m input sections f p around splits loose writes a.ty a.reach run → GivesPlace m input sections f p around (splits || false) loose writes t (indexed p.structs a i) (indexed_means run index) }
 {}

@@ -21,7 +21,6 @@ use Rattle.gsl_tree.specs.Shapes.{Shape, shape_kind, shape_of}
 use Rattle.gsl_tree.specs.Values.{components_in, is_value_of, is_word_of, of_components, parts_in}
 use Rattle.gsl_tree.specs.declared.program.Program.{Program}
 use Rattle.gsl_typed_law.proofs.Components.{scalar_typed, vector_typed}
-use Rattle.gsl_meaning.specs.Accesses as access
 use Rattle.gsl_meaning.specs.Accesses.{Access, Root, found, is_block, pick, read, root_value, told}
 use Rattle.gsl_meaning.specs.State as shader
 use Rattle.gsl_machine.specs.State.{State}

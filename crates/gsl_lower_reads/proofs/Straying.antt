@@ -44,7 +44,7 @@ use Rattle.gsl_lower_follows.proofs.Growing.{adds_lift}
 use Rattle.gsl_lower_reaching.specs.Reaching.{ChoosesBy, IsTrail, PicksBy}
 use Rattle.gsl_lower_reaching.specs.Trails.{ArePositions, Chosen, IsMissing, IsOut, IsOutside, LacksComponent, LeadsOut, Trail}
 use Rattle.gsl_lower_reaching.proofs.Counted.{has_part, lacks_part, not_both}
-use Rattle.gsl_lower_reaching.proofs.Indexing.{none_shape}
+use Rattle.gsl_lower_elements.proofs.Indexing.{none_shape}
 use Rattle.gsl_lower_reaching.proofs.Moving.{chooses_stand, numbers_stand}
 use Rattle.gsl_lower_reaching.proofs.Parts.{out_whole}
 use Rattle.gsl_lower_reads.proofs.Adding.{always_pointer}

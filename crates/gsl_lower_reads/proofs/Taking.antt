@@ -49,7 +49,7 @@ use Rattle.gsl_lower_law_expr.proofs.Steps.{always_giving}
 use Rattle.gsl_lower_reaching.specs.Reaching.{IsTrail, PicksBy}
 use Rattle.gsl_lower_reaching.specs.Trails.{Chosen, IsInside, IsPicked, Trail}
 use Rattle.gsl_lower_reaching.proofs.Counted.{has_part}
-use Rattle.gsl_lower_reaching.proofs.Indexing.{after_step, none_shape}
+use Rattle.gsl_lower_elements.proofs.Indexing.{after_step, none_shape}
 use Rattle.gsl_lower_reaching.proofs.Moving.{chooses_stand, numbers_stand}
 use Rattle.gsl_lower_reaching.proofs.Parts.{IsWhole, whole_picked}
 use Rattle.gsl_lower_reaching.proofs.Seen.{there_typed}

@@ -31,10 +31,10 @@ use Rattle.gsl_lower_follows.specs.Frames.{Frame}
 use Rattle.gsl_lower_follows.specs.Giving.{Does, GrownTo}
 use Rattle.gsl_lower_follows.proofs.Growing.{adds_lift}
 use Rattle.gsl_lower_law_expr.proofs.Short.{behind_assoc}
-use Rattle.gsl_lower_reaching.specs.Indexes.{Indexes, IsLiteral, indexed_means}
+use Rattle.gsl_lower_elements.specs.Indexes.{Indexes, IsLiteral, indexed_means}
 use Rattle.gsl_lower_reaching.specs.Reaching.{GivesPlace, HasReached, HasStrayed}
-use Rattle.gsl_lower_reaching.proofs.Indexing.{MayIndex, step_in, step_out}
-use Rattle.gsl_lower_reaching.proofs.Rebased.{GoesOn, place_then}
+use Rattle.gsl_lower_elements.proofs.Indexing.{MayIndex, step_in, step_out}
+use Rattle.gsl_lower_elements.proofs.Rebased.{GoesOn, place_then}
 
 module _ (m : Module) (input : Input) (sections : Sections) (f : Frame m input sections) (p : Program) (around : Around) (are : AreStructs p.structs) where
   module _ (splits lies writes : Bool) (t : Ty) (number : ℕ) (a i : Lower) (run : Run Access) (y : Run Value) (is : Indexes p a.ty t) (known : IsLiteral i number y) (less : number < length_of a.ty) where

@@ -48,8 +48,8 @@ use Rattle.gsl_lower_reaching.proofs.Counted.{vector_counted}
 use Rattle.gsl_lower_reaching.proofs.Moving.{number_so, numbers_longer, trail_after}
 use Rattle.gsl_lower_reaching.proofs.Parts.{IsWhole, begins_longer, begins_swizzled, inside_longer, longer, more_inside, more_outside, outside_longer, whole_picked}
 use Rattle.gsl_lower_reaching.proofs.Seen.{parts_counted}
-use Rattle.gsl_lower_reaching.proofs.Deeper.{KnownBelow, component_inside, component_lost, component_outside, component_trail, longer_lost, next_chosen, rechosen, reworded}
-use Rattle.gsl_lower_reaching.proofs.Tables.{position_computes, position_grows, position_strays}
+use Rattle.gsl_lower_elements.proofs.Deeper.{KnownBelow, component_inside, component_lost, component_outside, component_trail, longer_lost, next_chosen, rechosen, reworded}
+use Rattle.gsl_lower_elements.proofs.Tables.{position_computes, position_grows, position_strays}
 
 pub none_shape : (base : Ty) → shape_of base ≡ None → (shape : Shape) → shape_of base ≡ Some shape → ⊥
 none_shape base none shape some = let e : None ≡ Some shape = sym none ∙ some in cc
