@@ -1,0 +1,5 @@
+pub mod Tables
+pub mod Deeper
+pub mod Indexing
+pub mod Rebased
+pub mod Literal

@@ -1,0 +1,4 @@
+pub mod Always
+pub mod Spilling
+pub mod Stages
+pub mod Computing

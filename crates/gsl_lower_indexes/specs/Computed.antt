@@ -1,0 +1,21 @@
+-- Indexes that are computed (GLSL 4.50, 5.5 and 5.7).
+use Rattle.std.specs.Prelude.{◌≡◌, ℕ, false, None}
+use Rattle.gsl_values.specs.declared.value.Value.{Value}
+use Rattle.gsl_tree.specs.Expressions.{IsIndex}
+use Rattle.gsl_meaning.specs.Running.{Ends, Goes, Got, Ran, Run, Strays}
+use Rattle.gsl_meaning.specs.State.{State}
+use Rattle.gsl_lower_expr.specs.Parts.{Lower}
+
+-- A part of a shader came to something, or an index in it was out of bounds; the invocation has not ended, and no unit was wanting.
+abbrev pub Comes : Ran Value → Type 0
+Comes (Got v s units) = Unit {0}
+Comes (Ends s) = ⊥
+Comes Strays = Unit {0}
+Comes Goes = ⊥
+
+-- An index is computed, and calls no function of the program, so that it always comes to something or strays.
+pub record IsComputed (i : Lower) (run : Run Value) : Type 0 where
+  pub computed : i.traits.literal ≡ None
+  pub calls_none : i.traits.calls ≡ false
+  pub integer : IsIndex i.ty
+  pub comes : (s : State) (units : ℕ) → Comes (run s units)

@@ -1,0 +1,6 @@
+pub mod Lists
+pub mod Counted
+pub mod Moving
+pub mod Parts
+pub mod Places
+pub mod Seen

@@ -1,0 +1,6 @@
+//! Do expressions as they are lowered lead where they mean to?
+#![tactic(auto)]
+
+mod laws;
+
+pub use laws::{members_lead, names_lead, swizzles_lead, values_lead};

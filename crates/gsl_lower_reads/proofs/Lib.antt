@@ -1,0 +1,6 @@
+pub mod Adding
+pub mod Found
+pub mod Grounds
+pub mod Taking
+pub mod Straying
+pub mod Accessed
