@@ -92,7 +92,7 @@ type_named around (Local number) = slice_get around.locals number
 type_named around (Holder number) = None
 
 -- A call of a function: its code, which stands behind other functions and before others in the sections that the module is made of; what its
--- ids last for; the calls that wait; the numbers of its variables, and the ids of those of blocks; the values of the built-in variables that the module has; and all
+-- ids last for; the calls that wait; the numbers of its variables; what is declared for it; the values of the built-in variables that the module has; and all
 -- variables as they were when it began.
 pub record Frame (m : Module) (input : Input) (whole : Sections) : Type 0 where
   pub before : Code
@@ -108,7 +108,8 @@ pub record Frame (m : Module) (input : Input) (whole : Sections) : Type 0 where
   pub waiting : List Waiting
   pub seat : Name → Option ℕ
   pub apart : (a b : Name) (number : ℕ) → seat a ≡ Some number → seat b ≡ Some number → a ≡ b
-  pub blocks : List ℕ
+  pub place : FlowPlace
+  pub known : (name : Name) (id : ℕ) → id_of place name ≡ Some id → (number : ℕ) × (seat name ≡ Some number) × (own id ≡ Some (Points (InVariable number [])))
   pub stages : List (Option Value)
   pub begun : List Value
   pub among : (name : Name) (number : ℕ) → seat name ≡ Some number → number < length begun
@@ -130,10 +131,9 @@ module _ (m : Module) (input : Input) (whole : Sections) (f : Frame m input whol
     pub is : b.functions ≡ f.before ++ done
     pub all : f.code ≡ done ++ more
 
-  -- An id of a variable that is known at a place stands for a pointer to it.
+  -- At a place in the function there is what is declared for it.
   pub record Seated (place : FlowPlace) : Type 0 where
-    pub blocks : place.blocks ≡ f.blocks
-    pub each : (name : Name) (id : ℕ) → id_of place name ≡ Some id → (number : ℕ) × (f.seat name ≡ Some number) × (f.own id ≡ Some (Points (InVariable number [])))
+    pub same : place ≡ record f.place { label = place.label; used = place.used }
 
   module _ (p : Program) (around : Around) where
     -- The variables have the values of the shader's state, and a block's words are seen in the bytes of its variable; the buffers are those that were
@@ -141,7 +141,7 @@ module _ (m : Module) (input : Input) (whole : Sections) (f : Frame m input whol
     -- was when the call began.
     pub record Holds (s : shader.State) (state : State) : Type 0 where
       pub values : (name : Name) (v : Value) → value_of f.stages s name ≡ Some v → (number : ℕ) × (f.seat name ≡ Some number) × (slice_get state.variables number ≡ Some v)
-      pub blocks : (number id : ℕ) (block : Block) → slice_get p.blocks number ≡ Some block → slice_get f.blocks number ≡ Some id
+      pub blocks : (number id : ℕ) (block : Block) → slice_get p.blocks number ≡ Some block → slice_get f.place.blocks number ≡ Some id
           → (bytes : List ℕ) × (bytes_of m input state id ≡ Some bytes) × (slice_get s.blocks number ≡ Some (words_in p.structs block bytes))
       pub buffers : state.buffers ≡ put_blocks p.structs p.blocks s.blocks input.buffers
       pub choices : state.choices ≡ s.choices
