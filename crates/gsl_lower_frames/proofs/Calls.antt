@@ -110,5 +110,6 @@ module _ (m : Module) (whole : Sections) (input : Input) (id : ℕ) (before code
     waiting = refl;
     begun = refl;
     given = refl;
+    seats = refl;
     seated = record { same = refl };
   }

@@ -87,7 +87,7 @@ module _ (m : Module) (input : Input) (whole : Sections) (f : Frame m input whol
   values_begun (Holder k) w is = absurd cc
 
   typed_begun : (waiting : List Waiting) → AreTyped m input whole (frame waiting) p inner now
-  typed_begun waiting = record { each = each; choices = good.typed.choices; stages = λ number t v is has. good.typed.stages number t v is (ap (λ l. value_if (slice_get l number)) of_module.stages ∙ has) }
+  typed_begun waiting = record { each = each; choices = good.typed.choices; blocks = good.typed.blocks; stages = λ number t v is has. good.typed.stages number t v is (ap (λ l. value_if (slice_get l number)) of_module.stages ∙ has) }
     where
       local : (k : ℕ) (o : Option Ty) → slice_get inner.locals k ≡ o → HasType m input whole (frame waiting) p inner o (slice_get now.locals k)
       local k None is = tt

@@ -153,7 +153,7 @@ module _ (m : Module) (input : Input) (sections : Sections) where
                 ready = l.ready;
                 seated = after.good.seated;
                 holds = (let h = holds_set m input sections f p around kind number seated.0 v s (access.stored (access.whole root) v s) state others (sets v s).blocks (sets v s).choices seated.1 after.good.holds in record { values = h.values; blocks = h.blocks; buffers = h.buffers; choices = h.choices; count = h.count; outside = h.outside });
-                typed = typed_set m input sections f p around kind number t v s (access.stored (access.whole root) v s) (sets v s).choices others known.typed typed after.good.typed;
+                typed = typed_set m input sections f p around kind number t v s (access.stored (access.whole root) v s) (sets v s).blocks (sets v s).choices others known.typed typed after.good.typed;
               };
               held = record { same = λ holder n less at. kept_set m input sections f p around b0.place.used seated.0 (kind number) v state state.variables no_holder seated.1 holder n at ∙ after.held.same holder n less at };
               ids = λ e. keeps_then (after.ids e) l.keeps;

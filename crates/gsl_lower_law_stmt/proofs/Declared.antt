@@ -85,7 +85,7 @@ module _ (m : Module) (input : Input) (sections : Sections) (f : Frame m input s
           ready = l.ready;
           seated = good.seated;
           holds = (let h = holds_set m input sections f p around Local number seated.0 v s (now v s) state others refl refl seated.1 good.holds in record { values = h.values; blocks = h.blocks; buffers = h.buffers; choices = h.choices; count = h.count; outside = h.outside });
-          typed = typed_set m input sections f p around Local number t v s (now v s) refl others known.typed typed good.typed;
+          typed = typed_set m input sections f p around Local number t v s (now v s) refl refl others known.typed typed good.typed;
         },
       ))
     where
