@@ -24,6 +24,7 @@ use Rattle.gsl_lower_expr.specs.Parts.{accessed, class_by, interface_class, name
 use Rattle.gsl_lower_follows.specs.Frames.{Frame, Global, Good, HasType, Interface as Passed, Local, Name, Param, id_of, value_of}
 use Rattle.gsl_lower_follows.specs.Giving.{Adds, Does, GivesValue, GrownTo, HasGiven, none_waits}
 use Rattle.gsl_lower_follows.proofs.Growing.{adds_given, adds_then}
+use Rattle.gsl_lower_follows.proofs.Holding.{seat_known}
 use Rattle.gsl_lower_law_names.specs.Named.{IsNamed, named_means}
 use Rattle.gsl_lower_law_names.proofs.Reading.{adds_reads, does_reads}
 
