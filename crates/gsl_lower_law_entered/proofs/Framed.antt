@@ -23,7 +23,7 @@ use Rattle.gsl_lower_holders.specs.declared.place.FlowPlace.{FlowPlace}
 use Rattle.gsl_lower_text.specs.Written.{Written}
 use Rattle.gsl_lower_text.proofs.Lasting.{function_lasts}
 use Rattle.gsl_lower_follows.specs.Frames.{Frame, Global, Holder, Interface, Local, Name, Param, Seated, Stage, id_if, id_of}
-use Rattle.gsl_lower_follows.proofs.Holding.{found_among, holder_number}
+use Rattle.gsl_lower_follows.proofs.Holding.{found_among, holder_number, id_known, seat_known}
 use Rattle.gsl_lower_frames.specs.Calling.{AreKnown, ArePassed}
 use Rattle.gsl_lower_frames.specs.Named.{HasId, number_at, number_in, seat_in}
 use Rattle.gsl_lower_frames.specs.Standing.{place_in}
