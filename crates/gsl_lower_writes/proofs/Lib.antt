@@ -5,3 +5,4 @@ pub mod Renewed
 pub mod Stored
 pub mod Outside
 pub mod Adding
+pub mod Pointed

@@ -64,6 +64,14 @@ module _ (m : Module) (input : Input) (sections : Sections) (f : Frame m input s
       by (value x) = absurd (subst IsOfVariable x.begins named)
       by (holder x) = absurd (subst IsOfVariable x.begins named)
 
+  -- what is picked, where the ids stand for the words
+  pub picks_stand : (b : Flow) (state : State) (q : Picked) (c : Chosen) → PicksBy (λ id v. HeldAs m input sections f false id v b state) (Some q) (Some c) → 1 ≤ length c.positions → AreWithin c.shape.1 c.word c.positions → Picks state.ids q c.word
+  picks_stand b state q c picks some within = record {
+    by_word = chooses_stand state.ids q.by c.word picks.2;
+    some = subst (λ ps. 1 ≤ length ps) (sym picks.1) some;
+    within = subst (λ (shape : Shape). AreWithin shape.1 c.word q.positions) (sym picks.0) (subst (AreWithin c.shape.1 c.word) (sym picks.1) within);
+  }
+
   module _ (are : AreStructs p.structs) (loose : Bool) (t : Ty) (sound_t : IsSound (length p.structs) t) (value : ℕ) (v : Value) (typed : is_value_of p.structs t v ≡ true) (a : Access) (l : Trail) (inside : IsInside p.structs true t a l) where
     -- the shader has the value there, and the state is that of the shader
     abbrev pub IsDone : Flow → State → Unit {0} → Flow → Unit {0} → shader.State → State → Type 0
@@ -71,10 +79,10 @@ module _ (m : Module) (input : Input) (sections : Sections) (f : Frame m input s
 
     module _ (b : Flow) (s : shader.State) (state : State) (r : Reached) (good : Good m input sections f p around b s state) (is : IsTrail m input sections f p around false loose b state r l) (stands : Stands state.ids value v) (x : AtVariable m input sections f p around loose r.base l) where
       abbrev was : Value
-      was = old m input sections f p around are loose t sound_t b s state r a l good x inside v typed
+      was = old m input sections f p around are loose t sound_t b s state r a l good x inside
 
       abbrev place : Value
-      place = part m input sections f p around are loose t sound_t b s state r a l good x inside v typed
+      place = part m input sections f p around are loose t sound_t b s state r a l good x inside
 
       abbrev anew : Value
       anew = all m input sections f p around are loose t sound_t b s state r a l good x inside v typed
@@ -84,25 +92,18 @@ module _ (m : Module) (input : Input) (sections : Sections) (f : Frame m input s
       Having w = set state.variables x.number (with_value_at was l.words w)
 
       was_there : slice_get state.variables x.number ≡ Some was
-      was_there = there m input sections f p around are loose t sound_t b s state r a l good x inside v typed
+      was_there = there m input sections f p around are loose t sound_t b s state r a l good x inside
 
       it_points : state.ids x.id ≡ Some (Points (InVariable x.number []))
-      it_points = points m input sections f p around are loose t sound_t b s state r a l good x inside v typed
+      it_points = points m input sections f p around are loose t sound_t b s state r a l good x inside
 
       it_leads : LeadsTo m input state (InVariable x.number []) l.words (InVariable x.number l.words)
-      it_leads = leads m input sections f p around are loose t sound_t b s state r a l good x inside v typed
+      it_leads = leads m input sections f p around are loose t sound_t b s state r a l good x inside
 
       puts : (w : Value) → Stores m input state (InVariable x.number l.words) w (Having w) state.buffers
       puts w ids choices rest go = ap (λ o. on o (λ old. go (with_variable (record state { ids = ids; choices = choices; rest = rest }) x.number (with_value_at old l.words w)))) was_there
 
       -- ---- scalars and vectors
-
-      picks_stand : (q : Picked) (c : Chosen) → PicksBy (λ id v. HeldAs m input sections f false id v b state) (Some q) (Some c) → 1 ≤ length c.positions → AreWithin c.shape.1 c.word c.positions → Picks state.ids q c.word
-      picks_stand q c picks some within = record {
-        by_word = chooses_stand state.ids q.by c.word picks.2;
-        some = subst (λ ps. 1 ≤ length ps) (sym picks.1) some;
-        within = subst (λ (shape : Shape). AreWithin shape.1 c.word q.positions) (sym picks.0) (subst (AreWithin c.shape.1 c.word) (sym picks.1) within);
-      }
 
       place_stored : (shape : Shape) → shape_of t ≡ Some shape → (o : Option Picked) (c : Option Chosen) → l.picks ≡ c → PicksBy (λ id v. HeldAs m input sections f false id v b state) o c → IsPicked inside.whole t (l.front ++ l.words) c a.path a.picked
           → Acts m input sections Nothing (stored_left m input sections state (Having (renewed place c v)) state.buffers) state b.sections (put_in (Variable x.id x.class) r.path shape value o)
@@ -115,12 +116,12 @@ module _ (m : Module) (input : Input) (sections : Sections) (f : Frame m input s
       place_stored shape shaped (Some q) None e picks y = absurd picks
       place_stored shape shaped (Some q) (Some c) e picks y =
           let of = new_shape m input sections f p around are loose t sound_t b s state r a l good x inside v typed (c.shape.0, length c.positions) y.gives in
-          let was_of = part_shape m input sections f p around are loose t sound_t b s state r a l good x inside v typed c y in
-          let alone = once m input sections f p around are loose t sound_t b s state r a l good x inside v typed c e in
+          let was_of = part_shape m input sections f p around are loose t sound_t b s state r a l good x inside c y in
+          let alone = once m input sections f p around are loose t sound_t b s state r a l good x inside c e in
           subst (λ ps. Acts m input sections Nothing (stored_left m input sections state (Having (replaced_value place (goes_to c.word ps) v)) state.buffers) state b.sections (put_in (Variable x.id x.class) r.path shape value (Some q))) picks.1
           (variables_stored m input sections x.id x.class r.path q l.words (InVariable x.number []) x.number l.words was place v value state b.sections x.outside it_points (numbers_stand state.ids r.path l.words is.numbers) it_leads was_there refl
           (subst (λ s. IsOf s place) (sym picks.0) was_of)
-          (subst (λ (shape : Shape). IsOf (shape.0, length q.positions) v) (sym picks.0) (subst (λ ps. IsOf (c.shape.0, length ps) v) (sym picks.1) of)) stands shape c.word (picks_stand q c picks y.some y.within)
+          (subst (λ (shape : Shape). IsOf (shape.0, length q.positions) v) (sym picks.0) (subst (λ ps. IsOf (c.shape.0, length ps) v) (sym picks.1) of)) stands shape c.word (picks_stand b state q c picks y.some y.within)
           (subst (AreStored c.word) (sym picks.1) (are_stored c.shape.1 c.word c.positions y.within alone y.some))
           (subst (λ (shape : Shape). length q.positions ≤ shape.1) (sym picks.0) (subst (λ ps. length ps ≤ c.shape.1) (sym picks.1) (are_few c.shape.1 c.word c.positions y.within alone y.some))))
 
