@@ -196,7 +196,7 @@ module _ (m : Module) (input : Input) (sections : Sections) (f : Frame m input s
     next_in x inside =
         does_then m input sections f p 0 units b state (IsKept m input sections f p around more loose l s b state) none_waits (Has more b state) none_waits (Got tt s units) (λ one u left. shader_run.◌>>=◌ y (storing x) u left) (before r b) rest good.inside
         (adds_before r b) adds_rest
-        (kept_behind right.traits.calls (probe_in m input sections f p around known.are loose t known.sound b s units state r l good is right.traits.calls known.plain x inside))
+        (kept_behind right.traits.calls (probe_in m input sections f p around known.are loose t known.sound b s units state r l good is right.traits.calls x inside))
         (λ kept between one u left mid within grown q less.
         from_before false more more b between state mid u left (shader_run.◌>>=◌ y (storing x) u left) (rest kept) (λ e. e) grown q.after
         (right_in between u left mid kept l q.after.good q.is x inside))
@@ -219,7 +219,7 @@ module _ (m : Module) (input : Input) (sections : Sections) (f : Frame m input s
             (adds_then (lift (probe p.structs true t r)) (λ done. hold_reached more r) (adds_probe m input sections p.structs true t r) (λ done. adds_held more r) b) adds_rest
             (does_then m input sections f p 0 units b state (λ done later (one : Value) u last. ⊥) none_waits (λ done later (one : Value) u last. ⊥) none_waits Strays (λ one u left. Strays) (lift (probe p.structs true t r) b) (λ done. hold_reached more r) good.inside
             (adds_probe m input sections p.structs true t r b) (λ done. adds_held more r)
-            (probe_out m input sections f p around known.are loose t known.sound b s units state r l good is (λ done later (one : Value) u last. ⊥) (known.plain e) outside)
+            (probe_out m input sections f p around known.are loose t known.sound b s units state r l good is (λ done later (one : Value) u last. ⊥) known.some outside)
             (λ done between one u left mid within grown none less. absurd none)
             (λ done between u left mid within grown none less. absurd none))
             (λ kept between one u left mid within grown none less. absurd none)

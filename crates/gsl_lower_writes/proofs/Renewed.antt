@@ -22,6 +22,7 @@ use Rattle.gsl_lower_law.specs.Computing.{leaving}
 use Rattle.gsl_lower_law.specs.Values.{IsOf, Keeps, Ready}
 use Rattle.gsl_lower_law_places.specs.Leading.{LeadsTo}
 use Rattle.gsl_lower_law_places.proofs.Stored.{stored_left}
+use Rattle.gsl_lower_law_picks.specs.Outside.{HasPart}
 use Rattle.gsl_lower_law_picks.proofs.Along.{words_lead}
 use Rattle.gsl_lower_law_expr.proofs.Shapes.{value_shape}
 use Rattle.gsl_lower_law_names.proofs.Reading.{variable_there}
@@ -53,9 +54,12 @@ module _ (m : Module) (input : Input) (sections : Sections) (f : Frame m input s
     pub points : state.ids x.id ≡ Some (Points (InVariable x.number []))
     points = good.ready.lasting.same x.id _ x.points
 
-    pub leads : LeadsTo m input state (InVariable x.number []) l.words (InVariable x.number l.words)
+    pub has_words : HasPart old l.words
     unfolding old
-    leads = words_lead m input state x.number old there [] l.words (has_part p.structs are l.ty l.words inside.whole old inside.leads has.typed)
+    has_words = has_part p.structs are l.ty l.words inside.whole old inside.leads has.typed
+
+    pub leads : LeadsTo m input state (InVariable x.number []) l.words (InVariable x.number l.words)
+    leads = words_lead m input state x.number old there [] l.words has_words
 
     unfoldable pub part : Value
     part = value_at old l.words
@@ -70,8 +74,11 @@ module _ (m : Module) (input : Input) (sections : Sections) (f : Frame m input s
     pub part_shape : (c : Chosen) → IsPicked inside.whole t (l.front ++ l.words) (Some c) a.path a.picked → IsOf c.shape part
     part_shape c y = (value_shape p.structs inside.whole c.shape part are inside.sound y.of part_typed).1
 
+    pub whole_typed : inside.whole ≡ t → is_value_of p.structs t part ≡ true
+    whole_typed same = subst (λ u. is_value_of p.structs u part ≡ true) same part_typed
+
     pub whole_shape : (shape : Shape) → shape_of t ≡ Some shape → inside.whole ≡ t → IsOf shape part
-    whole_shape shape is same = (value_shape p.structs t shape part are sound_t is (subst (λ u. is_value_of p.structs u part ≡ true) same part_typed)).1
+    whole_shape shape is same = (value_shape p.structs t shape part are sound_t is (whole_typed same)).1
 
     -- it is what the shader has there
     pub at_part : value_at (root_value a.root s) (l.front ++ l.words) ≡ part
