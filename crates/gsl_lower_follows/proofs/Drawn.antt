@@ -35,7 +35,7 @@ value_left stages s choices (Holder number) = refl
 
 module _ (m : Module) (input : Input) (whole : Sections) (f : Frame m input whole) (p : Program) (around : Around) where
   pub typed_left : (s : shader.State) (choices : List ℕ) → AreChoices choices → AreTyped m input whole f p around s → AreTyped m input whole f p around (left_with s choices)
-  typed_left s choices are t = record { choices = are; each = λ name. subst (HasType m input whole f p around (type_named around name)) (sym (value_left f.stages s choices name)) (t.each name); stages = t.stages }
+  typed_left s choices are t = record { choices = are; each = λ name. subst (HasType m input whole f p around (type_named around name)) (sym (value_left f.stages s choices name)) (t.each name); blocks = t.blocks; stages = t.stages }
 
   -- behind a step that stores nothing
   pub good_drawn : (b : Flow) (s : shader.State) (state : State) (ids : Ids) (choices : List ℕ) (later : Sections) → AreChoices choices → Good m input whole f p around b s state → Inside m input whole f later → Ready later.last f.own ids

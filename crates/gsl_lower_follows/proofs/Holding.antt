@@ -74,7 +74,16 @@ id_moved place label used (Holder number) = refl
 
 module _ (m : Module) (input : Input) (whole : Sections) (f : Frame m input whole) where
   pub seated_moved : (place : FlowPlace) (label used : ℕ) → Seated m input whole f place → Seated m input whole f (record place { label = label; used = used })
-  seated_moved place label used known = record { blocks = known.blocks; each = λ name id is. known.each name id (sym (id_moved place label used name) ∙ is) }
+  seated_moved place label used at = record { same = ap (λ (other : FlowPlace). record other { label = label; used = used }) at.same }
+
+  -- what is known at a place, is what the function knows
+  pub id_known : (place : FlowPlace) → Seated m input whole f place → (name : Name) → id_of place name ≡ id_of f.place name
+  id_known place at name = ap (λ (other : FlowPlace). id_of other name) at.same ∙ id_moved f.place place.label place.used name
+
+  -- an id of a variable that is known at a place stands for a pointer to it
+  pub seat_known : (place : FlowPlace) → Seated m input whole f place → (name : Name) (id : ℕ) → id_of place name ≡ Some id
+      → (number : ℕ) × (f.seat name ≡ Some number) × (f.own id ≡ Some (Points (InVariable number [])))
+  seat_known place at name id is = f.known name id (sym (id_known place at name) ∙ is)
 
   module _ (p : Program) (around : Around) where
     -- ---- one stretch behind another
@@ -191,7 +200,7 @@ module _ (m : Module) (input : Input) (whole : Sections) (f : Frame m input whol
         by : (o : Option ℕ) → slice_get b.place.holders b.place.used ≡ o → Does m input whole f p 0 units state (NowWaits v b state) none_waits (Got tt s units) (behind (holder_at o b) (λ h. putting_here op.STORE (h ∷ value ∷ []) >>= (λ done. given h)))
         by None e = tt
         by (Some h) e =
-            let known = good.seated.each (Holder b.place.used) h e in
+            let known = seat_known b.place good.seated (Holder b.place.used) h e in
             does_map 0 units state (λ done later (r : Unit {0}) t last. IsStored known.0 v (using b) state later t last) (NowWaits v b state) (Got tt s units) (putting_here op.STORE (h ∷ value ∷ []) (using b)) (λ done. h)
             (λ done later r t last is. (
               record {

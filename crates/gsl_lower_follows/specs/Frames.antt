@@ -1,5 +1,6 @@
 -- A function that runs: where its code stands, where its variables are, and what its state has to do with the state of the shader.
 use Rattle.std.specs.Prelude.{◌≡◌, ◌≢◌, ℕ, zero, suc, ◌<◌, ◌-◌, Bool, true, false, List, [], ◌∷◌, ◌++◌, drop, length, map, slice_get, Option, Some, None}
+use Rattle.std.specs.List.{AllByRecursion}
 use Rattle.gsl_base.specs.declared.input.Input.{Input}
 use Rattle.gsl_instr.specs.declared.op.TheConstants as op
 use Rattle.gsl_types.specs.declared.ty.Direction.{Direction}
@@ -26,6 +27,9 @@ use Rattle.gsl_spv.specs.Sections.{Sections}
 use Rattle.gsl_lower_law.specs.Values.{Ready, Stands, Text}
 use Rattle.gsl_lower_holders.specs.Flow.{Flow}
 use Rattle.gsl_lower_holders.specs.declared.place.FlowPlace.{FlowPlace}
+
+abbrev pub AreBytes : List ℕ → Type 0
+AreBytes = AllByRecursion (λ byte. byte < 256)
 
 -- the types of the built-in variables, by their numbers
 abbrev pub stage_types : List Ty
@@ -92,7 +96,7 @@ type_named around (Local number) = slice_get around.locals number
 type_named around (Holder number) = None
 
 -- A call of a function: its code, which stands behind other functions and before others in the sections that the module is made of; what its
--- ids last for; the calls that wait; the numbers of its variables, and the ids of those of blocks; the values of the built-in variables that the module has; and all
+-- ids last for; the calls that wait; the numbers of its variables; what is declared for it; the values of the built-in variables that the module has; and all
 -- variables as they were when it began.
 pub record Frame (m : Module) (input : Input) (whole : Sections) : Type 0 where
   pub before : Code
@@ -108,7 +112,8 @@ pub record Frame (m : Module) (input : Input) (whole : Sections) : Type 0 where
   pub waiting : List Waiting
   pub seat : Name → Option ℕ
   pub apart : (a b : Name) (number : ℕ) → seat a ≡ Some number → seat b ≡ Some number → a ≡ b
-  pub blocks : List ℕ
+  pub place : FlowPlace
+  pub known : (name : Name) (id : ℕ) → id_of place name ≡ Some id → (number : ℕ) × (seat name ≡ Some number) × (own id ≡ Some (Points (InVariable number [])))
   pub stages : List (Option Value)
   pub begun : List Value
   pub among : (name : Name) (number : ℕ) → seat name ≡ Some number → number < length begun
@@ -130,10 +135,9 @@ module _ (m : Module) (input : Input) (whole : Sections) (f : Frame m input whol
     pub is : b.functions ≡ f.before ++ done
     pub all : f.code ≡ done ++ more
 
-  -- An id of a variable that is known at a place stands for a pointer to it.
+  -- At a place in the function there is what is declared for it.
   pub record Seated (place : FlowPlace) : Type 0 where
-    pub blocks : place.blocks ≡ f.blocks
-    pub each : (name : Name) (id : ℕ) → id_of place name ≡ Some id → (number : ℕ) × (f.seat name ≡ Some number) × (f.own id ≡ Some (Points (InVariable number [])))
+    pub same : place ≡ record f.place { label = place.label; used = place.used }
 
   module _ (p : Program) (around : Around) where
     -- The variables have the values of the shader's state, and a block's words are seen in the bytes of its variable; the buffers are those that were
@@ -141,12 +145,16 @@ module _ (m : Module) (input : Input) (whole : Sections) (f : Frame m input whol
     -- was when the call began.
     pub record Holds (s : shader.State) (state : State) : Type 0 where
       pub values : (name : Name) (v : Value) → value_of f.stages s name ≡ Some v → (number : ℕ) × (f.seat name ≡ Some number) × (slice_get state.variables number ≡ Some v)
-      pub blocks : (number id : ℕ) (block : Block) → slice_get p.blocks number ≡ Some block → slice_get f.blocks number ≡ Some id
-          → (bytes : List ℕ) × (bytes_of m input state id ≡ Some bytes) × (slice_get s.blocks number ≡ Some (words_in p.structs block bytes))
+      pub blocks : (number id : ℕ) (block : Block) → slice_get p.blocks number ≡ Some block → slice_get f.place.blocks number ≡ Some id
+          → (bytes : List ℕ) × (bytes_of m input state id ≡ Some bytes) × (slice_get s.blocks number ≡ Some (words_in p.structs block bytes)) × AreBytes bytes
       pub buffers : state.buffers ≡ put_blocks p.structs p.blocks s.blocks input.buffers
       pub choices : state.choices ≡ s.choices
       pub count : length state.variables ≡ length f.begun
       pub outside : (number : ℕ) → ((name : Name) → f.seat name ≢ Some number) → slice_get state.variables number ≡ slice_get f.begun number
+
+    -- What a block holds is seen in bytes.
+    abbrev pub IsSeen : Block → Option Value → Type 0
+    IsSeen block v = (bytes : List ℕ) × (v ≡ Some (words_in p.structs block bytes)) × AreBytes bytes
 
     -- A variable of a type has a value of it.
     abbrev pub HasType : Option Ty → Option Value → Type 0
@@ -154,10 +162,11 @@ module _ (m : Module) (input : Input) (whole : Sections) (f : Frame m input whol
     HasType (Some t) None = ⊥
     HasType (Some t) (Some v) = is_value_of p.structs t v ≡ true
 
-    -- Each variable of the shader has a value of its type, and the choices are words.
+    -- Each variable of the shader has a value of its type, blocks have the words of bytes, and the choices are words.
     pub record AreTyped (s : shader.State) : Type 0 where
       pub each : (name : Name) → HasType (type_named around name) (value_of f.stages s name)
       pub choices : AreChoices s.choices
+      pub blocks : (number : ℕ) (block : Block) → slice_get p.blocks number ≡ Some block → IsSeen block (slice_get s.blocks number)
       pub stages : (number : ℕ) (t : Ty) (v : Value) → slice_get stage_types number ≡ Some t → value_of f.stages s (Stage number) ≡ Some v → is_value_of p.structs t v ≡ true
 
     -- The function stands behind what a builder holds, and its state is that of the shader.

@@ -91,7 +91,8 @@ module _ (m : Module) (whole : Sections) (input : Input) (id : ℕ) (before code
     waiting = waiting;
     seat = seat_in (own_ids (globals m) body held count) place;
     apart = seats_apart m body held count place passed known;
-    blocks = place.blocks;
+    place = place;
+    known = known_seated m body held count place passed known (kept m valid);
     stages = stages;
     begun = begun;
     among = λ name number is. subst (λ n. number < n) (sym many) (seat_below m body held count place passed known name number is);
@@ -109,5 +110,6 @@ module _ (m : Module) (whole : Sections) (input : Input) (id : ℕ) (before code
     waiting = refl;
     begun = refl;
     given = refl;
-    seated = record { blocks = refl; each = known_seated m body held count place passed known (kept m valid) };
+    seats = refl;
+    seated = record { same = refl };
   }

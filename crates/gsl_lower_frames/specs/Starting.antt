@@ -17,7 +17,7 @@ use Rattle.gsl_spv.specs.Sections.{Sections}
 use Rattle.gsl_lower_holders.specs.declared.place.FlowPlace.{FlowPlace}
 use Rattle.gsl_lower_follows.specs.Frames as frames
 use Rattle.gsl_lower_follows.specs.Frames.{Frame, Seated}
-use Rattle.gsl_lower_frames.specs.Named.{AreNamed}
+use Rattle.gsl_lower_frames.specs.Named.{AreNamed, seat_in}
 use Rattle.gsl_lower_frames.specs.Standing.{EndsHere, begins}
 
 -- the variables that some code declares
@@ -75,4 +75,5 @@ pub record HasFrame (m : Module) (input : Input) (whole : Sections) (before code
   pub waiting : state.waiting ≡ frame.waiting
   pub begun : state.variables ≡ frame.begun
   pub given : frame.stages ≡ stages
+  pub seats : frame.seat ≡ seat_in frame.own place
   pub seated : Seated m input whole frame place

@@ -37,7 +37,7 @@ use Rattle.gsl_lower_follows.proofs.Fetching.{adds_giving, adds_type_id}
 use Rattle.gsl_lower_follows.proofs.Growing.{adds_then}
 use Rattle.gsl_lower_law_expr.specs.Known.{AllGive}
 use Rattle.gsl_lower_law_built.specs.Arguments.{Composes, constructed_means}
-use Rattle.gsl_lower_law_built.specs.Places.{GivesWhere, NoVector}
+use Rattle.gsl_lower_law_built.specs.Places.{NoVector}
 use Rattle.gsl_lower_law_built.proofs.Together.{adds_all, all_do}
 
 -- what is no scalar and no vector has its arguments as its parts
@@ -82,18 +82,18 @@ module _ (m : Module) (input : Input) (whole : Sections) (f : Frame m input whol
           computed_given m input whole f p around ty (λ choices. (Many vs, choices)) (giving op.COMPOSITE_CONSTRUCT ids type) (λ b. giving_grows m input whole op.COMPOSITE_CONSTRUCT ids type b.sections) (λ choices are. record { typed = fits; left = are }) b s units state good
           (giving_does m input whole op.COMPOSITE_CONSTRUCT ids type state (Many vs) state.choices b.sections (λ text. composes m input type ids vs state (other type refl) stand))
 
-  -- A constructor of an array or a struct on the values of expressions, where its type is found.
-  pub composed_gives : (args : List Lower) (xs : List Meant) (ty : Ty) → Composes p args ty → AllGive (GivesValue m input whole f p around) args xs
-      → GivesWhere m input whole f p around (NoVector m ty) (any_splits args) ty (constructed ty args) (constructed_means ty xs)
-  composed_gives args xs ty known all =
-      subst (λ o. GivesWhere m input whole f p around (NoVector m ty) (any_splits args) ty (operands args >>= (λ ids. built_from ty o ids (typed args ids))) (constructed_means ty xs)) (sym known.whole)
+  -- A constructor of an array or a struct on the values of expressions.
+  pub composed_gives : (args : List Lower) (xs : List Meant) (ty : Ty) → Composes p args ty → NoVector m ty f.place → AllGive (GivesValue m input whole f p around) args xs
+      → GivesValue m input whole f p around (any_splits args) ty (constructed ty args) (constructed_means ty xs)
+  composed_gives args xs ty known other all =
+      subst (λ o. GivesValue m input whole f p around (any_splits args) ty (operands args >>= (λ ids. built_from ty o ids (typed args ids))) (constructed_means ty xs)) (sym known.whole)
       (record {
         adds = adds_all m input whole f p around args xs ty (λ ids. type_id ty >>= giving_here op.COMPOSITE_CONSTRUCT ids) (λ vs. shader_given (build_value ty vs)) all (adds_whole ty);
-        does = λ b0 s units state good other.
+        does = λ b0 s units state good.
             all_do m input whole f p around args xs ty (λ ids. type_id ty >>= giving_here op.COMPOSITE_CONSTRUCT ids) (λ vs. shader_given (build_value ty vs)) all (adds_whole ty) b0 s units state
             (λ ids vs b t left mid grown good fits stand.
             let is = parts_are ty vs known.whole in
             subst (λ v. Does m input whole f p 0 left mid (HasGiven m input whole f p around false ty b mid) none_waits (shader_given v t left) ((type_id ty >>= giving_here op.COMPOSITE_CONSTRUCT ids) b)) (sym is)
-            (whole_does ty ids vs b t left mid good known.whole (λ id found. other id (sym (ap (λ (place : FlowPlace). find_type ty place.composites) grown.place) ∙ found)) (subst (λ v. is_value_of p.structs ty v ≡ true) is (known.gives vs fits)) stand))
+            (whole_does ty ids vs b t left mid good known.whole (λ id found. other id (sym (ap (λ (place : FlowPlace). find_type ty place.composites) good.seated.same) ∙ found)) (subst (λ v. is_value_of p.structs ty v ≡ true) is (known.gives vs fits)) stand))
             good;
       })

@@ -41,7 +41,7 @@ shape_back_by s n true is = ap shape_kind (outs-One s) ∙ ap (λ (k : ℕ). Som
 shape_back_by s n false is = ap shape_kind (outs-Vector s n)
 
 -- the type of a shape has this shape
-shape_back : (shape : Shape) → shape_of (of_shape shape) ≡ Some shape
+pub shape_back : (shape : Shape) → shape_of (of_shape shape) ≡ Some shape
 shape_back shape = shape_back_by shape.0 shape.1 (nat_eq shape.1 1) refl
 
 -- operands have the components of their shapes

@@ -22,7 +22,7 @@ use Rattle.gsl_lower_law_built.specs.Arguments.{Composes, types_of}
 use Rattle.gsl_lower_law_built.proofs.Composed.{parts_are}
 
 -- values of the types of arguments pass the tests of those types
-passes : (p : Program) (args : List Lower) (vs : List Value) → AllTyped p args vs → all_pass (map (is_value_of p.structs) (types_of args)) vs ≡ true
+pub passes : (p : Program) (args : List Lower) (vs : List Value) → AllTyped p args vs → all_pass (map (is_value_of p.structs) (types_of args)) vs ≡ true
 passes p [] [] fits = refl
 passes p [] (v ∷ vs) fits = absurd fits
 passes p (e ∷ es) [] fits = absurd fits

@@ -23,7 +23,7 @@ ghost use Rattle.gsl_lower_follows.specs.Frames.{AreTyped, Frame};
 ghost use Rattle.gsl_lower_follows.specs.Giving.{GivesValue};
 ghost use Rattle.gsl_lower_law_expr.specs.Known.{AllGive, IsQuiet, choice_means};
 ghost use Rattle.gsl_lower_law_built.specs.Arguments.{Answers, AreShaped, Composes, Constructs, EachGives, SameTypes, built_means, components, constructed_means, last_type, sequence_means, types_of};
-ghost use Rattle.gsl_lower_law_built.specs.Places.{GivesWhere, NoVector};
+ghost use Rattle.gsl_lower_law_built.specs.Places.{NoVector};
 
 /// `,`: each part is done in its turn, one without a value too, and the last has the value.
 pub fn sequence_gives()
@@ -42,7 +42,7 @@ pub fn constructed_gives()
 
 /// A constructor of an array or a struct on the values of expressions, where what stands for its type is no vector in the module.
 pub fn composed_gives()
-    ensures { (m : Module) (input : Input) (whole : Sections) (f : Frame m input whole) (p : Program) (around : Around) (args : List Lower) (xs : List Meant) (ty : Ty) → Composes p args ty → AllGive (GivesValue m input whole f p around) args xs → GivesWhere m input whole f p around (NoVector m ty) (any_splits args) ty (constructed ty args) (constructed_means ty xs) }
+    ensures { (m : Module) (input : Input) (whole : Sections) (f : Frame m input whole) (p : Program) (around : Around) (args : List Lower) (xs : List Meant) (ty : Ty) → Composes p args ty → NoVector m ty f.place → AllGive (GivesValue m input whole f p around) args xs → GivesValue m input whole f p around (any_splits args) ty (constructed ty args) (constructed_means ty xs) }
 {}
 
 /// Scalars and vectors that have as many components, or one that fills all of them, are what the constructor of a scalar or vector takes.

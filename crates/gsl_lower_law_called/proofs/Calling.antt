@@ -37,7 +37,7 @@ use Rattle.gsl_lower_holders.specs.declared.place.FlowPlace.{FlowPlace}
 use Rattle.gsl_lower_expr.specs.Calls.{all_back, called_by, called_with, calling, passing_all, pointers, result_by, result_type, tys as types_in}
 use Rattle.gsl_lower_expr.specs.Parts.{Lower, any_splits}
 use Rattle.gsl_lower_follows.specs.Following.{Follows}
-use Rattle.gsl_lower_follows.specs.Frames.{Frame, Good, HasType, Inside, type_of_param}
+use Rattle.gsl_lower_follows.specs.Frames.{Frame, Good, HasType, Inside, Seated, type_of_param}
 use Rattle.gsl_lower_follows.specs.Giving.{Adds, After, Does, GivesValue, Grown, GrownTo, HasGiven, none_waits}
 use Rattle.gsl_lower_follows.proofs.Beginning.{does_aside}
 use Rattle.gsl_lower_follows.proofs.Behind.{follows_behind, follows_then, reaches_here}
@@ -45,21 +45,13 @@ use Rattle.gsl_lower_follows.proofs.Fetching.{adds_giving, adds_type_id}
 use Rattle.gsl_lower_follows.proofs.Growing.{adds_given, adds_lift, adds_then, grown_behind, grown_then}
 use Rattle.gsl_lower_follows.proofs.Holding.{Unchanged, does_type_id}
 use Rattle.gsl_lower_follows.proofs.Placing.{inside_between}
-use Rattle.gsl_lower_law_built.specs.Places.{GivesWhere}
 use Rattle.gsl_lower_law_expr.specs.Known.{AllGive}
 use Rattle.gsl_lower_law_returns.specs.Calling.{AreAlike}
 use Rattle.gsl_lower_law_entered.specs.Modules.{IsFrame}
 use Rattle.gsl_lower_law_entered.specs.Entering.{Argument, AreHeld, values_of}
 use Rattle.gsl_lower_law_functions.specs.Functions.{FunctionDoes, HasReturned}
-use Rattle.gsl_lower_law_called.specs.Passing.{AreOf, Names, ins}
+use Rattle.gsl_lower_law_called.specs.Passing.{AreOf, ins}
 use Rattle.gsl_lower_law_called.proofs.Passing.{AllGo, ArePassed, GoTo, Passed, adds_passing, all_go, going, going_all, meant, none_back, nothing_back, passing_does, pointers_are, still_held, values_are}
-
--- names are known behind what was lowered as before
-names_kept : (place : FlowPlace) (number function : ℕ) (b later : Flow) → Grown b later → Names place number function b.place → Names place number function later.place
-names_kept place number function b later grown names = subst (Names place number function) (sym grown.place) (record {
-  functions = names.functions;
-  shared = record { globals = names.shared.globals; interfaces = names.shared.interfaces; stages = names.shared.stages; blocks = names.shared.blocks };
-})
 
 module _ (m : Module) (input : Input) (whole : Sections) (f : Frame m input whole) (p : Program) (around : Around) where
   -- ---- the type of the result
@@ -95,7 +87,11 @@ module _ (m : Module) (input : Input) (whole : Sections) (f : Frame m input whol
   -- ---- the call behind its arguments
 
   module _ (globals : Around) (place : FlowPlace) (stages : List (Option Value)) (structs : List StructType) (setting : Setting) (number function : ℕ) (tys arg_tys : List Ty) (t : Ty)
-      (one : IsFrame m input whole place stages f) (alike : AreAlike around globals) (function_does : FunctionDoes m input whole p place stages globals function (ins tys) t (setting.call number)) where
+      (one : IsFrame m input whole place stages f) (named : slice_get place.functions number ≡ Some function) (alike : AreAlike around globals) (function_does : FunctionDoes m input whole p place stages globals function (ins tys) t (setting.call number)) where
+    -- wherever control is in the function, the function that is called has its id
+    named_here : (b : Flow) → Seated m input whole f b.place → slice_get b.place.functions number ≡ Some function
+    named_here b at = ap (λ (other : FlowPlace). slice_get other.functions number) at.same ∙ ap (λ l. slice_get l number) one.knows.functions ∙ named
+
     -- what the shader goes on with behind the arguments
     abbrev means : List ShaderPassed → Run Value
     means qs = shader_run.◌>>=◌ (setting.call number (shader_expr.values_of qs)) (shader_expr.returning qs)
@@ -105,7 +101,7 @@ module _ (m : Module) (input : Input) (whole : Sections) (f : Frame m input whol
     behind_call ways id = all_back structs ways (ins tys) arg_tys >>= (λ done. given id)
 
     module _ (splits : Bool) (b0 b : Flow) (state0 state : State) (s : shader.State) (args : List Argument) (units : ℕ) (grown : Grown b0 b) (many : length args ≡ length tys) (typed : (k : ℕ) → HasType m input whole f p around (type_of_param (slice_get (ins tys) k)) (slice_get (values_of args) k))
-        (held : AreHeld m input whole f b0.place.used state args) (below : (k : ℕ) (a : Argument) → slice_get args k ≡ Some a → a.holder < b.place.used) (after : After m input whole f p around splits b0 state0 b s state) (names : Names place number function b.place) where
+        (held : AreHeld m input whole f b0.place.used state args) (below : (k : ℕ) (a : Argument) → slice_get args k ≡ Some a → a.holder < b.place.used) (after : After m input whole f p around splits b0 state0 b s state) where
       abbrev Is : ℕ → Flow → Value → shader.State → State → Type 0
       Is id later v u last = HasGiven m input whole f p around splits t b0 state0 id later v u last
 
@@ -127,7 +123,7 @@ module _ (m : Module) (input : Input) (whole : Sections) (f : Frame m input whol
       follows_call type b1 later id mid more unchanged puts inside =
           follows_then m input p 0 units mid (HasReturned m input whole p f around t b0.place.used id args mid later) (λ u last. ⊥) (Is id later) (none_waits id later) (setting.call number (shader_expr.values_of (map meant args)) s units) (shader_expr.returning (map meant args))
           (subst (λ vs. Follows m input p 0 units mid (HasReturned m input whole p f around t b0.place.used id args mid later) (λ u last. ⊥) (setting.call number vs s units)) (sym (values_are args))
-          (function_does.does f around b1 later args type id b0.place.used units s mid one (names_kept place number function b b1 more names).shared alike unchanged.good (ap (λ ids. giving_here op.FUNCTION_CALL (function ∷ ids) type b1) (sym (pointers_are args)) ∙ puts) inside
+          (function_does.does f around b1 later args type id b0.place.used units s mid one alike unchanged.good (ap (λ ids. giving_here op.FUNCTION_CALL (function ∷ ids) type b1) (sym (pointers_are args)) ∙ puts) inside
           (held_on b1 mid unchanged) (many ∙ sym (length-map tys (λ ty. (In, ty)))) typed))
           (λ c u left last ret less. subst (λ w. Follows m input p 0 left last (Is id later) (none_waits id later) (Got c.value w left)) (sym (none_back args c.params u)) (reaches_here m input left last (Is id later c.value u) (given_back b1 later mid last id c u unchanged ret)))
           (λ u left last none less. absurd none)
@@ -149,7 +145,7 @@ module _ (m : Module) (input : Input) (whole : Sections) (f : Frame m input whol
       called_here : Does m input whole f p 0 units state Is none_waits (means (map meant args) s units) (called_with structs number (ins tys) arg_tys t (map going args) b)
       unfolding called_with
       called_here =
-          subst (λ (o : Option ℕ). Does m input whole f p 0 units state Is none_waits (means (map meant args) s units) (behind (behind (id_at o b) (λ fid. result_type t >>= giving_here op.FUNCTION_CALL (fid ∷ pointers (map going args)))) (behind_call (map going args)))) (sym names.functions)
+          subst (λ (o : Option ℕ). Does m input whole f p 0 units state Is none_waits (means (map meant args) s units) (behind (behind (id_at o b) (λ fid. result_type t >>= giving_here op.FUNCTION_CALL (fid ∷ pointers (map going args)))) (behind_call (map going args)))) (sym (named_here b after.good.seated))
           (by_type (result_type t b) (adds_result t b) (does_result t units b s state after.good))
 
     -- ---- what only adds
@@ -191,9 +187,9 @@ module _ (m : Module) (input : Input) (whole : Sections) (f : Frame m input whol
       abbrev Then : Flow → State → ℕ → Flow → Value → shader.State → State → Type 0
       Then b state = HasGiven m input whole f p around (any_splits args) t b state
 
-      whole_does : (b : Flow) (s : shader.State) (units : ℕ) (state : State) → Good m input whole f p around b s state → Names place number function b.place
+      whole_does : (b : Flow) (s : shader.State) (units : ℕ) (state : State) → Good m input whole f p around b s state
           → Does m input whole f p 0 units state (HasGiven m input whole f p around (any_splits args) t b state) none_waits (whole_run s units) (whole_emit b)
-      whole_does b s units state good names =
+      whole_does b s units state good =
           by (passing_all structs args (ins tys) b) (adds_passing m input whole f p around structs setting.structs args xs tys of all b) (all_go structs args tys b)
           (passing_does m input whole f p around structs setting.structs args xs tys of all b s units state good)
         where
@@ -202,7 +198,7 @@ module _ (m : Module) (input : Input) (whole : Sections) (f : Frame m input whol
           each ways between qs u left mid grown pd =
               subst (λ (ws : List Passed). Does m input whole f p 0 left mid (Then b state) none_waits (means qs u left) (called_with structs number (ins tys) arg_tys t ws between)) (sym pd.are)
               (subst (λ (rs : List ShaderPassed). Does m input whole f p 0 left mid (Then b state) none_waits (means rs u left) (called_with structs number (ins tys) arg_tys t (map going pd.args) between)) (sym pd.mean)
-              (called_here (any_splits args) b between state mid u pd.args left grown pd.many pd.typed pd.held pd.below pd.after (names_kept place number function b between grown names)))
+              (called_here (any_splits args) b between state mid u pd.args left grown pd.many pd.typed pd.held pd.below pd.after))
 
           later_by : (ways : List Passed) (between : Flow) → Grown b between → Does m input whole f p 0 units state (First b state) none_waits (shader_expr.passing_all setting.structs (ins tys) xs s units) (Gives ways between) → (low : Lowered ℕ) → GrownTo between low
               → ((qs : List ShaderPassed) (u : shader.State) (left : ℕ) (mid : State) → First b state ways between qs u mid → Does m input whole f p 0 left mid (Then b state) none_waits (means qs u left) low)
@@ -220,13 +216,13 @@ module _ (m : Module) (input : Input) (whole : Sections) (f : Frame m input whol
           by (Gives ways between) g goes does =
               later_by ways between g does (called_with structs number (ins tys) arg_tys t ways between) (adds_told between ways goes) (λ qs u left mid pd. each ways between qs u left mid g pd)
 
-pub call_gives : (m : Module) (input : Input) (whole : Sections) (f : Frame m input whole) (p : Program) (around globals : Around) (place : FlowPlace) (stages : List (Option Value)) (structs : List StructType) (setting : Setting) (number function : ℕ) (args : List Lower) (xs : List Meant) (tys : List Ty) (t : Ty) → IsFrame m input whole place stages f → AreAlike around globals
+pub call_gives : (m : Module) (input : Input) (whole : Sections) (f : Frame m input whole) (p : Program) (around globals : Around) (place : FlowPlace) (stages : List (Option Value)) (structs : List StructType) (setting : Setting) (number function : ℕ) (args : List Lower) (xs : List Meant) (tys : List Ty) (t : Ty) → IsFrame m input whole place stages f → slice_get place.functions number ≡ Some function → AreAlike around globals
     → params_of (slice_get setting.prototypes number) ≡ ins tys → AreOf args tys → AllGive (GivesValue m input whole f p around) args xs → FunctionDoes m input whole p place stages globals function (ins tys) t (setting.call number)
-    → GivesWhere m input whole f p around (Names place number function) (any_splits args) t (calling structs setting.prototypes number args t) (shader_expr.calling setting number xs)
-call_gives m input whole f p around globals place stages structs setting number function args xs tys t one alike params of all does =
-    subst (λ (ps : List (Direction × Ty)). GivesWhere m input whole f p around (Names place number function) (any_splits args) t (passing_all structs args ps >>= called_with structs number ps (types_in args) t)
+    → GivesValue m input whole f p around (any_splits args) t (calling structs setting.prototypes number args t) (shader_expr.calling setting number xs)
+call_gives m input whole f p around globals place stages structs setting number function args xs tys t one named alike params of all does =
+    subst (λ (ps : List (Direction × Ty)). GivesValue m input whole f p around (any_splits args) t (passing_all structs args ps >>= called_with structs number ps (types_in args) t)
     (shader_run.◌>>=◌ (shader_expr.passing_all setting.structs ps xs) (λ qs. shader_run.◌>>=◌ (setting.call number (shader_expr.values_of qs)) (shader_expr.returning qs)))) (sym params)
     (record {
-      adds = adds_whole m input whole f p around globals place stages structs setting number function tys (types_in args) t one alike does args xs of all refl;
-      does = whole_does m input whole f p around globals place stages structs setting number function tys (types_in args) t one alike does args xs of all refl;
+      adds = adds_whole m input whole f p around globals place stages structs setting number function tys (types_in args) t one named alike does args xs of all refl;
+      does = whole_does m input whole f p around globals place stages structs setting number function tys (types_in args) t one named alike does args xs of all refl;
     })

@@ -1,6 +1,6 @@
 //! Laws of the definitions: calls that do nothing, whose contracts are the laws.
 
-ghost use Rattle.std.specs.Prelude.{◌≡◌, ℕ, List, Option, slice_get};
+ghost use Rattle.std.specs.Prelude.{◌≡◌, ℕ, List, Option, Some, slice_get};
 ghost use Rattle.gsl_base.specs.declared.input.Input.{Input};
 ghost use Rattle.gsl_types.specs.declared.ty.StructType.{StructType};
 ghost use Rattle.gsl_types.specs.declared.ty.Ty.{Ty};
@@ -17,15 +17,14 @@ ghost use Rattle.gsl_lower_expr.specs.Calls.{calling};
 ghost use Rattle.gsl_lower_expr.specs.Parts.{Lower, any_splits};
 ghost use Rattle.gsl_lower_follows.specs.Frames.{Frame};
 ghost use Rattle.gsl_lower_follows.specs.Giving.{GivesValue};
-ghost use Rattle.gsl_lower_law_built.specs.Places.{GivesWhere};
 ghost use Rattle.gsl_lower_law_expr.specs.Known.{AllGive};
 ghost use Rattle.gsl_lower_law_returns.specs.Calling.{AreAlike};
 ghost use Rattle.gsl_lower_law_entered.specs.Modules.{IsFrame};
 ghost use Rattle.gsl_lower_law_functions.specs.Functions.{FunctionDoes};
-ghost use Rattle.gsl_lower_law_called.specs.Passing.{AreOf, Names, ins};
+ghost use Rattle.gsl_lower_law_called.specs.Passing.{AreOf, ins};
 
 /// A call of a function whose parameters go in alone: the values of the arguments, from left to right, each in a holder of its own, and then what the function does, where the function does
-/// what it means and is named at the place.
+/// what it means.
 pub fn calls_give()
-    ensures { (m : Module) (input : Input) (whole : Sections) (f : Frame m input whole) (p : Program) (around globals : Around) (place : FlowPlace) (stages : List (Option Value)) (structs : List StructType) (setting : Setting) (number function : ℕ) (args : List Lower) (xs : List Meant) (tys : List Ty) (t : Ty) → IsFrame m input whole place stages f → AreAlike around globals → params_of (slice_get setting.prototypes number) ≡ ins tys → AreOf args tys → AllGive (GivesValue m input whole f p around) args xs → FunctionDoes m input whole p place stages globals function (ins tys) t (setting.call number) → GivesWhere m input whole f p around (Names place number function) (any_splits args) t (calling structs setting.prototypes number args t) (shader.calling setting number xs) }
+    ensures { (m : Module) (input : Input) (whole : Sections) (f : Frame m input whole) (p : Program) (around globals : Around) (place : FlowPlace) (stages : List (Option Value)) (structs : List StructType) (setting : Setting) (number function : ℕ) (args : List Lower) (xs : List Meant) (tys : List Ty) (t : Ty) → IsFrame m input whole place stages f → slice_get place.functions number ≡ Some function → AreAlike around globals → params_of (slice_get setting.prototypes number) ≡ ins tys → AreOf args tys → AllGive (GivesValue m input whole f p around) args xs → FunctionDoes m input whole p place stages globals function (ins tys) t (setting.call number) → GivesValue m input whole f p around (any_splits args) t (calling structs setting.prototypes number args t) (shader.calling setting number xs) }
 {}

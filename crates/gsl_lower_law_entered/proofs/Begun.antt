@@ -41,7 +41,7 @@ kept_in_front l more k a is = get_in_front l more k (slice_get_within l k a is) 
 
 module _ (m : Module) (input : Input) (whole : Sections) (f : Frame m input whole) (p : Program) (around inner : Around) (place : FlowPlace) (stages : List (Option Value)) (function : ℕ) (begin b : Flow) (fn : IsFunction m whole p.structs place inner.locals function begin)
     (valid : Valid m) (written : Written m whole) (of_module : IsFrame m input whole place stages f) (first : ℕ) (s : shader.State) (state : State) (args : List Argument) (good : Good m input whole f p around b s state) (held : AreHeld m input whole f first state args)
-    (enough : length args ≡ length begin.place.params) (alike : AreAlike around inner) (shared : AreShared place b.place) (typed_args : (number : ℕ) → HasType m input whole f p inner (type_named inner (Param number)) (slice_get (values_of args) number)) where
+    (enough : length args ≡ length begin.place.params) (alike : AreAlike around inner) (typed_args : (number : ℕ) → HasType m input whole f p inner (type_named inner (Param number)) (slice_get (values_of args) number)) where
   abbrev pub frame : List Waiting → Frame m input whole
   frame waiting = frame_of m input whole f p.structs place inner.locals stages function begin fn valid written of_module first state args good.holds.count held enough waiting
 
@@ -67,7 +67,7 @@ module _ (m : Module) (input : Input) (whole : Sections) (f : Frame m input whol
   shared_is : (name : Name) (w : Value) → is_shared name ≡ true → value_of f.stages s name ≡ Some w → (number : ℕ) × (seat name ≡ Some number) × (slice_get (state.variables ++ more) number ≡ Some w)
   shared_is name w is has =
       let h = good.holds.values name w has in
-      (h.0, seat_kept m input whole f p.structs place inner.locals stages function begin fn valid written of_module first state args good.holds.count held enough b shared good.seated name is ∙ h.1, kept_in_front state.variables more h.0 w h.2)
+      (h.0, seat_kept m input whole f p.structs place inner.locals stages function begin fn valid written of_module first state args good.holds.count held enough b good.seated name is ∙ h.1, kept_in_front state.variables more h.0 w h.2)
 
   values_begun : (name : Name) (w : Value) → value_of stages now name ≡ Some w → (number : ℕ) × (seat name ≡ Some number) × (slice_get (state.variables ++ more) number ≡ Some w)
   values_begun (Global k) w is = shared_is (Global k) w refl is
@@ -87,7 +87,7 @@ module _ (m : Module) (input : Input) (whole : Sections) (f : Frame m input whol
   values_begun (Holder k) w is = absurd cc
 
   typed_begun : (waiting : List Waiting) → AreTyped m input whole (frame waiting) p inner now
-  typed_begun waiting = record { each = each; choices = good.typed.choices; stages = λ number t v is has. good.typed.stages number t v is (ap (λ l. value_if (slice_get l number)) of_module.stages ∙ has) }
+  typed_begun waiting = record { each = each; choices = good.typed.choices; blocks = good.typed.blocks; stages = λ number t v is has. good.typed.stages number t v is (ap (λ l. value_if (slice_get l number)) of_module.stages ∙ has) }
     where
       local : (k : ℕ) (o : Option Ty) → slice_get inner.locals k ≡ o → HasType m input whole (frame waiting) p inner o (slice_get now.locals k)
       local k None is = tt
@@ -119,7 +119,7 @@ module _ (m : Module) (input : Input) (whole : Sections) (f : Frame m input whol
     seated = seated m input whole f p.structs place inner.locals stages function begin fn valid written of_module first state args good.holds.count held enough waiting;
     holds = record {
       values = values_begun;
-      blocks = λ number id block is at. good.holds.blocks number id block is (ap (λ l. slice_get l number) (of_module.blocks ∙ sym fn.shared.blocks) ∙ at);
+      blocks = λ number id block is at. good.holds.blocks number id block is (ap (λ l. slice_get l number) (of_module.knows.blocks ∙ sym fn.shared.blocks) ∙ at);
       buffers = good.holds.buffers;
       choices = good.holds.choices;
       count = refl;

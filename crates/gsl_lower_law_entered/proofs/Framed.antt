@@ -152,14 +152,15 @@ module _ (m : Module) (input : Input) (whole : Sections) (f : Frame m input whol
     waiting = waiting;
     seat = seat_in own begin.place;
     apart = seats_apart m body (helds args) count begin.place passed known;
-    blocks = begin.place.blocks;
+    place = begin.place;
+    known = known_seated m body (helds args) count begin.place passed known (kept m valid);
     stages = stages;
     begun = begun;
     among = λ name number is. subst (λ n. number < n) (sym long) (seat_below m body (helds args) count begin.place passed known name number is);
   }
 
   pub seated : (waiting : List Waiting) → Seated m input whole (frame_of waiting) begin.place
-  seated waiting = record { blocks = refl; each = known_seated m body (helds args) count begin.place passed known (kept m valid) }
+  seated waiting = record { same = refl }
 
   -- ---- its variables
 
@@ -216,14 +217,14 @@ module _ (m : Module) (input : Input) (whole : Sections) (f : Frame m input whol
   outer_points id h = let p = value_points m (kept m valid) id h.variable count room (among_at (value_variables m) h.position h.variable h.there) h.same in (p.number, p.is)
 
   -- what a name of the module's is in the caller, it is in the function
-  pub seat_kept : (b : Flow) → AreShared place b.place → Seated m input whole f b.place → (name : Name) → is_shared name ≡ true → seat_in own begin.place name ≡ f.seat name
-  seat_kept b shared at name is = same_option (seat_in own begin.place name) (f.seat name) there back
+  pub seat_kept : (b : Flow) → Seated m input whole f b.place → (name : Name) → is_shared name ≡ true → seat_in own begin.place name ≡ f.seat name
+  seat_kept b at name is = same_option (seat_in own begin.place name) (f.seat name) there back
     where
       there : (n : ℕ) → seat_in own begin.place name ≡ Some n → f.seat name ≡ Some n
       there n e =
           let x = seat_back own (id_of begin.place name) n e in
           let o = outer_points x.0 (fn.placed.shared name x.0 is x.1) in
-          let y = at.each name x.0 (id_shared place b.place shared name is ∙ sym (id_shared place begin.place fn.shared name is) ∙ x.1) in
+          let y = seat_known m input whole f b.place at name x.0 (id_known m input whole f b.place at name ∙ id_shared place f.place of_module.knows name is ∙ sym (id_shared place begin.place fn.shared name is) ∙ x.1) in
           let first_is : n ≡ o.0 = same_number (own x.0) n o.0 x.2 (lasting.same x.0 _ o.1) in
           let second_is : y.0 ≡ o.0 = same_number (f.own x.0) y.0 o.0 y.2 (of_module.lasting.same x.0 _ o.1) in
           y.1 ∙ ap Some (second_is ∙ sym first_is)
@@ -242,7 +243,7 @@ module _ (m : Module) (input : Input) (whole : Sections) (f : Frame m input whol
   frame_is waiting = record {
     lasting = lasting;
     calls = calls_pass m whole function fn.code valid written fn.stands (helds args) count;
-    blocks = fn.shared.blocks;
+    knows = fn.shared;
     stages = refl;
     shared = λ name seat is at. let x = seat_back own (id_of begin.place name) seat at in (x.0, sym (id_shared place begin.place fn.shared name is) ∙ x.1, x.2);
     behind = behind;
@@ -260,12 +261,12 @@ module _ (m : Module) (input : Input) (whole : Sections) (f : Frame m input whol
       behind (Local k) seat is at = let r = room in let o = own_seat (Local k) seat refl at in omega (arith, r, o)
       behind (Holder k) seat is at = let r = room in let o = own_seat (Holder k) seat refl at in omega (arith, r, o)
 
-  pub was_called : (b : Flow) → AreShared place b.place → Seated m input whole f b.place → (id : ℕ) (rest : List Placed) → IsCalled m input whole f (frame_of (call_of id state rest ∷ f.waiting)) first id state rest
-  was_called b shared at id rest = record {
+  pub was_called : (b : Flow) → Seated m input whole f b.place → (id : ℕ) (rest : List Placed) → IsCalled m input whole f (frame_of (call_of id state rest ∷ f.waiting)) first id state rest
+  was_called b at id rest = record {
     waiting = refl;
-    blocks = fn.shared.blocks ∙ sym of_module.blocks;
+    blocks = fn.shared.blocks ∙ sym of_module.knows.blocks;
     stages = sym of_module.stages;
-    shared = seat_kept b shared at;
+    shared = seat_kept b at;
     params = λ number seat is. let a = param_argument number seat is in let h = held.each number a.0 a.1 in (a.0.holder, h.behind, h.seat ∙ ap Some a.2);
     own = own_seat;
     begins = map (begins_as m) (variables_of body);

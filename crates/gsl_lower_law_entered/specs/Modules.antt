@@ -32,23 +32,26 @@ use Rattle.gsl_lower_law_returns.specs.Calling.{is_own, is_shared}
 
 -- ---- variables outside functions
 
--- Two places know the variables of the module and its blocks by the same ids.
+-- Two places know the same of the module: its variables and blocks, its functions, and what stands for arrays and structs.
 pub record AreShared (place other : FlowPlace) : Type 0 where
   pub globals : other.globals ≡ place.globals
   pub interfaces : other.interfaces ≡ place.interfaces
   pub stages : other.stage_vars ≡ place.stage_vars
   pub blocks : other.blocks ≡ place.blocks
+  pub classes : other.classes ≡ place.classes
+  pub functions : other.functions ≡ place.functions
+  pub composites : other.composites ≡ place.composites
 
 -- What a call gives lasts for no function.
 abbrev pub PassCalls : Sections → Ids → Type 0
 PassCalls whole own = (i : Instr) (type function id : ℕ) (arguments : List ℕ) → Contains whole.functions i → kind (read i) ≡ Calls type function arguments → result (read i) ≡ Some id → own id ≡ None
 
 module _ (m : Module) (input : Input) (whole : Sections) where
-  -- A frame of one of the functions of a module, of which a place knows the variables outside functions, and of which the built-in variables have these values.
+  -- A frame of one of the functions of a module, of which a place knows what is outside functions, and of which the built-in variables have these values.
   pub record IsFrame (place : FlowPlace) (given : List (Option Value)) (f : Frame m input whole) : Type 0 where
     pub lasting : Keeps (globals m) f.own
     pub calls : PassCalls whole f.own
-    pub blocks : f.blocks ≡ place.blocks
+    pub knows : AreShared place f.place
     pub stages : f.stages ≡ given
     pub shared : (name : Name) (seat : ℕ) → is_shared name ≡ true → f.seat name ≡ Some seat → (id : ℕ) × (id_of place name ≡ Some id) × (f.own id ≡ Some (Points (InVariable seat [])))
     pub behind : (name : Name) (seat : ℕ) → is_shared name ≡ false → f.seat name ≡ Some seat → length (value_variables m) ≤ seat

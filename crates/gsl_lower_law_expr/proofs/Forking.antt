@@ -34,7 +34,7 @@ use Rattle.gsl_lower_follows.proofs.Beginning.{chooses, does_behind, does_fresh,
 use Rattle.gsl_lower_follows.proofs.Doing.{does_then}
 use Rattle.gsl_lower_follows.proofs.Fetching.{adds_fresh, adds_holder, adds_opening, adds_put, adds_take_back, adds_type_id}
 use Rattle.gsl_lower_follows.proofs.Growing.{adds_given, adds_then, grown_then}
-use Rattle.gsl_lower_follows.proofs.Holding.{IsStored, Unchanged, does_store, found_among, good_using, holder_number, using, waits_after}
+use Rattle.gsl_lower_follows.proofs.Holding.{IsStored, Unchanged, does_store, found_among, good_using, holder_number, seat_known, using, waits_after}
 use Rattle.gsl_lower_follows.proofs.Jumping.{begun_at, jumps}
 use Rattle.gsl_lower_follows.proofs.Meeting.{adds_join, adds_leave, branched, does_join, does_met, grown_branched, grown_through}
 use Rattle.gsl_lower_follows.proofs.Placing.{inside_between}
@@ -263,7 +263,7 @@ module _ (m : Module) (input : Input) (whole : Sections) (f : Frame m input whol
         by None e = tt
         by (Some h) e =
             let real = given_value m input whole f p around mid.ids i boolean w real_boolean g.given in
-            let known = g.after.good.seated.each (Holder b.place.used) h e in
+            let known = seat_known m input whole f b.place g.after.good.seated (Holder b.place.used) h e in
             let old = found_among mid.variables known.0 (subst (λ n. known.0 < n) (sym g.after.good.holds.count) (f.among (Holder b.place.used) known.0 known.1)) in
             at_yes b0 (using m input whole f p around b) state0 mid s units i h w old.0 (record {
               good = good_using m input whole f p around b s mid g.after.good;

@@ -62,7 +62,7 @@ module _ (m : Module) (input : Input) (whole : Sections) (p : Program) (inner : 
       subst (λ (low : Lowered (Unit {0})). Does m input whole g p 0 units state (λ (done : Unit {0}) later flow t last. AtResult m input whole g p inner result flow t last) none_waits (run s units) low) lowered.is
       ((bodies g of_module front same).does s units state good) (body_inside g front same)
 
-  module _ (f : Frame m input whole) (around : Around) (b later : Flow) (args : List Argument) (type id first : ℕ) (s : shader.State) (state : State) (of_module : IsFrame m input whole place stages f) (shared : AreShared place b.place) (alike : AreAlike around inner) (good : Good m input whole f p around b s state)
+  module _ (f : Frame m input whole) (around : Around) (b later : Flow) (args : List Argument) (type id first : ℕ) (s : shader.State) (state : State) (of_module : IsFrame m input whole place stages f) (alike : AreAlike around inner) (good : Good m input whole f p around b s state)
       (puts : giving_here op.FUNCTION_CALL (function ∷ ids_of args) type b ≡ Gives id later) (inside : Inside m input whole f later.sections) (held : AreHeld m input whole f first state args) (enough : length args ≡ length inner.params)
       (typed : (number : ℕ) → HasType m input whole f p around (type_of_param (slice_get inner.params number)) (slice_get (values_of args) number)) where
     made : (id ≡ b.sections.last + 1) × (later ≡ given_by op.FUNCTION_CALL (function ∷ ids_of args) type b)
@@ -81,7 +81,7 @@ module _ (m : Module) (input : Input) (whole : Sections) (p : Program) (inner : 
             subst (λ l. Contains l i) (sym there.extends.functions.is) (Contains-append_left (b.sections.functions ++ i ∷ []) there.extends.functions.more i (Contains-append_right b.sections.functions (i ∷ []) i (first_in i [])))
 
     entered_is : HasEntered m input whole f p (IsFrame m input whole place stages) inner first id args fn.before fn.code begin s state (coming m input whole f later.sections)
-    entered_is = call_enters m input whole f p around inner place stages function begin b later args type id first s state valid written fn of_module shared alike good puts inside held (enough ∙ many) typed
+    entered_is = call_enters m input whole f p around inner place stages function begin b later args type id first s state valid written fn of_module alike good puts inside held (enough ∙ many) typed
 
     abbrev g : Frame m input whole
     g = entered_is.frame
@@ -130,6 +130,6 @@ pub function_does : (m : Module) (input : Input) (whole : Sections) (p : Program
     → ((g : Frame m input whole) → IsFrame m input whole place stages g → g.before ≡ fn.before → g.code ≡ fn.code → DoesBody m input whole g p inner result begin body run)
     → FunctionDoes m input whole p place stages inner function inner.params result (λ args. spending (running_body p.structs inner.locals result run args))
 function_does m input whole p inner place stages function begin result body run valid written fn lowered many are sound bodies = record {
-  does = λ f around b later args type id first units s state of_module shared alike good puts inside held enough typed.
-      follows m input whole p inner place stages function begin result body run valid written fn lowered many (void_or_parts p.structs result are sound) bodies f around b later args type id first s state of_module shared alike good puts inside held enough typed units;
+  does = λ f around b later args type id first units s state of_module alike good puts inside held enough typed.
+      follows m input whole p inner place stages function begin result body run valid written fn lowered many (void_or_parts p.structs result are sound) bodies f around b later args type id first s state of_module alike good puts inside held enough typed units;
 }

@@ -54,7 +54,7 @@ module _ (m : Module) (input : Input) (whole : Sections) (p : Program) where
 
   -- Wherever in the module a function is called, on arguments that wait in holders, the call does what one of a function of the program does.
   pub record FunctionDoes (place : FlowPlace) (stages : List (Option Value)) (globals : Around) (function : ℕ) (params : List (Direction × Ty)) (result : Ty) (call : List Value → Run Called) : Type 0 where
-    pub does : (f : Frame m input whole) (around : Around) (b later : Flow) (args : List Argument) (type id first units : ℕ) (s : shader.State) (state : State) → IsFrame m input whole place stages f → AreShared place b.place → AreAlike around globals → Good m input whole f p around b s state
+    pub does : (f : Frame m input whole) (around : Around) (b later : Flow) (args : List Argument) (type id first units : ℕ) (s : shader.State) (state : State) → IsFrame m input whole place stages f → AreAlike around globals → Good m input whole f p around b s state
         → giving_here op.FUNCTION_CALL (function ∷ ids_of args) type b ≡ Gives id later → Inside m input whole f later.sections → AreHeld m input whole f first state args → length args ≡ length params
         → ((number : ℕ) → HasType m input whole f p around (type_of_param (slice_get params number)) (slice_get (values_of args) number))
         → Follows m input p 0 units state (HasReturned f around result first id args state later) (λ t last. ⊥) (call (values_of args) s units)

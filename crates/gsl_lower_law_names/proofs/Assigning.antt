@@ -52,7 +52,7 @@ use Rattle.gsl_lower_follows.proofs.Beginning.{does_aside}
 use Rattle.gsl_lower_follows.proofs.Doing.{does_lift, does_then}
 use Rattle.gsl_lower_follows.proofs.Growing.{adds_given, adds_lift, adds_then, grown_then}
 use Rattle.gsl_lower_follows.proofs.Meeting.{grown_through}
-use Rattle.gsl_lower_follows.proofs.Holding.{Unchanged, after_then, does_map, id_moved, stores_whole}
+use Rattle.gsl_lower_follows.proofs.Holding.{Unchanged, after_then, does_map, id_moved, seat_known, stores_whole}
 use Rattle.gsl_lower_law_expr.proofs.Operands.{given_value}
 use Rattle.gsl_lower_law_expr.proofs.Shapes.{value_shape}
 use Rattle.gsl_lower_law_expr.proofs.Steps.{Always, always_converted, always_then, always_type}
@@ -153,7 +153,7 @@ module _ (m : Module) (input : Input) (sections : Sections) where
                 ready = l.ready;
                 seated = after.good.seated;
                 holds = (let h = holds_set m input sections f p around kind number seated.0 v s (access.stored (access.whole root) v s) state others (sets v s).blocks (sets v s).choices seated.1 after.good.holds in record { values = h.values; blocks = h.blocks; buffers = h.buffers; choices = h.choices; count = h.count; outside = h.outside });
-                typed = typed_set m input sections f p around kind number t v s (access.stored (access.whole root) v s) (sets v s).choices others known.typed typed after.good.typed;
+                typed = typed_set m input sections f p around kind number t v s (access.stored (access.whole root) v s) (sets v s).blocks (sets v s).choices others known.typed typed after.good.typed;
               };
               held = record { same = λ holder n less at. kept_set m input sections f p around b0.place.used seated.0 (kind number) v state state.variables no_holder seated.1 holder n at ∙ after.held.same holder n less at };
               ids = λ e. keeps_then (after.ids e) l.keeps;
@@ -161,7 +161,7 @@ module _ (m : Module) (input : Input) (sections : Sections) where
           })))
         where
           seated : (n : ℕ) × (f.seat (kind number) ≡ Some n) × (f.own id ≡ Some (Points (InVariable n [])))
-          seated = after.good.seated.each (kind number) id (same b.place ∙ is)
+          seated = seat_known m input sections f b.place after.good.seated (kind number) id (same b.place ∙ is)
 
           had : (o : Option Value) → value_of f.stages s (kind number) ≡ o → HasType m input sections f p around (Some t) o → (w : Value) × (value_of f.stages s (kind number) ≡ Some w)
           had None e has = absurd has

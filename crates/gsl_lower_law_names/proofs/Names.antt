@@ -24,6 +24,7 @@ use Rattle.gsl_lower_expr.specs.Parts.{accessed, class_by, interface_class, name
 use Rattle.gsl_lower_follows.specs.Frames.{Frame, Global, Good, HasType, Interface as Passed, Local, Name, Param, id_of, value_of}
 use Rattle.gsl_lower_follows.specs.Giving.{Adds, Does, GivesValue, GrownTo, HasGiven, none_waits}
 use Rattle.gsl_lower_follows.proofs.Growing.{adds_given, adds_then}
+use Rattle.gsl_lower_follows.proofs.Holding.{seat_known}
 use Rattle.gsl_lower_law_names.specs.Named.{IsNamed, named_means}
 use Rattle.gsl_lower_law_names.proofs.Reading.{adds_reads, does_reads}
 
@@ -64,7 +65,7 @@ module _ (m : Module) (input : Input) (sections : Sections) (f : Frame m input s
             → Does m input sections f p 0 units state (HasGiven m input sections f p around false t b state) none_waits (run s units) (behind (behind (id_at o b) (λ id. given (whole (Variable id class)))) (reads p.structs t))
         by b s units state good None e = tt
         by b s units state good (Some id) e =
-            let seated = good.seated.each name id (same b.place ∙ e) in
+            let seated = seat_known m input sections f b.place good.seated name id (same b.place ∙ e) in
             let value = valued s (value_of f.stages s name) refl (subst (λ o. HasType m input sections f p around o (value_of f.stages s name)) known.typed (good.typed.each name)) in
             subst (λ ran. Does m input sections f p 0 units state (HasGiven m input sections f p around false t b state) none_waits ran (reads p.structs t (whole (Variable id class)) b)) (sym (means value.0 s units value.1))
             (does_reads m input sections f p around id class seated.0 name t value.0 units b s state outside known.are known.sound good seated.2 seated.1 value.1 value.2)

@@ -16,7 +16,7 @@ use Rattle.gsl_meaning.specs.Blocks.{put_blocks}
 use Rattle.gsl_meaning.specs.State as shader
 use Rattle.gsl_machine.specs.State.{State}
 use Rattle.gsl_spv.specs.Sections.{Sections}
-use Rattle.gsl_lower_follows.specs.Frames.{AreTyped, Frame, HasType, Holder, Holds, Name, type_named, value_of}
+use Rattle.gsl_lower_follows.specs.Frames.{AreTyped, Frame, HasType, Holder, Holds, IsSeen, Name, type_named, value_of}
 use Rattle.gsl_lower_follows.proofs.Holding.{set_elsewhere, set_there}
 
 -- A state of the shader is another with a value in the variable of a name, which is one of a list of variables.
@@ -64,7 +64,7 @@ module _ (m : Module) (input : Input) (sections : Sections) (f : Frame m input s
       → Holds m input sections f p around t (record state { variables = set state.variables seat v })
   holds_set kind number seat v s t state others blocks choices at holds = record {
     values = λ name w is. by name w is (others name).side;
-    blocks = λ n id block is at. let b = holds.blocks n id block is at in (b.0, b.1, ap (λ l. slice_get l n) blocks ∙ b.2);
+    blocks = λ n id block is at. let b = holds.blocks n id block is at in (b.0, b.1, ap (λ l. slice_get l n) blocks ∙ b.2, b.3);
     buffers = holds.buffers ∙ ap (λ l. put_blocks p.structs p.blocks l input.buffers) (sym blocks);
     choices = holds.choices ∙ sym choices;
     count = length-set state.variables seat v ∙ holds.count;
@@ -81,8 +81,13 @@ module _ (m : Module) (input : Input) (sections : Sections) (f : Frame m input s
           let there = holds.values name w (sym e.1 ∙ is) in
           (there.0, there.1, set_elsewhere state.variables seat there.0 v (λ same. e.0 (f.apart name (kind number) seat (there.1 ∙ ap Some same) at)) ∙ there.2)
 
-  pub typed_set : (kind : ℕ → Name) (number : ℕ) (ty : Ty) (v : Value) (s t : shader.State) → t.choices ≡ s.choices → ((name : Name) → Other f.stages kind number v s t name) → type_named around (kind number) ≡ Some ty → is_value_of p.structs ty v ≡ true → AreTyped m input sections f p around s → AreTyped m input sections f p around t
-  typed_set kind number ty v s t same others has fits typed = record { choices = subst AreChoices (sym same) typed.choices; each = λ name. by name (others name).side; stages = typed.stages }
+  pub typed_set : (kind : ℕ → Name) (number : ℕ) (ty : Ty) (v : Value) (s t : shader.State) → t.blocks ≡ s.blocks → t.choices ≡ s.choices → ((name : Name) → Other f.stages kind number v s t name) → type_named around (kind number) ≡ Some ty → is_value_of p.structs ty v ≡ true → AreTyped m input sections f p around s → AreTyped m input sections f p around t
+  typed_set kind number ty v s t blocks same others has fits typed = record {
+    choices = subst AreChoices (sym same) typed.choices;
+    each = λ name. by name (others name).side;
+    blocks = λ n block is. subst (λ bs. IsSeen m input sections f p around block (slice_get bs n)) (sym blocks) (typed.blocks n block is);
+    stages = typed.stages;
+  }
     where
       by : (name : Name) → ((name ≡ kind number) × (value_of f.stages t name ≡ Some v)) ⊎ ((name ≢ kind number) × (value_of f.stages t name ≡ value_of f.stages s name)) → HasType m input sections f p around (type_named around name) (value_of f.stages t name)
       by name (inl e) = subst (λ o. HasType m input sections f p around o (value_of f.stages t name)) (sym (ap (type_named around) e.0 ∙ has)) (subst (HasType m input sections f p around (Some ty)) (sym e.1) fits)

@@ -127,7 +127,7 @@ module _ (m : Module) (input : Input) (whole : Sections) (f g : Frame m input wh
       stays number (λ less. not_seated number less (λ other shared. none other) (λ holder passed. none (Holder holder))) ∙ good.holds.outside number none
 
   pub typed_back : AreTyped m input whole f p around after
-  typed_back = record { each = each; choices = typed.choices; stages = λ number ty w is has. good.typed.stages number ty w is has }
+  typed_back = record { each = each; choices = typed.choices; blocks = typed.blocks; stages = λ number ty w is has. good.typed.stages number ty w is has }
     where
       each : (name : Name) → HasType m input whole f p around (type_named around name) (value_of f.stages after name)
       each (Global k) = subst (λ l. HasType m input whole f p around (type_of_global (slice_get l k)) (slice_get t.globals k)) alike.globals (typed.each (Global k))

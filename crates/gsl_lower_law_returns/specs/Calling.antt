@@ -52,7 +52,7 @@ module _ (m : Module) (input : Input) (whole : Sections) where
   -- and the function's own variables stand behind those that were there, which were then as in that state.
   pub record IsCalled (f g : Frame m input whole) (first id : ℕ) (state : State) (rest : List Placed) : Type 0 where
     pub waiting : g.waiting ≡ call_of id state rest ∷ f.waiting
-    pub blocks : g.blocks ≡ f.blocks
+    pub blocks : g.place.blocks ≡ f.place.blocks
     pub stages : g.stages ≡ f.stages
     pub shared : (name : Name) → is_shared name ≡ true → g.seat name ≡ f.seat name
     pub params : (number seat : ℕ) → g.seat (Param number) ≡ Some seat → (holder : ℕ) × (first ≤ holder) × (f.seat (Holder holder) ≡ Some seat)

@@ -28,7 +28,7 @@ use Rattle.gsl_lower_follows.specs.Giving.{Adds, Does, GivesValue, GrownTo, HasG
 use Rattle.gsl_lower_follows.proofs.Behind.{follows_then}
 use Rattle.gsl_lower_follows.proofs.Doing.{does_lift}
 use Rattle.gsl_lower_follows.proofs.Growing.{adds_then}
-use Rattle.gsl_lower_follows.proofs.Holding.{stores_whole}
+use Rattle.gsl_lower_follows.proofs.Holding.{seat_known, stores_whole}
 use Rattle.gsl_lower_follows.proofs.Placing.{inside_between}
 use Rattle.gsl_lower_law_expr.proofs.Operands.{given_value}
 use Rattle.gsl_lower_law_names.specs.Named.{IsNamed}
@@ -85,12 +85,12 @@ module _ (m : Module) (input : Input) (sections : Sections) (f : Frame m input s
           ready = l.ready;
           seated = good.seated;
           holds = (let h = holds_set m input sections f p around Local number seated.0 v s (now v s) state others refl refl seated.1 good.holds in record { values = h.values; blocks = h.blocks; buffers = h.buffers; choices = h.choices; count = h.count; outside = h.outside });
-          typed = typed_set m input sections f p around Local number t v s (now v s) refl others known.typed typed good.typed;
+          typed = typed_set m input sections f p around Local number t v s (now v s) refl refl others known.typed typed good.typed;
         },
       ))
     where
       seated : (n : ℕ) × (f.seat (Local number) ≡ Some n) × (f.own id ≡ Some (Points (InVariable n [])))
-      seated = good.seated.each (Local number) id is
+      seated = seat_known m input sections f b.place good.seated (Local number) id is
 
       had : (o : Option Value) → value_of f.stages s (Local number) ≡ o → HasType m input sections f p around (Some t) o → (w : Value) × (value_of f.stages s (Local number) ≡ Some w)
       had None e has = absurd has

@@ -47,7 +47,6 @@ use Rattle.gsl_lower_follows.proofs.Drawn.{after_drawn, choices_are, left_with}
 use Rattle.gsl_lower_follows.proofs.Fetching.{adds_type_id}
 use Rattle.gsl_lower_follows.proofs.Growing.{adds_lift, adds_then}
 use Rattle.gsl_lower_follows.proofs.Holding.{after_same, after_then, does_so}
-use Rattle.gsl_lower_law_built.specs.Places.{GivesWhere}
 use Rattle.gsl_lower_law_names.specs.Named.{IsNamed}
 use Rattle.gsl_lower_law_stmt.specs.Doing.{DoesStatement, declared, declared_means}
 use Rattle.gsl_lower_law_stmt.proofs.Declared.{declared_does}
@@ -109,7 +108,7 @@ module _ (m : Module) (input : Input) (whole : Sections) (f : Frame m input whol
   abbrev IsTyped : Ty → Flow → State → ℕ → Flow → Unit {0} → shader.State → State → Type 0
   IsTyped t b state type later r u last = After m input whole f p around false b state later u last × (module_zeros m type ≡ zero_value p.structs t)
 
-  type_does_zero : (t : Ty) → IsSound (length p.structs) t → (units : ℕ) (b : Flow) (s : shader.State) (state : State) → Good m input whole f p around b s state → (shape_of t ≡ None → KnowsZeros m p.structs t b.place)
+  type_does_zero : (t : Ty) → IsSound (length p.structs) t → (units : ℕ) (b : Flow) (s : shader.State) (state : State) → Good m input whole f p around b s state → (shape_of t ≡ None → KnowsZeros m p.structs t f.place)
       → Does m input whole f p 0 units state (IsTyped t b state) none_waits (Got tt s units) (type_id t b)
   unfolding type_id
   type_does_zero t sound units b s state good knows = by (shape_of t) refl
@@ -119,7 +118,7 @@ module _ (m : Module) (input : Input) (whole : Sections) (f : Frame m input whol
       found (Some id) e known = λ inside. reaches_here m input units state (IsTyped t b state id b tt s) (after_same m input whole f p around b s state good, known id e)
 
       by : (o : Option Shape) → shape_of t ≡ o → Does m input whole f p 0 units state (IsTyped t b state) none_waits (Got tt s units) (type_by t o b)
-      by None e = found (find_type t b.place.composites) refl (knows e)
+      by None e = found (find_type t b.place.composites) refl (λ id there. knows e id (sym (ap (λ (place : FlowPlace). find_type t place.composites) good.seated.same) ∙ there))
       by (Some shape) e =
           does_lift m input whole f p around units b s state (ZeroIs (zero_of shape)) (drawing state state.choices) (IsTyped t b state) none_waits tt s (type_of shape) good (shape_does shape state b.sections)
           (λ type later l inside extends. (
@@ -142,7 +141,7 @@ module _ (m : Module) (input : Input) (whole : Sections) (f : Frame m input whol
             (after_drawn m input whole f p around b s state l.ids state.choices later (choices_are m input whole f p around b s state good) good inside l.ready l.keeps);
       })
 
-  zeros_do : (t : Ty) → IsSound (length p.structs) t → is_value_of p.structs t (zero_value p.structs t) ≡ true → (b : Flow) (s : shader.State) (units : ℕ) (state : State) → Good m input whole f p around b s state → (shape_of t ≡ None → KnowsZeros m p.structs t b.place)
+  zeros_do : (t : Ty) → IsSound (length p.structs) t → is_value_of p.structs t (zero_value p.structs t) ≡ true → (b : Flow) (s : shader.State) (units : ℕ) (state : State) → Good m input whole f p around b s state → (shape_of t ≡ None → KnowsZeros m p.structs t f.place)
       → Does m input whole f p 0 units state (HasGiven m input whole f p around false t b state) none_waits (Got (zero_value p.structs t) s units) (zeros t b)
   unfolding zeros
   zeros_do t sound typed b s units state good knows =
@@ -159,21 +158,14 @@ module _ (m : Module) (input : Input) (whole : Sections) (f : Frame m input whol
       grows type b true = extends_intern (d.null type) b.sections
       grows type b false = tt
 
-pub zeros_given : (m : Module) (input : Input) (sections : Sections) (f : Frame m input sections) (p : Program) (around : Around) (t : Ty) (shape : Shape) → Nulls m sections f.own → IsSound (length p.structs) t → shape_of t ≡ Some shape → is_value_of p.structs t (zero_value p.structs t) ≡ true
-    → GivesValue m input sections f p around false t (zeros t) (shader_given (zero_value p.structs t))
-zeros_given m input sections f p around t shape nulls sound is typed = record {
+pub zeros_given : (m : Module) (input : Input) (sections : Sections) (f : Frame m input sections) (p : Program) (around : Around) (t : Ty) → Nulls m sections f.own → (shape_of t ≡ None → KnowsZeros m p.structs t f.place) → IsSound (length p.structs) t
+    → is_value_of p.structs t (zero_value p.structs t) ≡ true → GivesValue m input sections f p around false t (zeros t) (shader_given (zero_value p.structs t))
+zeros_given m input sections f p around t nulls knows sound typed = record {
   adds = adds_zeros m input sections t;
-  does = λ b s units state good. zeros_do m input sections f p around nulls t sound typed b s units state good (λ none. absurd (let z : None ≡ Some shape = sym none ∙ is in cc));
+  does = λ b s units state good. zeros_do m input sections f p around nulls t sound typed b s units state good knows;
 }
 
-pub known_zeros_give : (m : Module) (input : Input) (sections : Sections) (f : Frame m input sections) (p : Program) (around : Around) (t : Ty) → Nulls m sections f.own → IsSound (length p.structs) t → is_value_of p.structs t (zero_value p.structs t) ≡ true
-    → GivesWhere m input sections f p around (KnowsZeros m p.structs t) false t (zeros t) (shader_given (zero_value p.structs t))
-known_zeros_give m input sections f p around t nulls sound typed = record {
-  adds = adds_zeros m input sections t;
-  does = λ b s units state good known. zeros_do m input sections f p around nulls t sound typed b s units state good (λ none. known);
-}
-
-pub zeros_declared : (m : Module) (input : Input) (sections : Sections) (f : Frame m input sections) (p : Program) (around : Around) (number : ℕ) (t : Ty) (shape : Shape) → Nulls m sections f.own → IsNamed p around (Local number) t → shape_of t ≡ Some shape → is_value_of p.structs t (zero_value p.structs t) ≡ true
-    → DoesStatement m input sections f p around false (declared number (zeros t)) (declared_means number (shader_given (zero_value p.structs t)))
-zeros_declared m input sections f p around number t shape nulls named is typed =
-    declared_does m input sections f p around number t named false (zeros t) (shader_given (zero_value p.structs t)) (zeros_given m input sections f p around t shape nulls named.sound is typed)
+pub zeros_declared : (m : Module) (input : Input) (sections : Sections) (f : Frame m input sections) (p : Program) (around : Around) (number : ℕ) (t : Ty) → Nulls m sections f.own → (shape_of t ≡ None → KnowsZeros m p.structs t f.place) → IsNamed p around (Local number) t
+    → is_value_of p.structs t (zero_value p.structs t) ≡ true → DoesStatement m input sections f p around false (declared number (zeros t)) (declared_means number (shader_given (zero_value p.structs t)))
+zeros_declared m input sections f p around number t nulls knows named typed =
+    declared_does m input sections f p around number t named false (zeros t) (shader_given (zero_value p.structs t)) (zeros_given m input sections f p around t nulls knows named.sound typed)

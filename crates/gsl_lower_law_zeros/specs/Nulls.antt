@@ -26,6 +26,6 @@ pub record Nulls (m : Module) (sections : Sections) (own : Ids) : Type 0 where
   pub scalar : (s : Scalar) (id : ℕ) → Contains sections.globals (defining (d.plain_type (plain_scalar s)) id) → zeros m id ≡ Word 0
   pub vector : (component count id : ℕ) → Contains sections.globals (defining (d.plain_type (plain.Vector component count)) id) → zeros m id ≡ Many (replicate count (zeros m component))
 
--- The zeros of what stands for an array or a struct of the program at a place are its zeros.
+-- The zeros of what stands for an array or a struct of the program are its zeros.
 abbrev pub KnowsZeros : Module → List StructType → Ty → FlowPlace → Type 0
 KnowsZeros m structs t place = (id : ℕ) → find_type t place.composites ≡ Some id → zeros m id ≡ zero_value structs t

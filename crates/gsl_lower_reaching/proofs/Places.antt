@@ -38,7 +38,7 @@ use Rattle.gsl_lower_follows.proofs.Behind.{reaches_here}
 use Rattle.gsl_lower_follows.proofs.Doing.{does_then}
 use Rattle.gsl_lower_follows.proofs.Fetching.{adds_type_id}
 use Rattle.gsl_lower_follows.proofs.Growing.{adds_given, adds_then}
-use Rattle.gsl_lower_follows.proofs.Holding.{Unchanged, after_same, after_then, does_type_id}
+use Rattle.gsl_lower_follows.proofs.Holding.{Unchanged, after_same, after_then, does_type_id, seat_known}
 use Rattle.gsl_lower_law_expr.proofs.Operands.{after_less, given_value}
 use Rattle.gsl_lower_law_expr.proofs.Binary.{shape_is}
 use Rattle.gsl_lower_law_names.specs.Named.{IsNamed}
@@ -98,7 +98,7 @@ module _ (m : Module) (input : Input) (sections : Sections) (f : Frame m input s
               → Does m input sections f p 0 units state (HasReached m input sections f p around false false writes t b state) (HasStrayed m input sections f p around false false writes t b state) (Got (access.whole root) s units) (behind (id_at o b) (λ id. given (whole (Variable id class))))
           by b s units state good None e = tt
           by b s units state good (Some id) e = λ inside.
-              let seated = good.seated.each name id (same b.place ∙ e) in
+              let seated = seat_known m input whole f b.place good.seated name id (same b.place ∙ e) in
               reaches_here m input units state (HasReached m input sections f p around false false writes t b state (whole (Variable id class)) b (access.whole root) s)
               (record {
                 trail = named_trail;

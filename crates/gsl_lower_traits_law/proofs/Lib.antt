@@ -1,0 +1,2 @@
+mod Coming
+pub mod Told
