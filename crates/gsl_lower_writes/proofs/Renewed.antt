@@ -144,7 +144,7 @@ module _ (m : Module) (input : Input) (sections : Sections) (f : Frame m input s
               ready = ready;
               seated = good.seated;
               holds = (let h = holds_set m input sections f p around (λ k. x.name) 0 x.number all s (with_root l.root all s) state others stay.0 stay.1 x.seat good.holds in record { values = h.values; blocks = h.blocks; buffers = h.buffers; choices = h.choices; count = h.count; outside = h.outside });
-              typed = typed_set m input sections f p around (λ k. x.name) 0 l.ty all s (with_root l.root all s) stay.1 others x.typed all_typed good.typed;
+              typed = typed_set m input sections f p around (λ k. x.name) 0 l.ty all s (with_root l.root all s) stay.0 stay.1 others x.typed all_typed good.typed;
             };
             held = record { same = λ holder n less at. kept_set m input sections f p around b.place.used x.number x.name all state state.variables (no_holder x.name l.root x.begins) x.seat holder n at };
             ids = λ e. keeps;
