@@ -1,5 +1,5 @@
 -- Assignments to what expressions lead to.
-use Rattle.std.proofs.Common.{◌≡◌, ◌≢◌, refl, sym, ap, ◌∙◌, subst, inr, ℕ, Bool, true, false, ◌||◌, length}
+use Rattle.std.proofs.Common.{◌≡◌, ◌≢◌, refl, sym, ◌∙◌, subst, inr, ℕ, Bool, true, false, ◌||◌}
 use Rattle.gsl_base.specs.declared.input.Input.{Input}
 use Rattle.gsl_types.specs.declared.ty.Ty.{Ty}
 use Rattle.gsl_types.specs.declared.ty.Ty.TheVariants.{Void}
@@ -16,9 +16,9 @@ use Rattle.gsl_machine.specs.State.{State}
 use Rattle.gsl_spv.specs.Sections.{Sections}
 use Rattle.gsl_lower_places.specs.declared.reached.Reached.{Reached}
 use Rattle.gsl_lower_law.specs.Values.{Stands}
-use Rattle.gsl_lower_holders.specs.Flow.{Emit, Flow, behind, given, lift, ◌>>=◌}
+use Rattle.gsl_lower_holders.specs.Flow.{Emit, Flow, given, lift, ◌>>=◌}
 use Rattle.gsl_lower_holders.specs.Waiting.{fetch_reached, hold_reached}
-use Rattle.gsl_lower_expr.specs.Parts.{Lower, after_assign, assigned, before_assign, probe, stores}
+use Rattle.gsl_lower_expr.specs.Parts.{Lower, assigned, before_assign, probe, stores}
 use Rattle.gsl_lower_follows.specs.Frames.{Frame, Good}
 use Rattle.gsl_lower_follows.specs.Giving.{Adds, After, Does, GivesValue, Grown, GrownTo, HasGiven, none_waits}
 use Rattle.gsl_lower_follows.proofs.Behind.{reaches_here}
@@ -33,9 +33,10 @@ use Rattle.gsl_lower_reaching.proofs.Moving.{trail_after}
 use Rattle.gsl_lower_held.specs.Waiting.{IsKept}
 use Rattle.gsl_lower_held.proofs.Holds.{adds_fetched, adds_held, is_fetched, is_held}
 use Rattle.gsl_lower_indexes.specs.Computed.{Comes}
+use Rattle.gsl_lower_writes.specs.Written.{IsWritten}
 use Rattle.gsl_lower_writes.proofs.Adding.{adds_stores}
 use Rattle.gsl_lower_writes.proofs.Outside.{store_strays}
-use Rattle.gsl_lower_writes.proofs.Stored.{IsDone, trail_stored}
+use Rattle.gsl_lower_writes.proofs.Stored.{trail_stored}
 use Rattle.gsl_lower_assigns.specs.Assigning.{Assigns, assign_means}
 use Rattle.gsl_lower_assigns.proofs.Probing.{IsTested, adds_probe, probe_in, probe_none, probe_out}
 
@@ -107,7 +108,7 @@ module _ (m : Module) (input : Input) (sections : Sections) (f : Frame m input s
     module _ (b : Flow) (s : shader.State) (units : ℕ) (state : State) (r : Reached) (l : Trail) (good : Good m input sections f p around b s state) (is : IsTrail m input sections f p around false loose b state r l) (stands : Stands state.ids id v) where
       put_inside : (x : Access) → IsInside p.structs true t x l → Does m input sections f p 0 units state (Has false b state) none_waits (Got v (stored x v s) units) (put_in id r b)
       put_inside x inside =
-          does_then m input sections f p 0 units b state (IsDone m input sections f p around known.are loose t known.sound id v typed x l inside b state) none_waits (Has false b state) none_waits (Got tt (stored x v s) units) (λ one u left. Got v u left) (stores p.structs t r id b) (λ done. given id) good.inside
+          does_then m input sections f p 0 units b state (IsWritten m input sections f p around b state) none_waits (Has false b state) none_waits (Got tt (stored x v s) units) (λ one u left. Got v u left) (stores p.structs t r id b) (λ done. given id) good.inside
           (adds_stores m input sections p.structs t r id b) (λ done. adds_given id)
           (trail_stored m input sections f p around known.are loose t known.sound id v typed x l inside b s units state r good is stands)
           (λ done between one u left mid within grown after less. λ there. reaches_here m input left mid (Has false b state id between v u) (record { given = inr (typed, (after.ids refl).same id _ stands); after = after }))

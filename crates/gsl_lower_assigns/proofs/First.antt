@@ -1,12 +1,11 @@
 -- Values of a type have its first leaf.
-use Rattle.std.proofs.Common.{◌≡◌, refl, sym, ap, ◌∙◌, subst, ℕ, zero, suc, ◌<◌, ◌≤◌, Bool, true, false, ◌&&◌, List, [], ◌∷◌, ◌++◌, length, map, get_or, Some, arith}
-use Rattle.std.specs.Prelude.{IsTrue, nat_le, replicate, slice_get}
+use Rattle.std.proofs.Common.{◌≡◌, refl, sym, ap, ◌∙◌, subst, ℕ, zero, suc, ◌<◌, ◌≤◌, Bool, true, false, List, [], ◌∷◌, ◌++◌, length, map, get_or, arith}
+use Rattle.std.specs.Prelude.{IsTrue, nat_le, replicate}
 use Rattle.std.specs.List.{AllByRecursion}
 use Rattle.std.proofs.lemmas.Bool.{and_parts, false≢true, leb-true}
 use Rattle.gsl_types.specs.Known.{AreStructs, IsSound, sound, sound_kind}
 use Rattle.gsl_types.specs.Structs.{layer, members_over, numbered, over, struct_over, table_from}
 use Rattle.gsl_types.specs.declared.ty.Member.{Member}
-use Rattle.gsl_types.specs.declared.ty.Scalar.{Scalar}
 use Rattle.gsl_types.specs.declared.ty.StructType.{StructType}
 use Rattle.gsl_types.specs.declared.ty.Ty.{Ty}
 use Rattle.gsl_types.specs.declared.ty.Ty.TheFolds.{fold-roll-Ty, ind-Ty, map-Ty}
@@ -15,7 +14,7 @@ use Rattle.gsl_types.specs.declared.ty.Ty.TheViews.{roll-Ty}
 use Rattle.gsl_values.specs.declared.value.Value.{Value}
 use Rattle.gsl_values.specs.declared.value.Value.TheVariants.{Many, outs-Many}
 use Rattle.gsl_tree.specs.Operations.{member_value}
-use Rattle.gsl_tree.specs.Values.{all_pass, has_parts, is_scalar, is_value_of, parts_in, parts_layer, tests_of, value_meaning}
+use Rattle.gsl_tree.specs.Values.{all_pass, has_parts, is_value_of, parts_in, parts_layer, tests_of, value_meaning}
 use Rattle.gsl_machine.specs.State.{Ids}
 use Rattle.gsl_lower_places.specs.Reading.{number_in}
 use Rattle.gsl_lower_places.specs.declared.reached.Part.{Part}

@@ -33,7 +33,7 @@ use Rattle.gsl_lower_law_picks.proofs.Pointed.{whole_pointed, whole_pointed_out}
 use Rattle.gsl_lower_leaves.specs.Leaves.{leaves_of}
 use Rattle.gsl_lower_leaves.specs.declared.leaf.Leaf.{Leaf}
 use Rattle.gsl_lower_holders.specs.Flow.{Emit, Flow, behind, built_in, given, lift, ◌>>=◌}
-use Rattle.gsl_lower_expr.specs.Parts.{dropped, first_leaf, leaf_of, probe, probe_by, tested}
+use Rattle.gsl_lower_expr.specs.Parts.{first_leaf, leaf_of, probe, probe_by, tested}
 use Rattle.gsl_lower_follows.specs.Frames.{Frame, Good}
 use Rattle.gsl_lower_follows.specs.Giving.{Adds, After, Does, none_waits}
 use Rattle.gsl_lower_follows.proofs.Beginning.{does_aside}

@@ -1,5 +1,5 @@
 -- A new value is computed and stored.
-use Rattle.std.proofs.Common.{◌≡◌, ◌≢◌, refl, sym, ap, ◌∙◌, subst, inr, ℕ, Bool, true, false, ◌||◌, List, length, Some}
+use Rattle.std.proofs.Common.{◌≡◌, ◌≢◌, refl, sym, subst, inr, ℕ, Bool, true, false, ◌||◌, List, length, Some}
 use Rattle.gsl_base.specs.declared.input.Input.{Input}
 use Rattle.gsl_types.specs.Known.{AreStructs, IsSound}
 use Rattle.gsl_types.specs.declared.ty.Ty.{Ty}
@@ -13,7 +13,7 @@ use Rattle.gsl_tree.specs.Values.{is_value_of}
 use Rattle.gsl_tree.specs.declared.program.Program.{Program}
 use Rattle.gsl_typed_law.specs.Given.{AreChoices, Gives}
 use Rattle.gsl_meaning.specs.Accesses.{Access, read as means_read, stored}
-use Rattle.gsl_meaning.specs.Running.{Got, Ran, Run, drawing, storing}
+use Rattle.gsl_meaning.specs.Running.{Got, Ran, drawing, storing}
 use Rattle.gsl_meaning.specs.Running as shader_run
 use Rattle.gsl_meaning.specs.State as shader
 use Rattle.gsl_machine.specs.State.{Ids, State}
@@ -40,9 +40,10 @@ use Rattle.gsl_lower_law_expr.proofs.Steps.{Always}
 use Rattle.gsl_lower_reaching.specs.Reaching.{AtVariable}
 use Rattle.gsl_lower_reaching.specs.Trails.{IsInside, Trail}
 use Rattle.gsl_lower_reads.proofs.Adding.{always_read}
+use Rattle.gsl_lower_writes.specs.Written.{IsWritten}
 use Rattle.gsl_lower_writes.proofs.Adding.{adds_stores}
 use Rattle.gsl_lower_writes.proofs.Pointed.{ServesPlace}
-use Rattle.gsl_lower_writes.proofs.Renewed.{after_stored, all}
+use Rattle.gsl_lower_writes.proofs.Renewed.{after_stored}
 
 module _ (m : Module) (input : Input) (sections : Sections) (f : Frame m input sections) (p : Program) (around : Around) (t : Ty) where
   -- its value was given
@@ -59,7 +60,7 @@ module _ (m : Module) (input : Input) (sections : Sections) (f : Frame m input s
   -- Whenever ids still stand for the same, a value that is stored there stands there for the shader too.
   pub record Keeping (x : Access) (to : Reached) (ids : Ids) : Type 0 where
     pub stores : (b : Flow) (s : shader.State) (units : ℕ) (state : State) (value : ℕ) (v : Value) → Good m input sections f p around b s state → Keeps ids state.ids → is_value_of p.structs t v ≡ true → Stands state.ids value v
-        → Does m input sections f p 0 units state (λ (done : Unit {0}) later (one : Unit {0}) u last. After m input sections f p around false b state later u last) none_waits (Got tt (stored x v s) units) (stores p.structs t to value b)
+        → Does m input sections f p 0 units state (IsWritten m input sections f p around b state) none_waits (Got tt (stored x v s) units) (stores p.structs t to value b)
 
   module _ (x : Access) (to : Reached) where
     abbrev pub storing_code : ℕ → ℕ → Emit ℕ
@@ -72,7 +73,7 @@ module _ (m : Module) (input : Input) (sections : Sections) (f : Frame m input s
     pub stores_here : (id result_id : ℕ) (v w : Value) (b : Flow) (s : shader.State) (units : ℕ) (state : State) → Good m input sections f p around b s state → Keeping x to state.ids → is_value_of p.structs t v ≡ true → Stands state.ids id v → is_value_of p.structs t w ≡ true → Stands state.ids result_id w
         → Does m input sections f p 0 units state (Has false b state) none_waits (Got w (stored x v s) units) (storing_code id result_id b)
     stores_here id result_id v w b s units state good keeping typed stands typed_w stands_w =
-        does_then m input sections f p 0 units b state (λ (done : Unit {0}) later (one : Unit {0}) u last. After m input sections f p around false b state later u last) none_waits (Has false b state) none_waits (Got tt (stored x v s) units) (λ one u left. Got w u left) (stores p.structs t to id b) (λ done. given result_id) good.inside
+        does_then m input sections f p 0 units b state (IsWritten m input sections f p around b state) none_waits (Has false b state) none_waits (Got tt (stored x v s) units) (λ one u left. Got w u left) (stores p.structs t to id b) (λ done. given result_id) good.inside
         (adds_stores m input sections p.structs t to id b) (λ done. adds_given result_id)
         (keeping.stores b s units state id v good (keeps_same state.ids) typed stands)
         (λ done between one u left mid within grown after less. λ there. reaches_here m input left mid (Has false b state result_id between w u) (record { given = inr (typed_w, (after.ids refl).same result_id _ stands_w); after = after }))
@@ -117,8 +118,8 @@ module _ (m : Module) (input : Input) (sections : Sections) (f : Frame m input s
     unfolding stores
     serving_keeps to ids serving = record {
       stores = λ b s units state value v good keeps typed stands.
-          subst (λ o. Does m input sections f p 0 units state (λ (done : Unit {0}) later (one : Unit {0}) u last. After m input sections f p around false b state later u last) none_waits (Got tt (stored a v s) units) (store_by p.structs t to value o b)) (sym shaped)
-          (does_lift m input sections f p around units b s state Nothing (stored_left m input sections state _ state.buffers) (λ (done : Unit {0}) later (one : Unit {0}) u last. After m input sections f p around false b state later u last) none_waits tt (stored a v s) (stored_step shape to value) good
+          subst (λ o. Does m input sections f p 0 units state (IsWritten m input sections f p around b state) none_waits (Got tt (stored a v s) units) (store_by p.structs t to value o b)) (sym shaped)
+          (does_lift m input sections f p around units b s state Nothing (stored_left m input sections state _ state.buffers) (IsWritten m input sections f p around b state) none_waits tt (stored a v s) (stored_step shape to value) good
           (serving.stores b s state value v typed good keeps stands)
           (λ done later q inside_later extends. after_stored m input sections f p around are loose t sound_t b s state r a l good x inside v typed q.ids later inside_later q.ready q.keeps));
     }

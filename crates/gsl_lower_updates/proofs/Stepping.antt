@@ -1,12 +1,11 @@
 -- Steps before and after.
-use Rattle.std.proofs.Common.{◌≡◌, ◌≢◌, refl, sym, ap, ◌∙◌, subst, ℕ, Bool, true, false, ◌||◌, List, length, Some, if◌then◌else◌}
+use Rattle.std.proofs.Common.{◌≡◌, refl, sym, subst, ℕ, Bool, true, false, ◌||◌, if◌then◌else◌}
 use Rattle.gsl_base.specs.declared.input.Input.{Input}
 use Rattle.gsl_types.specs.declared.ty.Ty.{Ty}
 use Rattle.gsl_words.specs.declared.module.Module.{Module}
 use Rattle.gsl_values.specs.declared.value.Value.{Value}
 use Rattle.gsl_tree.specs.Around.{Around}
 use Rattle.gsl_tree.specs.Operations.{is_postfix, step_value}
-use Rattle.gsl_tree.specs.Shapes.{Shape}
 use Rattle.gsl_tree.specs.Values.{is_value_of}
 use Rattle.gsl_tree.specs.declared.expr.StepOp.{StepOp}
 use Rattle.gsl_tree.specs.declared.program.Program.{Program}
@@ -27,7 +26,7 @@ use Rattle.gsl_lower_law_operators.proofs.Straights.{stepped_computes}
 use Rattle.gsl_lower_holders.specs.Flow.{Emit, Flow, given, lift, ◌>>=◌}
 use Rattle.gsl_lower_expr.specs.Parts.{Lower, reads, shape_or, stepped, stepped_at, stores}
 use Rattle.gsl_lower_follows.specs.Frames.{Frame, Good, HeldAs}
-use Rattle.gsl_lower_follows.specs.Giving.{Adds, Does, GivesValue, HasGiven, none_waits}
+use Rattle.gsl_lower_follows.specs.Giving.{Adds, Does, GivesValue, none_waits}
 use Rattle.gsl_lower_follows.proofs.Doing.{does_then}
 use Rattle.gsl_lower_follows.proofs.Drawn.{computed_given}
 use Rattle.gsl_lower_follows.proofs.Growing.{adds_given, adds_lift, adds_then}
@@ -35,7 +34,7 @@ use Rattle.gsl_lower_law_expr.proofs.Binary.{shape_is}
 use Rattle.gsl_lower_law_expr.proofs.Operands.{given_value}
 use Rattle.gsl_lower_law_expr.proofs.Shapes.{value_shape}
 use Rattle.gsl_lower_law_expr.proofs.Steps.{always_stepped}
-use Rattle.gsl_lower_reaching.specs.Reaching.{AtVariable, Begins, GivesPlace, HasReached, HasStrayed, IsTrail}
+use Rattle.gsl_lower_reaching.specs.Reaching.{AtVariable, GivesPlace, HasReached, HasStrayed, IsTrail}
 use Rattle.gsl_lower_reaching.specs.Reaching.Begins.{variable}
 use Rattle.gsl_lower_reaching.specs.Trails.{IsInside, IsOutside, Trail}
 use Rattle.gsl_lower_reads.proofs.Adding.{adds_reads}

@@ -1,5 +1,5 @@
 -- Assignments by operators.
-use Rattle.std.proofs.Common.{◌≡◌, ◌≢◌, refl, sym, ap, ◌∙◌, subst, inl, inr, ℕ, Bool, true, false, not, ◌||◌, List, length, Option, Some, IsTrue}
+use Rattle.std.proofs.Common.{◌≡◌, refl, sym, ap, ◌∙◌, subst, inl, inr, ℕ, Bool, true, false, not, ◌||◌, List, Some, IsTrue}
 use Rattle.gsl_base.specs.declared.input.Input.{Input}
 use Rattle.gsl_types.specs.declared.ty.Ty.{Ty}
 use Rattle.gsl_words.specs.declared.module.Module.{Module}
@@ -18,7 +18,6 @@ use Rattle.gsl_meaning.specs.Running as shader_run
 use Rattle.gsl_meaning.specs.State as shader
 use Rattle.gsl_machine.specs.State.{Ids, State}
 use Rattle.gsl_spv.specs.Sections.{Sections}
-use Rattle.gsl_lower_values.specs.Building as steps
 use Rattle.gsl_lower_values.specs.Building.{Step}
 use Rattle.gsl_lower_values.specs.Constructors.{operand}
 use Rattle.gsl_lower_values.specs.Operators as operators
@@ -26,7 +25,7 @@ use Rattle.gsl_lower_places.specs.Pointed.{pointed}
 use Rattle.gsl_lower_places.specs.declared.reached.Reached.{Reached}
 use Rattle.gsl_lower_law.specs.Computing.{Computes}
 use Rattle.gsl_lower_law.specs.Operands.{Fit}
-use Rattle.gsl_lower_law.specs.Values.{IsOf, Keeps, Stands}
+use Rattle.gsl_lower_law.specs.Values.{Keeps, Stands}
 use Rattle.gsl_lower_law_operators.proofs.Binaries.{binary_computes}
 use Rattle.gsl_lower_holders.specs.Flow.{Emit, Flow, given, lift, ◌>>=◌}
 use Rattle.gsl_lower_holders.specs.Waiting.{fetch, fetch_reached, hold, hold_reached}

@@ -1,7 +1,6 @@
 -- What is stored where a trail leads out of bounds strays.
 use Rattle.std.proofs.Common.{◌≡◌, refl, sym, ap, ◌∙◌, subst, inl, inr, ℕ, ◌≤◌, ◌⊎◌, Bool, true, false, List, [], ◌∷◌, ◌++◌, length, Option, Some, None, arith, if◌then◌else◌}
 use Rattle.std.specs.Prelude.{◌==◌, slice_get}
-use Rattle.std.specs.List.{AllByRecursion}
 use Rattle.std.proofs.lemmas.Bool.{eqb-true}
 use Rattle.std.proofs.lemmas.List.{length-map}
 use Rattle.gsl_base.specs.declared.input.Input.{Input}
@@ -34,7 +33,6 @@ use Rattle.gsl_lower_law.specs.Straying.{Strays as StepStrays}
 use Rattle.gsl_lower_law.specs.Values.{IsOf, Stands}
 use Rattle.gsl_lower_law_places.specs.Components.{Chooses}
 use Rattle.gsl_lower_law_places.specs.Leading.{LeadsTo, NumberEach, StraysFrom}
-use Rattle.gsl_lower_law_places.specs.Storing.{AreStored}
 use Rattle.gsl_lower_law_places.proofs.Outside.{pointer_strays, put_strays}
 use Rattle.gsl_lower_law_places.proofs.Reading.{numbers_on}
 use Rattle.gsl_lower_law_places.proofs.Variables.{parts_are}

@@ -1,5 +1,5 @@
 -- What an assignment makes of the value to which the numbers of a trail lead.
-use Rattle.std.proofs.Common.{◌≡◌, refl, sym, ap, ap₂, ◌∙◌, subst, ℕ, zero, suc, ◌<◌, ◌≤◌, Bool, true, false, List, [], ◌∷◌, ◌++◌, map, set, length, Option, Some, None, arith}
+use Rattle.std.proofs.Common.{◌≡◌, refl, sym, ap, ap₂, ◌∙◌, subst, ℕ, zero, suc, ◌<◌, ◌≤◌, true, false, List, [], ◌∷◌, ◌++◌, map, set, length, Option, Some, None, arith}
 use Rattle.std.specs.Prelude.{slice_index, slice_index_or}
 use Rattle.std.specs.List.{AllByRecursion}
 use Rattle.std.proofs.lemmas.List.{length-map}
@@ -20,7 +20,7 @@ use Rattle.gsl_lower_law_places.specs.Components.{chosen}
 use Rattle.gsl_lower_law_places.specs.Storing.{goes_to}
 use Rattle.gsl_lower_law_places.proofs.Kept.{component_new, put_on}
 use Rattle.gsl_lower_law_places.proofs.Variables.{parts_are, value_on}
-use Rattle.gsl_lower_reaching.specs.Trails.{ArePicked, Chosen, IsChosen, IsPicked, effective}
+use Rattle.gsl_lower_reaching.specs.Trails.{ArePicked, Chosen, IsChosen, effective}
 use Rattle.gsl_lower_reaching.specs.Trails.ArePicked.{swizzled, component, repeated}
 use Rattle.gsl_lower_writes.proofs.Once.{all_put, goes_below, goes_long, goes_once, goes_there, length_put, no_twice, put_replaces}
 

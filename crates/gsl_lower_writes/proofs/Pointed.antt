@@ -1,5 +1,5 @@
 -- One pointer to where a trail leads serves what is read there and what is stored.
-use Rattle.std.proofs.Common.{◌≡◌, refl, sym, ap, ◌∙◌, subst, ℕ, ◌≤◌, Bool, true, false, List, [], ◌∷◌, ◌++◌, length, Option, Some, None}
+use Rattle.std.proofs.Common.{◌≡◌, refl, sym, ap, ◌∙◌, subst, ℕ, ◌≤◌, Bool, true, false, [], ◌++◌, length, Option, Some, None}
 use Rattle.std.specs.Prelude.{set, slice_get}
 use Rattle.gsl_base.specs.declared.input.Input.{Input}
 use Rattle.gsl_types.specs.Known.{AreStructs, IsSound}
@@ -7,18 +7,17 @@ use Rattle.gsl_types.specs.declared.ty.Ty.{Ty}
 use Rattle.gsl_words.specs.declared.module.Module.{Module}
 use Rattle.gsl_values.specs.declared.value.Value.{Value}
 use Rattle.gsl_tree.specs.Around.{Around}
-use Rattle.gsl_tree.specs.Operations.{value_at, with_value_at}
+use Rattle.gsl_tree.specs.Operations.{with_value_at}
 use Rattle.gsl_tree.specs.Shapes.{Shape, shape_of}
 use Rattle.gsl_tree.specs.Values.{is_value_of}
 use Rattle.gsl_tree.specs.declared.program.Program.{Program}
-use Rattle.gsl_meaning.specs.Accesses.{Access, read as means_read, root_value}
+use Rattle.gsl_meaning.specs.Accesses.{Access, read as means_read}
 use Rattle.gsl_meaning.specs.Running.{Got}
 use Rattle.gsl_meaning.specs.State as shader
 use Rattle.gsl_machine.specs.Memory.{with_variable}
-use Rattle.gsl_machine.specs.State.{Ids, InVariable, Points, State, on}
+use Rattle.gsl_machine.specs.State.{Ids, InVariable, State, on}
 use Rattle.gsl_spv.specs.Sections.{Sections}
-use Rattle.gsl_lower_places.specs.Pointed.{pointed, pointed_from}
-use Rattle.gsl_lower_places.specs.Reached.{stored_shape}
+use Rattle.gsl_lower_places.specs.Pointed.{pointed}
 use Rattle.gsl_lower_places.specs.Reading.{read}
 use Rattle.gsl_lower_places.specs.Writing.{stored}
 use Rattle.gsl_lower_places.specs.declared.reached.Base.TheVariants.{Variable}
@@ -26,10 +25,8 @@ use Rattle.gsl_lower_places.specs.declared.reached.Picked.{Picked}
 use Rattle.gsl_lower_places.specs.declared.reached.Reached.{Reached}
 use Rattle.gsl_lower_law.specs.Computing.{Acts, Computes, drawing}
 use Rattle.gsl_lower_law.specs.Computing as law
-use Rattle.gsl_lower_law.specs.Operands.{converted_value}
 use Rattle.gsl_lower_law.specs.Values.{IsOf, Keeps, Stands}
-use Rattle.gsl_lower_law_places.specs.Components.{AreWithin, HoldsComponents, picks_of}
-use Rattle.gsl_lower_law_places.specs.Leading.{HoldsValue}
+use Rattle.gsl_lower_law_places.specs.Components.{HoldsComponents, picks_of}
 use Rattle.gsl_lower_law_places.specs.Storing.{AreStored, Stores}
 use Rattle.gsl_lower_law_places.proofs.Kept.{lies_same}
 use Rattle.gsl_lower_law_places.proofs.Loads.{loaded_computes}
@@ -43,7 +40,7 @@ use Rattle.gsl_lower_follows.specs.Frames.{Frame, Good, HeldAs}
 use Rattle.gsl_lower_follows.specs.Giving.{After, Does, none_waits}
 use Rattle.gsl_lower_follows.proofs.Doing.{does_lift}
 use Rattle.gsl_lower_elements.proofs.Indexing.{after_step}
-use Rattle.gsl_lower_reaching.specs.Reaching.{At, AtVariable, Begins, IsTrail, PicksBy}
+use Rattle.gsl_lower_reaching.specs.Reaching.{AtVariable, Begins, IsTrail, PicksBy}
 use Rattle.gsl_lower_reaching.specs.Reaching.Begins.{variable}
 use Rattle.gsl_lower_reaching.specs.Trails.{Chosen, IsInside, IsPicked, Trail}
 use Rattle.gsl_lower_reaching.proofs.Moving.{numbers_stand}

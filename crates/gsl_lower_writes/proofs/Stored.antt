@@ -1,5 +1,5 @@
 -- What is stored where a trail leads.
-use Rattle.std.proofs.Common.{◌≡◌, refl, sym, ap, ◌∙◌, subst, ℕ, ◌≤◌, Bool, true, false, List, [], ◌∷◌, ◌++◌, length, Option, Some, None, if◌then◌else◌}
+use Rattle.std.proofs.Common.{◌≡◌, refl, sym, ap, subst, ℕ, ◌≤◌, Bool, true, false, List, [], ◌∷◌, ◌++◌, length, Option, Some, None, if◌then◌else◌}
 use Rattle.std.specs.Prelude.{set, slice_get}
 use Rattle.gsl_base.specs.declared.input.Input.{Input}
 use Rattle.gsl_instr.specs.declared.op.TheConstants as op
@@ -50,6 +50,7 @@ use Rattle.gsl_lower_reaching.specs.Trails.{Chosen, IsInside, IsOfVariable, IsPi
 use Rattle.gsl_lower_reaching.proofs.Moving.{chooses_stand, numbers_stand, trail_after}
 use Rattle.gsl_lower_reaching.proofs.Parts.{whole_picked}
 use Rattle.gsl_lower_reads.proofs.Adding.{always_pointer}
+use Rattle.gsl_lower_writes.specs.Written.{IsWritten}
 use Rattle.gsl_lower_writes.proofs.Once.{are_few, are_stored}
 use Rattle.gsl_lower_writes.proofs.Picked.{renewed}
 use Rattle.gsl_lower_writes.proofs.Renewed.{after_stored, all, leads, new, new_shape, old, once, part, part_shape, points, there}
@@ -73,9 +74,8 @@ module _ (m : Module) (input : Input) (sections : Sections) (f : Frame m input s
   }
 
   module _ (are : AreStructs p.structs) (loose : Bool) (t : Ty) (sound_t : IsSound (length p.structs) t) (value : ℕ) (v : Value) (typed : is_value_of p.structs t v ≡ true) (a : Access) (l : Trail) (inside : IsInside p.structs true t a l) where
-    -- the shader has the value there, and the state is that of the shader
-    abbrev pub IsDone : Flow → State → Unit {0} → Flow → Unit {0} → shader.State → State → Type 0
-    IsDone b state done later one u last = After m input sections f p around false b state later u last
+    abbrev IsDone : Flow → State → Unit {0} → Flow → Unit {0} → shader.State → State → Type 0
+    IsDone = IsWritten m input sections f p around
 
     module _ (b : Flow) (s : shader.State) (state : State) (r : Reached) (good : Good m input sections f p around b s state) (is : IsTrail m input sections f p around false loose b state r l) (stands : Stands state.ids value v) (x : AtVariable m input sections f p around loose r.base l) where
       abbrev was : Value
