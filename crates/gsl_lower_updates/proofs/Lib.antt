@@ -1,0 +1,3 @@
+pub mod Finishing
+pub mod Stepping
+pub mod Updating
