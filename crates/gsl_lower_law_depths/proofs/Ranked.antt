@@ -1,11 +1,10 @@
 -- Functions of a program, by the depth of their calls.
-use Rattle.std.proofs.Common.{◌≡◌, ◌≢◌, refl, sym, ap, ◌∙◌, subst, inl, inr, ◌⊎◌, ℕ, zero, suc, ◌<◌, Bool, List, [], map, length, slice_get, Option, Some, arith}
+use Rattle.std.proofs.Common.{◌≡◌, sym, ap, ◌∙◌, subst, inl, inr, ℕ, zero, suc, ◌<◌, Bool, List, map, length, slice_get, Option, Some, arith}
 use Rattle.gsl_base.specs.declared.input.Input.{Input}
 use Rattle.gsl_types.specs.Known.{IsSound}
-use Rattle.gsl_types.specs.declared.ty.Ty.{Ty}
 use Rattle.gsl_types.specs.declared.ty.Ty.TheFolds.{fold-roll-Ty}
 use Rattle.gsl_types.specs.declared.ty.Ty.TheOpen.{Ty-F}
-use Rattle.gsl_types.specs.declared.ty.Ty.TheVariants.{Void, rolls-Void}
+use Rattle.gsl_types.specs.declared.ty.Ty.TheVariants.{rolls-Void}
 use Rattle.gsl_types.specs.Known.{sound, sound_kind}
 use Rattle.gsl_words.specs.declared.module.Module.{Module}
 use Rattle.gsl_values.specs.declared.value.Value.{Value}
@@ -88,8 +87,8 @@ module _ (m : Module) (input : Input) (whole : Sections) (p : Program) (place : 
         (call_does m input whole p place stages (globals_of p) function number depth head.params s.tree s.found outside)
 
   pub at_each_depth : AllStand m input whole p place stages rank → (depth number : ℕ) → rank number < depth → CallsDo m input whole p place stages depth number
-  at_each_depth all zero number less = absurd (omega (arith, less))
-  at_each_depth all (suc depth) number less head function named there =
+  at_each_depth all zero number less = λ head function named there. absurd (omega (arith, less))
+  at_each_depth all (suc depth) number less = λ head function named there.
       one_does depth number function head named (all number function head named there) (λ other below. at_each_depth all depth other (omega (arith, less, below)))
 
 pub ranked_do : (m : Module) (input : Input) (whole : Sections) (p : Program) (place : FlowPlace) (stages : List (Option Value)) (rank : ℕ → ℕ) (depth number : ℕ) → Valid m → Written m whole → AllStand m input whole p place stages rank → rank number < depth → CallsDo m input whole p place stages depth number
