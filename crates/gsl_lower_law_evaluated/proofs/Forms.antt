@@ -30,7 +30,7 @@ use Rattle.gsl_tree.specs.Constants.{constant_of, gives, kind_gives, kind_standi
 use Rattle.gsl_tree.proofs.Steps.{gives-Const, gives_opens, standing-Const, standing_opens}
 use Rattle.gsl_tree.specs.Expressions as tree
 use Rattle.gsl_tree.specs.Expressions.{HasType, IsBinary, IsBuild, IsBuilt, IsConst, IsIndex, IsSwizzle, IsUnary, MayBeRead, boolean, element_of, is_in_range, is_in_range_kind, is_runtime_layer, shapes_of}
-use Rattle.gsl_tree.specs.Operations.{binary_value, has_fixed_length, is_fixed_kind, is_postfix, is_signed, length_kind, length_of, step_value}
+use Rattle.gsl_tree.specs.Operations.{binary_value, decides, has_fixed_length, is_fixed_kind, is_postfix, is_signed, length_kind, length_of, step_value}
 use Rattle.gsl_tree.specs.Paths.{is_writable, kind_in, repeats, writable_by}
 use Rattle.gsl_tree.specs.Shapes.{Shape, is_integer, shape_kind, shape_of}
 use Rattle.gsl_tree.specs.Trees.{form_of, type_of}
@@ -337,17 +337,22 @@ module _ (m : Module) (input : Input) (whole : Sections) (f : Frame m input whol
   abbrev choice_run : Expr → Expr → Expr → Run Value
   choice_run test a b = choice_means (part test).value (part a).value (part b).value
 
-  pub logic_is : (op : LogicOp) (a b : Expr) → Is a → Is b → type_of a ≡ boolean → type_of b ≡ boolean → (is_short op (low b).traits ≡ false → Quiet boolean b)
+  pub logic_is : (op : LogicOp) (a b : Expr) → Is a → Is b → type_of a ≡ boolean → type_of b ≡ boolean → (IsShort op → is_short op (low b).traits ≡ false → Quiet boolean b)
       → Gives ((low a).traits.splits || (low b).traits.splits || is_short op (low b).traits) boolean (logical op (low a) (low b)) (logic_means op (part a).value (part b).value)
   logic_is op a b x y first second quiet = by (is_short op (low b).traits) refl
     where
+      decides_or : (which : LogicOp) (word : ℕ) → is_short which (low b).traits ≡ false → (IsShort which → is_short which (low b).traits ≡ false → Quiet boolean b) → (decides which word ≡ false) ⊎ Quiet boolean b
+      decides_or logic.And word e quiet = inr (quiet tt e)
+      decides_or logic.Or word e quiet = inr (quiet tt e)
+      decides_or logic.Xor word e quiet = inl refl
+
       by : (short : Bool) → is_short op (low b).traits ≡ short → Gives (either a b || short) boolean (if short then Parts.short op (low a) (low b) else Parts.both op (low a) (low b)) (logic_means op (part a).value (part b).value)
       by true e =
           subst (λ splits. Gives splits boolean (Parts.short op (low a) (low b)) (logic_means op (part a).value (part b).value)) (sym (or_true (either a b)))
           (short_gives m input whole f p around op (low a) (low b) (part a).value (part b).value (short_of op (low b).traits e) (x.typed ∙ first) (y.typed ∙ second) (own a x (boolean_read (type_of a) first)) (own b y (boolean_read (type_of b) second)))
       by false e =
           subst (λ splits. Gives splits boolean (Parts.both op (low a) (low b)) (logic_means op (part a).value (part b).value)) (sym (or_false (either a b)))
-          (both_give m input whole f p around op (low a) (low b) (part a).value (part b).value (x.typed ∙ first) (y.typed ∙ second) (λ word. inr (quiet e)) (own a x (boolean_read (type_of a) first)) (own b y (boolean_read (type_of b) second)))
+          (both_give m input whole f p around op (low a) (low b) (part a).value (part b).value (x.typed ∙ first) (y.typed ∙ second) (λ word. decides_or op word e quiet) (own a x (boolean_read (type_of a) first)) (own b y (boolean_read (type_of b) second)))
 
   pub choice_is : (t : Ty) (test a b : Expr) → IsSound count t → Is test → Is a → Is b → type_of test ≡ boolean → type_of a ≡ t → type_of b ≡ t → IsTrue (tree.is_value_type t) → (is_selected t (low a).traits (low b).traits ≡ true → Quiet t a × Quiet t b)
       → Gives (traits.chosen t (low test).traits (low a).traits (low b).traits).splits t (chosen t (low test) (low a) (low b)) (choice_means (part test).value (part a).value (part b).value)

@@ -33,7 +33,7 @@ use Rattle.gsl_lower_expr.specs.Parts.{Lower, stage_number}
 use Rattle.gsl_lower_follows.specs.Frames.{AreTyped, Frame}
 use Rattle.gsl_lower_follows.specs.Giving.{GivesValue}
 use Rattle.gsl_lower_law_built.specs.Places.{NoVector}
-use Rattle.gsl_lower_law_expr.specs.Known.{IsQuiet}
+use Rattle.gsl_lower_law_expr.specs.Known.{IsQuiet, IsShort}
 use Rattle.gsl_lower_reaching.specs.Reaching.{GivesPlace}
 
 -- what expressions of a program are lowered in, by what calls are lowered to
@@ -102,7 +102,7 @@ module _ (m : Module) (input : Input) (whole : Sections) (f : Frame m input whol
   AsksFor e (ExprKind-F.Index a i) = (((low i).traits.calls ≡ false) × (has_fixed_length (type_of a) ≡ true)) ⊎ (IsEvaluated a → IsEvaluated i → IsEvaluated e)
   AsksFor e (ExprKind-F.Swizzle a lanes) = lanes.count ≤ length lanes.words
   AsksFor e (ExprKind-F.Length a) = ((has_fixed_length (type_of a) ≡ true) × (length_of (type_of a) < 2 ^ 32)) ⊎ HasValue e
-  AsksFor e (ExprKind-F.Logic op a b) = is_short op (low b).traits ≡ false → QuietIn boolean b
+  AsksFor e (ExprKind-F.Logic op a b) = IsShort op → is_short op (low b).traits ≡ false → QuietIn boolean b
   AsksFor e (ExprKind-F.Choose test a b) = is_selected (type_of e) (low a).traits (low b).traits ≡ true → QuietIn (type_of e) a × QuietIn (type_of e) b
   AsksFor e (ExprKind-F.Assign a b) = (v : Value) × (is_value_of p.structs (type_of a) v ≡ true)
   AsksFor e (ExprKind-F.Call number args) = AllEvaluated args → HasValue e
