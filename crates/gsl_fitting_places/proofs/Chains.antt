@@ -1,8 +1,8 @@
 -- Indexes, types of pointers, and chains.
-use Rattle.std.proofs.Common.{◌≡◌, ℕ, ◌+◌, ◌≤◌, Bool, true, false, cond, ◌&&◌, ◌||◌, List, [], ◌∷◌, ◌++◌, length, Option, Some, None, refl, sym, ap, ◌∙◌, subst, suc, arith}
+use Rattle.std.proofs.Common.{◌≡◌, ℕ, ◌+◌, ◌≤◌, Bool, true, false, cond, ◌||◌, List, [], ◌∷◌, ◌++◌, length, Option, Some, None, refl, sym, ap, ◌∙◌, subst, suc}
 use Rattle.std.specs.Prelude.{◌==◌, nat_le}
-use Rattle.std.specs.List.{AllByRecursion, Contains, list_all}
-use Rattle.std.proofs.lemmas.Bool.{and_from, eq-eqb, eqb-true, le-leb, true≢false}
+use Rattle.std.specs.List.{AllByRecursion, Contains}
+use Rattle.std.proofs.lemmas.Bool.{and_from, eq-eqb, le-leb, true≢false}
 use Rattle.std.proofs.lemmas.List.Elements.{Contains-append_left, Contains-append_right}
 use Rattle.gsl_instr.specs.Forms.{form_of}
 use Rattle.gsl_instr.specs.declared.op.TheConstants as op
@@ -13,16 +13,13 @@ use Rattle.gsl_types.specs.declared.ty.Scalar.TheVariants.{Bool as Boolean, Int,
 use Rattle.gsl_tree.specs.Shapes.{Shape, is_integer}
 use Rattle.gsl_words.specs.declared.module.Module.{Module}
 use Rattle.gsl_valid.specs.CallRules.{points}
-use Rattle.gsl_valid.specs.Ids.{defined, result}
 use Rattle.gsl_valid.specs.Instruction.{read}
 use Rattle.gsl_valid.specs.Kinds.{Shape as TypeShape, OfVoid, OfBool, OfInt, OfVector, OfArray, OfRuntimeArray, OfStruct, OfPointer, OfFunction, NoType, kind, shape_of, type_of, value_of}
 use Rattle.gsl_valid.specs.MemoryRules.{is_base, is_in_buffer, is_part, leads_through, leads_to, marks, part_at, part_by, passes_one, target_type}
 use Rattle.gsl_valid.specs.LimitRules.{most_indexes}
 use Rattle.gsl_valid.specs.MemoryRules as memory
-use Rattle.gsl_valid.specs.Search.{passed}
 use Rattle.gsl_valid.specs.Sections.{is_class}
-use Rattle.gsl_valid.specs.TypeRules.{is_first}
-use Rattle.gsl_valid.specs.Types.{Target, defined_as, is_int, is_int_type, is_int_value, is_value_type, target_in, target_of, value_type}
+use Rattle.gsl_valid.specs.Types.{defined_as, is_int, is_int_type, is_int_value, is_value_type, target_in, target_of, value_type}
 use Rattle.gsl_spv.specs.Calls as call
 use Rattle.gsl_spv.specs.Calls.{intern}
 use Rattle.gsl_spv.specs.Declarations as d
@@ -38,7 +35,7 @@ use Rattle.gsl_spv.proofs.Contained.{first_in}
 use Rattle.gsl_spv.proofs.Extending.{extends_take, extends_then}
 use Rattle.gsl_spv.proofs.Lasting.{ids_last, interned_known}
 use Rattle.gsl_lower_law.proofs.Adding.{extends_put}
-use Rattle.gsl_lower_values.specs.Building.{Built, Made, Full, Step, behind, given as give, giving, id_by, in_order, put_giving}
+use Rattle.gsl_lower_values.specs.Building.{Built, Made, Full, Step, behind, given as give, giving, in_order, put_giving}
 use Rattle.gsl_lower_values.specs.Types as types
 use Rattle.gsl_lower_places.specs.Reading.{index, indexes, pointer, pointer_type}
 use Rattle.gsl_lower_places.specs.declared.reached.Part.{Part}
@@ -48,12 +45,12 @@ use Rattle.gsl_fitting_steps.specs.Keeping.{Keeps, MayDeclare}
 use Rattle.gsl_fitting_steps.proofs.Giving.{giving_keeps}
 use Rattle.gsl_fitting_types.specs.Making.{AreSorted, Comes, IsConstant, IsScalarType, IsTypeBy, IsTypeOf, IsValue, Sorts, Stands, made}
 use Rattle.gsl_fitting_types.proofs.Anew.{plain_first}
-use Rattle.gsl_fitting_types.proofs.Knowing.{constant_later, contains_later, some_is, defined_at, first_known, found_stands, global_is, global_outside, has_in, known_wider, outside_known, put_is, scalar_named, scalar_type_is}
+use Rattle.gsl_fitting_types.proofs.Knowing.{constant_later, contains_later, some_is, defined_at, first_known, found_stands, global_is, global_outside, has_in, known_wider, outside_known, put_is, scalar_type_is}
 use Rattle.gsl_fitting_types.proofs.Sorting.{each_sorts, giving_sorts, sorts_then, stays_same}
 use Rattle.gsl_fitting_types.proofs.Stepping.{Wider, comes_then, given_comes, intern_comes}
 use Rattle.gsl_fitting_types.proofs.Types.{constant_value, plain_sorts, scalar_constant_comes, scalar_constant_sorts}
 use Rattle.gsl_fitting_operators.proofs.Forms.{stands_as}
-use Rattle.gsl_fitting_places.specs.Leading.{IsIndex, IsLed, IsPointer, IsValueType, IsWay, Leads, MayBegin, is_buffered, is_marked, led, led_by, marked_by, told_number}
+use Rattle.gsl_fitting_places.specs.Leading.{IsIndex, IsLed, IsValueType, IsWay, Leads, led, led_by, marked_by, told_number}
 
 -- ---- they sort
 

@@ -4,3 +4,4 @@ pub mod Moves
 pub mod Parting
 pub mod Storing
 pub mod Pointing
+pub mod Components

@@ -10,24 +10,24 @@ use Rattle.gsl_instr.specs.declared.form.Form.TheVariants as form
 use Rattle.gsl_instr.specs.declared.instruction.Instruction.TheVariants as instruction
 use Rattle.gsl_tree.specs.Shapes.{Shape}
 use Rattle.gsl_words.specs.declared.module.Module.{Module}
-use Rattle.gsl_valid.specs.Kinds.{shape_of, type_of}
+use Rattle.gsl_valid.specs.Kinds.{type_of}
 use Rattle.gsl_valid.specs.LimitRules.{most_indexes}
 use Rattle.gsl_valid.specs.OperandRules as rules
 use Rattle.gsl_valid.specs.Types.{defined_as, is_type}
 use Rattle.gsl_spv.specs.Growing.{Extends}
 use Rattle.gsl_spv.specs.Sections.{Sections}
-use Rattle.gsl_lower_values.specs.Building.{Built, Step, behind, given as give, giving}
+use Rattle.gsl_lower_values.specs.Building.{Built, Step, behind, giving}
 use Rattle.gsl_lower_values.specs.Constructors.{operand, picked}
 use Rattle.gsl_lower_values.specs.Types as types
 use Rattle.gsl_lower_places.specs.Reading.{component_by, extracted, extracted_picked, extracted_shape, index, loaded, loaded_by, loaded_picked, loaded_scalar, loaded_vector, number_in, picked_by, read, read_from, read_value, read_variable}
 use Rattle.gsl_lower_places.specs.declared.reached.Base.{Base}
 use Rattle.gsl_lower_places.specs.declared.reached.Base.TheVariants.{Variable, Value}
 use Rattle.gsl_lower_places.specs.declared.reached.Part.{Part}
-use Rattle.gsl_lower_places.specs.declared.reached.Part.TheVariants.{Fixed, By}
+use Rattle.gsl_lower_places.specs.declared.reached.Part.TheVariants.{Fixed}
 use Rattle.gsl_lower_places.specs.declared.reached.Picked.{Picked}
 use Rattle.gsl_lower_places.specs.declared.reached.Reached.{Reached}
 use Rattle.gsl_fitting.specs.Fits.{Frame, is_known}
-use Rattle.gsl_fitting_types.specs.Making.{AreSorted, IsSized, IsTypeOf, IsValue, Sorts, Stands, made}
+use Rattle.gsl_fitting_types.specs.Making.{AreSorted, IsSized, IsTypeOf, Sorts, Stands, made}
 use Rattle.gsl_fitting_types.proofs.Knowing.{known_wider, one_type, some_is, type_later, vector_type_is}
 use Rattle.gsl_fitting_types.proofs.Sorting.{giving_sorts, sorts_then, stays_same}
 use Rattle.gsl_fitting_types.proofs.Stepping.{Wider, comes_then, given_comes, giving_comes}
@@ -207,7 +207,7 @@ module _ (whole : Sections) (main : ℕ) (local_size : List ℕ) (rank : ℕ →
       (λ type t now is wider extends inside. extracted_fits now id type from shape parts t is (known_wider whole main local_size sorted f given now id wider known) typed
       (λ start. leads ∙ ap Some (one_type whole shape part type of (type_later t whole shape type start is))) few)
 
-  dynamic_stands : (given : List ℕ) (type id at_id : ℕ) (shape : Shape) → form_of op.VECTOR_EXTRACT_DYNAMIC ≡ Some form.VectorExtractDynamic → (shape.1 == 1) ≡ false → IsTypeOf whole (shape.0, 1) type → W given shape id → (part : Part) → Serves whole main local_size rank f sorted given part at_id
+  pub dynamic_stands : (given : List ℕ) (type id at_id : ℕ) (shape : Shape) → form_of op.VECTOR_EXTRACT_DYNAMIC ≡ Some form.VectorExtractDynamic → (shape.1 == 1) ≡ false → IsTypeOf whole (shape.0, 1) type → W given shape id → (part : Part) → Serves whole main local_size rank f sorted given part at_id
       → Stands whole main local_size rank f given op.VECTOR_EXTRACT_DYNAMIC (id ∷ at_id ∷ []) type
   dynamic_stands given type id at_id shape is several of v part serves =
       let x = vector_at whole main local_size rank f sorted shape v.type several v.of in

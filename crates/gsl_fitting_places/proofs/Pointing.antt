@@ -4,11 +4,10 @@ use Rattle.std.specs.Prelude.{◌==◌}
 use Rattle.gsl_instr.specs.declared.enumerant.decoration.TheConstants as decoration
 use Rattle.gsl_tree.specs.Shapes.{Shape}
 use Rattle.gsl_words.specs.declared.module.Module.{Module}
-use Rattle.gsl_spv.specs.Growing.{Extends}
 use Rattle.gsl_spv.specs.Sections.{Sections}
 use Rattle.gsl_lower_values.specs.Building.{Built, Step, behind, given as give}
 use Rattle.gsl_lower_values.specs.Types as types
-use Rattle.gsl_lower_places.specs.Pointed.{pointed, pointed_at, pointed_by, pointed_from, pointed_if, pointed_picked, pointed_to}
+use Rattle.gsl_lower_places.specs.Pointed.{pointed, pointed_at, pointed_by, pointed_from, pointed_to}
 use Rattle.gsl_lower_places.specs.Reached.{stored_shape}
 use Rattle.gsl_lower_places.specs.Reading.{pointer}
 use Rattle.gsl_lower_places.specs.declared.reached.Base.{Base}
@@ -24,7 +23,7 @@ use Rattle.gsl_fitting_types.proofs.Sorting.{sorts_then, stays_same}
 use Rattle.gsl_fitting_types.proofs.Stepping.{Wider, comes_then, given_comes}
 use Rattle.gsl_fitting_types.proofs.Types.{type_comes, type_sorts}
 use Rattle.gsl_fitting_places.specs.Leading.{IsLed, IsWay, Leads, is_marked, may_change}
-use Rattle.gsl_fitting_places.specs.Places.{AreStored, IsOfShape, IsThere, MayPoint, MayTake, MayUpdate, Picks, Updates, way, way_by}
+use Rattle.gsl_fitting_places.specs.Places.{AreStored, IsThere, MayPoint, MayTake, MayUpdate, Picks, Updates, way, way_by}
 use Rattle.gsl_fitting_places.proofs.Chains.{held_type, leads_later, pointer_comes, pointer_sorts}
 use Rattle.gsl_fitting_places.proofs.Moves.{F, stored_sized, writable_is}
 use Rattle.gsl_fitting_places.proofs.Parting.{picks_later}
@@ -198,4 +197,3 @@ module _ (whole : Sections) (main : ℕ) (local_size : List ℕ) (rank : ℕ →
           let s = served_by whole main local_size rank f sorted given class id r.path shape (Some p) u.place in
           by_count id class u.place.pointee p (p.shape.1 == 1) refl u.place.is u.takes s.at (s.unmarked decoration.NON_READABLE u.readable) (s.changes u.changes)
       by (Value id type) p u = given_comes whole main local_size rank f given (U shape) (record { base = Value id type; path = r.path; picked = p }) before (λ inside. u)
-

@@ -1,5 +1,5 @@
 -- What is stored where an expression leads.
-use Rattle.std.proofs.Common.{◌≡◌, ℕ, ◌≤◌, Bool, true, false, cond, ◌&&◌, not, List, [], ◌∷◌, ◌++◌, length, Option, Some, None, refl, sym, ap, ◌∙◌, subst, arith}
+use Rattle.std.proofs.Common.{◌≡◌, ℕ, ◌≤◌, Bool, true, false, cond, List, [], ◌∷◌, ◌++◌, length, Option, Some, None, refl, ap, ◌∙◌, subst, arith}
 use Rattle.std.specs.Prelude.{◌==◌}
 use Rattle.std.proofs.lemmas.Bool.{and_from, eqb-true, not_from_false}
 use Rattle.gsl_instr.specs.Forms.{form_of}
@@ -7,7 +7,6 @@ use Rattle.gsl_instr.specs.declared.op.TheConstants as op
 use Rattle.gsl_instr.specs.declared.enumerant.decoration.TheConstants as decoration
 use Rattle.gsl_tree.specs.Shapes.{Shape}
 use Rattle.gsl_words.specs.declared.module.Module.{Module}
-use Rattle.gsl_spv.specs.Growing.{Extends}
 use Rattle.gsl_spv.specs.Sections.{Sections}
 use Rattle.gsl_lower_values.specs.Building.{Built, Step, behind, giving, putting}
 use Rattle.gsl_lower_values.specs.Constructors.{operand, replaced}
@@ -25,13 +24,13 @@ use Rattle.gsl_fitting.specs.Fits.{Frame}
 use Rattle.gsl_fitting_types.specs.Making.{AreSorted, IsTypeOf, Sorts, made}
 use Rattle.gsl_fitting_types.proofs.Knowing.{one_type, type_later}
 use Rattle.gsl_fitting_types.proofs.Sorting.{giving_sorts, sorts_then, stays_same}
-use Rattle.gsl_fitting_types.proofs.Stepping.{Wider, comes_then, given_comes, giving_comes}
+use Rattle.gsl_fitting_types.proofs.Stepping.{comes_then, given_comes, giving_comes}
 use Rattle.gsl_fitting_types.proofs.Types.{type_comes, type_sorts}
 use Rattle.gsl_fitting_operators.proofs.Forms.{known_type}
 use Rattle.gsl_fitting_operators.proofs.Operators.{value_later}
 use Rattle.gsl_fitting_builtins.proofs.Picking.{replaced_fits, replaced_sorts}
 use Rattle.gsl_fitting_places.specs.Leading.{IsLed, Leads, Nothing, is_marked, may_change}
-use Rattle.gsl_fitting_places.specs.Places.{AreStored, IsReadable, MayStore, Picks, Stores, StoresPlace, merges_by, way_by}
+use Rattle.gsl_fitting_places.specs.Places.{AreStored, MayStore, Picks, Stores, StoresPlace, merges_by, way_by}
 use Rattle.gsl_fitting_places.proofs.Chains.{held_type, leads_later, led_later, pointer_comes, pointer_sorts}
 use Rattle.gsl_fitting_places.proofs.Moves.{F, G, V, at_later, in_class_fits, in_class_sorts, load_stands, moved, put_fits, put_sorts, store_fits, store_sorts, stored_sized}
 use Rattle.gsl_fitting_places.proofs.Ways.{At, served_by, shape_by, stored_count}

@@ -1,8 +1,8 @@
 -- Parts behind parts, and components of vectors.
-use Rattle.std.proofs.Common.{◌≡◌, ℕ, ◌≤◌, Bool, true, false, cond, ◌&&◌, ◌||◌, not, List, [], ◌∷◌, ◌++◌, length, Option, Some, None, refl, sym, ap, ◌∙◌, subst, arith}
+use Rattle.std.proofs.Common.{◌≡◌, ℕ, Bool, true, false, cond, ◌&&◌, ◌||◌, not, List, [], ◌∷◌, ◌++◌, Option, Some, None, refl, sym, ap, ◌∙◌, arith}
 use Rattle.std.specs.Prelude.{◌==◌}
 use Rattle.std.specs.List.{AllByRecursion, list_any}
-use Rattle.std.proofs.lemmas.Bool.{and_from, and_parts, eqb-true, not-true, not_from_false, true≢false}
+use Rattle.std.proofs.lemmas.Bool.{and_from, and_parts, not-true, not_from_false, true≢false}
 use Rattle.gsl_instr.specs.declared.enumerant.decoration.TheConstants as decoration
 use Rattle.gsl_instr.specs.declared.enumerant.storage_class.TheConstants as storage_class
 use Rattle.gsl_instr.specs.declared.instruction.Instruction.{Instruction}
@@ -10,7 +10,7 @@ use Rattle.gsl_instr.specs.declared.instruction.Instruction.TheVariants as instr
 use Rattle.gsl_tree.specs.Shapes.{Shape}
 use Rattle.gsl_words.specs.declared.module.Module.{Module}
 use Rattle.gsl_valid.specs.Kinds.{kind, shape_of}
-use Rattle.gsl_valid.specs.MemoryRules.{chain_of, is_base, is_in_buffer, is_stored, marks, part_by, stores}
+use Rattle.gsl_valid.specs.MemoryRules.{chain_of, is_base, is_stored, marks, part_by}
 use Rattle.gsl_valid.specs.Types.{defined_as}
 use Rattle.gsl_spv.specs.Sections.{Sections}
 use Rattle.gsl_lower_places.specs.Reached.{is_block_class, stored_scalar, stored_shape}
@@ -18,8 +18,8 @@ use Rattle.gsl_lower_places.specs.declared.reached.Part.{Part}
 use Rattle.gsl_lower_places.specs.declared.reached.Part.TheVariants.{Fixed}
 use Rattle.gsl_lower_places.specs.declared.reached.Picked.{Picked}
 use Rattle.gsl_fitting.specs.Fits.{Frame}
-use Rattle.gsl_fitting_types.specs.Making.{AreSorted, IsScalarType, IsSized, IsTypeOf, made}
-use Rattle.gsl_fitting_types.proofs.Knowing.{some_is, vector_type_is}
+use Rattle.gsl_fitting_types.specs.Making.{AreSorted, IsSized, IsTypeOf, made}
+use Rattle.gsl_fitting_types.proofs.Knowing.{vector_type_is}
 use Rattle.gsl_fitting_operators.proofs.Composites.{vector_at}
 use Rattle.gsl_fitting_places.specs.Leading.{IsIndex, IsWay, Leads, MayBegin, is_buffered, is_marked, led, led_by, marked_by, may_change, told_number}
 use Rattle.gsl_fitting_places.specs.Places.{IsChoice, IsPlace, way, way_by}

@@ -13,7 +13,7 @@ use Rattle.gsl_valid.specs.Kinds.{kind, shape_of, variable_is}
 use Rattle.gsl_valid.specs.LimitRules.{most_indexes}
 use Rattle.gsl_valid.specs.MemoryRules.{is_base, is_in_buffer, leads_through, marks, part_by, stores}
 use Rattle.gsl_valid.specs.Sections.{is_class}
-use Rattle.gsl_valid.specs.Types.{Target, defined_as, value_type}
+use Rattle.gsl_valid.specs.Types.{defined_as, value_type}
 use Rattle.gsl_spv.specs.Sections.{Sections}
 use Rattle.gsl_lower_places.specs.declared.reached.Part.{Part}
 use Rattle.gsl_lower_places.specs.declared.reached.Part.TheVariants.{Fixed, By}

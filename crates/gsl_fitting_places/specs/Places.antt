@@ -1,11 +1,13 @@
 -- What an expression leads to may be read and stored, in a block that has given some ids.
-use Rattle.std.specs.Prelude.{◌≡◌, ℕ, ◌≤◌, Bool, true, false, ◌==◌, ◌&&◌, not, if◌then◌else◌, List, [], ◌∷◌, ◌++◌, length, map, Option, Some, None}
+use Rattle.std.specs.Prelude.{◌≡◌, ℕ, ◌+◌, ◌<◌, ◌≤◌, Bool, true, false, ◌==◌, ◌&&◌, not, if◌then◌else◌, List, [], ◌∷◌, ◌++◌, length, map, Option, Some, None}
 use Rattle.gsl_instr.specs.declared.enumerant.decoration.TheConstants as decoration
 use Rattle.gsl_tree.specs.Shapes.{Shape}
 use Rattle.gsl_words.specs.declared.module.Module.{Module}
-use Rattle.gsl_valid.specs.Kinds.{type_of}
+use Rattle.gsl_valid.specs.Kinds.{kind, type_of}
 use Rattle.gsl_valid.specs.LimitRules.{most_indexes}
+use Rattle.gsl_valid.specs.MemoryRules.{is_base}
 use Rattle.gsl_valid.specs.OperandRules.{part_within}
+use Rattle.gsl_valid.specs.Sections.{is_class}
 use Rattle.gsl_valid.specs.Types.{defined_as}
 use Rattle.gsl_spv.specs.Sections.{Sections}
 use Rattle.gsl_lower_places.specs.Reached.{stored_shape}
@@ -13,7 +15,7 @@ use Rattle.gsl_lower_places.specs.Reading.{number_in}
 use Rattle.gsl_lower_places.specs.declared.reached.Base.{Base}
 use Rattle.gsl_lower_places.specs.declared.reached.Base.TheVariants.{Variable, Value}
 use Rattle.gsl_lower_places.specs.declared.reached.Part.{Part}
-use Rattle.gsl_lower_places.specs.declared.reached.Part.TheVariants.{Fixed}
+use Rattle.gsl_lower_places.specs.declared.reached.Part.TheVariants.{Fixed, By}
 use Rattle.gsl_lower_places.specs.declared.reached.Picked.{Picked}
 use Rattle.gsl_lower_places.specs.declared.reached.Reached.{Reached}
 use Rattle.gsl_fitting.specs.Fits.{Frame, is_known}
@@ -52,6 +54,11 @@ merges (Some p) = not (p.shape.1 == 1) && merges_by p.by p.positions
 abbrev pub AreWithin : ℕ → Option Part → List ℕ → Type 0
 AreWithin count None positions = AreBelow count positions
 AreWithin count (Some by) positions = AreBelow 1 positions
+
+-- A part is one of so many components, if it is known.
+abbrev pub IsAmong : ℕ → Part → Type 0
+IsAmong count (Fixed number) = number < count
+IsAmong count (By s id) = Unit {0}
 
 -- No more components are stored than there are; by a word it is one.
 abbrev pub AreStored : ℕ → Option Part → List ℕ → Type 0
@@ -162,3 +169,17 @@ module _ (whole : Sections) (main : ℕ) (local_size : List ℕ) (rank : ℕ →
   -- It may be pointed to.
   abbrev pub MayPoint : List ℕ → Shape → Reached → Type 0
   MayPoint given shape r = IsThere given shape r.base r.path r.picked
+
+  -- ---- parts and components
+
+  -- A place may have one more index: a chain may begin at its variable, and has room for it. A value always may.
+  abbrev pub TakesMore : Base → List Part → Type 0
+  TakesMore (Variable id class) parts = (1 + length parts ≤ most_indexes) × (is_base (kind (defined_as m id)) ≡ true) × (is_class m.version class ≡ true)
+  TakesMore (Value id type) parts = Unit {0}
+
+  -- From a scalar or vector that an expression leads to, to a part of it, which may be read and stored where that might.
+  pub record IsRefined (given now : List ℕ) (shape to_shape : Shape) (r to : Reached) : Type 0 where
+    pub of : IsOfShape now to_shape to.picked
+    pub more : TakesMore to.base to.path
+    pub reads : MayRead given shape r → MayRead now to_shape to
+    pub updates : MayUpdate given shape r → MayUpdate now to_shape to

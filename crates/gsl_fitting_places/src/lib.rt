@@ -5,4 +5,4 @@
 
 mod laws;
 
-pub use laws::{pointed_fits, pointers_fit, reads_fit, stores_fit};
+pub use laws::{components_fit, pointed_fits, pointers_fit, reads_fit, stores_fit, updates_serve};
