@@ -50,7 +50,7 @@ all_more P [] part all one = (one, tt)
 all_more P (first ∷ parts) part all one = (all.0, all_more P parts part all.1 one)
 
 -- what a chain may begin at is no chain
-no_chain : (o : Option Instruction) → is_base (kind o) ≡ true → chain_of o ≡ None
+pub no_chain : (o : Option Instruction) → is_base (kind o) ≡ true → chain_of o ≡ None
 no_chain None h = refl
 no_chain (Some (instruction.AccessChain type result base indexes)) h = absurd (true≢false (sym h))
 no_chain _ h = refl
