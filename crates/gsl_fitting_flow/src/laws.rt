@@ -1,0 +1,34 @@
+//! Laws of the definitions: calls that do nothing, whose contracts are the laws.
+
+ghost use Rattle.std.specs.Prelude.{◌≡◌, ◌+◌, ◌++◌, ◌||◌, ℕ, Bool, List, [], ◌∷◌, false, length};
+ghost use Rattle.gsl_types.specs.declared.ty.Ty.{Ty};
+ghost use Rattle.gsl_tree.specs.Shapes.{Shape};
+ghost use Rattle.gsl_spv.specs.Growing.{Extends};
+ghost use Rattle.gsl_spv.specs.Sections.{Sections};
+ghost use Rattle.gsl_lower_values.specs.Building.{Built};
+ghost use Rattle.gsl_lower_holders.specs.Flow.{Emit, Flow, Lowered, behind, built_in};
+ghost use Rattle.gsl_lower_holders.specs.Waiting.{fetch, hold};
+ghost use Rattle.gsl_fitting.specs.Fits.{Frame};
+ghost use Rattle.gsl_fitting_types.specs.Making.{AreSorted, Comes, GivesValue, IsValue, Sorts};
+ghost use Rattle.gsl_fitting_flow.specs.Flowing.{EmitStays, FlowStays, Flows, GivesOf, IsOf, IsTypeFor, Waits, Widens, asked_if, taken_if};
+
+/// One part of lowering behind another.
+pub fn parts_follow()
+    ensures stays { (n k : ℕ) (before : Flow) (first : Lowered ℕ) (next : ℕ → Emit ℕ) → EmitStays n before first → ((a : ℕ) (s : Flow) → EmitStays k s (next a s)) → EmitStays (n + k) before (behind first next) }
+    ensures flows { (whole : Sections) (main : ℕ) (local_size : List ℕ) (rank : ℕ → ℕ) (f : Frame) (asks more : List ℕ) (k deep : ℕ) (first second : Bool) (given : List ℕ) (type other : ℕ) (before : Flow) (lowered : Lowered ℕ) (next : ℕ → Emit ℕ) → EmitStays (length asks) before lowered → Flows whole main local_size rank f asks deep first given (GivesOf whole main local_size rank f type) before lowered → ((a : ℕ) (s : Flow) → EmitStays k s (next a s)) → ((a : ℕ) (s : Flow) (now : List ℕ) → IsOf whole main local_size rank f now type a → (first ≡ false → Widens given now) → FlowStays (length asks) before s → Extends s.sections whole → Flows whole main local_size rank f more deep second now (GivesOf whole main local_size rank f other) s (next a s)) → Flows whole main local_size rank f (asks ++ more) deep (first || second) given (GivesOf whole main local_size rank f other) before (behind lowered next) }
+{}
+
+/// A step of the builder puts no label.
+pub fn steps_flow()
+    ensures stays { (s : Flow) (built : Built ℕ) → Sorts s.sections built → EmitStays 0 s (built_in s.place built) }
+    ensures flows { (whole : Sections) (main : ℕ) (local_size : List ℕ) (rank : ℕ → ℕ) (f : Frame) (deep : ℕ) (given : List ℕ) (shape : Shape) (s : Flow) (built : Built ℕ) → Comes whole main local_size rank f given (GivesValue whole main local_size rank f shape) s.sections built → Flows whole main local_size rank f [] deep false given (λ id now after. IsValue whole main local_size rank f now shape id) s (built_in s.place built) }
+{}
+
+/// A value waits in a holder while blocks end and begin, and is there again behind them; where none do, it stays as it is.
+pub fn values_wait()
+    ensures held_stays { (b : Bool) (value : ℕ) (s : Flow) → EmitStays (taken_if b) s (hold b value s) }
+    ensures fetched_stays { (b : Bool) (t : Ty) (kept : ℕ) (s : Flow) → EmitStays 0 s (fetch b t kept s) }
+    ensures held { (whole : Sections) (main : ℕ) (local_size : List ℕ) (rank : ℕ → ℕ) (f : Frame) → AreSorted whole → (b : Bool) (deep : ℕ) (given : List ℕ) (type value : ℕ) (s : Flow) → IsOf whole main local_size rank f given type value → Flows whole main local_size rank f (asked_if b type) deep false given (λ kept now after. Waits whole main local_size rank f b now type kept) s (hold b value s) }
+    ensures on { (whole : Sections) (main : ℕ) (local_size : List ℕ) (rank : ℕ → ℕ) (f : Frame) → AreSorted whole → (b : Bool) (given now : List ℕ) (type id : ℕ) → (b ≡ false → Widens given now) → Waits whole main local_size rank f b given type id → Waits whole main local_size rank f b now type id }
+    ensures fetched { (whole : Sections) (main : ℕ) (local_size : List ℕ) (rank : ℕ → ℕ) (f : Frame) → AreSorted whole → (b : Bool) (deep : ℕ) (given : List ℕ) (t : Ty) (type kept : ℕ) (s : Flow) → IsTypeFor whole main local_size rank f s.place t type → Waits whole main local_size rank f b given type kept → Flows whole main local_size rank f [] deep false given (GivesOf whole main local_size rank f type) s (fetch b t kept s) }
+{}
