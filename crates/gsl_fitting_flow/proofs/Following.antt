@@ -17,7 +17,7 @@ use Rattle.gsl_fitting_shapes.specs.Fresh.{Fresh}
 use Rattle.gsl_fitting_shapes.proofs.Labels.{later}
 use Rattle.gsl_fitting_types.specs.Making.{Comes, Sorts, made}
 use Rattle.gsl_fitting_types.proofs.Sorting.{stays_same, stays_then}
-use Rattle.gsl_fitting_flow.specs.Flowing.{Carries, Crosses, EmitStays, FlowStays, Flows, Hold, IsHolder, Widens}
+use Rattle.gsl_fitting_flow.specs.Flowing.{Carries, Crosses, EmitStays, FlowStays, Flows, Hold, IsHolder, SamePlace, Widens}
 
 -- ---- what stays
 
@@ -34,6 +34,12 @@ flow_then {n} {k} {a} {b} {c} p q = record {
       q.place ∙ ap (λ (x : FlowPlace). record x { label = c.place.label; used = x.used + k }) p.place
       ∙ ap (λ u. record a.place { label = c.place.label; used = u }) (let e : (a.place.used + n) + k ≡ a.place.used + (n + k) = omega arith in e);
 }
+
+pub same_of : {n : ℕ} {a b : Flow} → FlowStays n a b → SamePlace a b
+same_of {n} {a} {b} p = p.place ∙ ap (λ u. record a.place { label = b.place.label; used = u }) (sym (ap (λ (x : FlowPlace). x.used) p.place))
+
+pub same_then : (a b c : Flow) → SamePlace a b → SamePlace b c → SamePlace a c
+same_then a b c p q = q ∙ ap (λ (x : FlowPlace). record x { label = c.place.label; used = c.place.used }) p
 
 pub stays_on : {B : Type 0} {n : ℕ} {a b : Flow} (k : ℕ) → FlowStays n a b → (lowered : Lowered B) → EmitStays k b lowered → EmitStays (n + k) a lowered
 stays_on k p (Gives x c) q = flow_then p q

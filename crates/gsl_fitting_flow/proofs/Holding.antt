@@ -33,7 +33,7 @@ use Rattle.gsl_fitting_places.specs.Leading as leading
 use Rattle.gsl_fitting_places.proofs.Chains.{giving_made}
 use Rattle.gsl_fitting_places.proofs.Moves.{load_stands, putting_comes, store_sorts, store_works}
 use Rattle.gsl_fitting_places.proofs.Ways.{no_chain}
-use Rattle.gsl_fitting_flow.specs.Flowing.{EmitStays, Flows, GivesOf, IsHolder, IsOf, IsTypeFor, IsTypeIn, Waits, Widens, asked_if, taken_if}
+use Rattle.gsl_fitting_flow.specs.Flowing.{EmitStays, Flows, GivesOf, IsHolder, IsOf, IsTypeFor, IsTypeIn, SamePlace, Waits, Widens, asked_if, taken_if}
 use Rattle.gsl_fitting_flow.proofs.Following.{emit_then, flow_same, flows_then, flows_so, given_flows, lift_flows, lift_stays}
 
 -- ---- what stays
@@ -46,7 +46,7 @@ holder_stays s = by (slice_get s.place.holders s.place.used)
     by (Some id) = record { sections = stays_same s.sections; place = refl }
     by None = tt
 
-store_stays : (h value : ℕ) (s : Flow) → EmitStays 0 s (putting_here op.STORE (h ∷ value ∷ []) s)
+pub store_stays : (h value : ℕ) (s : Flow) → EmitStays 0 s (putting_here op.STORE (h ∷ value ∷ []) s)
 store_stays h value s = lift_stays s (putting op.STORE (h ∷ value ∷ []) s.sections) (store_sorts h value s.sections)
 
 abbrev stored_in : ℕ → ℕ → Emit ℕ
@@ -149,6 +149,13 @@ module _ (whole : Sections) (main : ℕ) (local_size : List ℕ) (rank : ℕ →
       (λ id after start inside read_as known. record { typed = ap type_of read_as; known = known }))
 
   -- ---- types
+
+  pub type_on : (a b : Flow) (t : Ty) (type : ℕ) → SamePlace a b → IsTypeFor whole main local_size rank f a.place t type → IsTypeFor whole main local_size rank f b.place t type
+  type_on a b t type same is = by (shape_of t) is
+    where
+      by : (o : Option Shape) → IsTypeIn whole main local_size rank f a.place t type o → IsTypeIn whole main local_size rank f b.place t type o
+      by None e = ap (λ (p : FlowPlace). find_type t p.composites) same ∙ e
+      by (Some shape) of = of
 
   pub type_flows : (deep : ℕ) (given : List ℕ) (t : Ty) (type : ℕ) (s : Flow) → IsTypeFor whole main local_size rank f s.place t type → Flows whole main local_size rank f [] deep false given (λ id now after. id ≡ type) s (type_id t s)
   unfolding type_id

@@ -1,3 +1,6 @@
 pub mod Following
 pub mod Holding
 pub mod Owing
+pub mod Branching
+pub mod Meeting
+pub mod Short

@@ -34,25 +34,29 @@ use Rattle.gsl_fitting_flow.specs.Flowing.{Crosses, FlowStays}
 abbrev pub AreOwed : Sections → List ℕ → Type 0
 AreOwed s ids = AllByRecursion (IsOwed s) ids
 
--- From one builder to the next this code was put, which defines ids that were owed, and new ones.
-pub record Bridge (m : Module) (code : Code) (used : List ℕ) (a b : Sections) : Type 0 where
+-- From one builder to the next ids were defined that were owed, and new ones.
+pub record Link (used : List ℕ) (a b : Sections) : Type 0 where
   pub extends : Extends a b
-  pub puts : b.functions ≡ a.functions ++ code
   pub sorted : AreOwed a used → AreSorted a → AreSorted b
-  pub fine : AreOwed a used → Fine m a → Fine m b
   pub anew : (id : ℕ) → id ≤ a.last → is_among used id ≡ false → count_of id (all_of b) ≡ count_of id (all_of a)
 
+-- And this code was put.
+pub record Bridge (m : Module) (code : Code) (used : List ℕ) (a b : Sections) : Type 0 where
+  pub link : Link used a b
+  pub puts : b.functions ≡ a.functions ++ code
+  pub fine : AreOwed a used → Fine m a → Fine m b
+
 -- an id that is owed and is not used is owed still
-owed_on : (m : Module) (code : Code) (used : List ℕ) (a b : Sections) (id : ℕ) → Bridge m code used a b → is_among used id ≡ false → IsOwed a id → IsOwed b id
-owed_on m code used a b id x other o = record {
+owed_on : (used : List ℕ) (a b : Sections) (id : ℕ) → Link used a b → is_among used id ≡ false → IsOwed a id → IsOwed b id
+owed_on used a b id x other o = record {
   least = o.least;
   taken = let low = o.taken in let more = x.extends.last in omega (arith, low, more);
   none = x.anew id o.taken other ∙ o.none;
 }
 
-all_on : (m : Module) (code : Code) (used : List ℕ) (a b : Sections) (ids : List ℕ) → Bridge m code used a b → AllByRecursion (λ id. is_among used id ≡ false) ids → AreOwed a ids → AreOwed b ids
-all_on m code used a b [] x others o = tt
-all_on m code used a b (id ∷ ids) x others o = (owed_on m code used a b id x others.0 o.0, all_on m code used a b ids x others.1 o.1)
+all_on : (used : List ℕ) (a b : Sections) (ids : List ℕ) → Link used a b → AllByRecursion (λ id. is_among used id ≡ false) ids → AreOwed a ids → AreOwed b ids
+all_on used a b [] x others o = tt
+all_on used a b (id ∷ ids) x others o = (owed_on used a b id x others.0 o.0, all_on used a b ids x others.1 o.1)
 
 front_owed : (s : Sections) (ids more : List ℕ) → AreOwed s (ids ++ more) → AreOwed s ids
 front_owed s [] more o = tt
@@ -69,37 +73,34 @@ among_parts (first ∷ ids) more id h =
     let rest = among_parts ids more id parts.1 in
     (or_from (first == id) (is_among ids id) parts.0 rest.0, rest.1)
 
-pub bridge_then : (m : Module) (first second : Code) (used more : List ℕ) (a b c : Sections) → AllByRecursion (λ id. is_among used id ≡ false) more → Bridge m first used a b → Bridge m second more b c → Bridge m (first ++ second) (used ++ more) a c
-bridge_then m first second used more a b c others x y = record {
+pub link_then : (used more : List ℕ) (a b c : Sections) → AllByRecursion (λ id. is_among used id ≡ false) more → Link used a b → Link more b c → Link (used ++ more) a c
+link_then used more a b c others x y = record {
   extends = extends_then x.extends y.extends;
-  puts = y.puts ∙ ap (λ l. l ++ second) x.puts ∙ append_assoc a.functions first second;
-  sorted = λ o h. y.sorted (all_on m first used a b more x others (back_owed a used more o)) (x.sorted (front_owed a used more o) h);
-  fine = λ o h. y.fine (all_on m first used a b more x others (back_owed a used more o)) (x.fine (front_owed a used more o) h);
+  sorted = λ o h. y.sorted (all_on used a b more x others (back_owed a used more o)) (x.sorted (front_owed a used more o) h);
   anew = λ id low other.
       let parts = among_parts used more id other in
       y.anew id (let e = x.extends.last in omega (arith, low, e)) parts.1 ∙ x.anew id low parts.0;
 }
 
--- ---- pieces
-
--- an id is taken
-pub take_bridge : (m : Module) (s : Sections) → Bridge m [] [] s (record s { last = s.last + 1 })
-take_bridge m s = record {
-  extends = extends_take s;
-  puts = sym (append-nil s.functions);
-  sorted = λ o h. record { set = h.set; imports = h.imports; names = h.names; decorations = h.decorations; globals = h.globals; apart = apart_wider (s.last + 1) (s.last + 1 + 1) (all_of s) (omega arith) h.apart };
-  fine = λ o h. taking_fine m s h;
-  anew = λ id low other. refl;
+pub bridge_then : (m : Module) (first second : Code) (used more : List ℕ) (a b c : Sections) → AllByRecursion (λ id. is_among used id ≡ false) more → Bridge m first used a b → Bridge m second more b c → Bridge m (first ++ second) (used ++ more) a c
+bridge_then m first second used more a b c others x y = record {
+  link = link_then used more a b c others x.link y.link;
+  puts = y.puts ∙ ap (λ l. l ++ second) x.puts ∙ append_assoc a.functions first second;
+  fine = λ o h. y.fine (all_on used a b more x.link others (back_owed a used more o)) (x.fine (front_owed a used more o) h);
 }
+
+-- ---- pieces
 
 -- an instruction is put that defines nothing
 pub put_bridge : (m : Module) (code : ℕ) (args : List ℕ) (s : Sections) → result (read (instr code args)) ≡ None → Bridge m (instr code args ∷ []) [] s (call.put code args s)
 put_bridge m code args s none = record {
-  extends = extends_put code args s;
+  link = record {
+    extends = extends_put code args s;
+    sorted = λ o h. record { set = h.set; imports = h.imports; names = h.names; decorations = h.decorations; globals = h.globals; apart = apart_same (s.last + 1) (all_of s) (all_of (call.put code args s)) same h.apart };
+    anew = λ id low other. same id;
+  };
   puts = refl;
-  sorted = λ o h. record { set = h.set; imports = h.imports; names = h.names; decorations = h.decorations; globals = h.globals; apart = apart_same (s.last + 1) (all_of s) (all_of (call.put code args s)) same h.apart };
   fine = λ o h. record { set = h.set; imports = h.imports; names = h.names; decorations = h.decorations; globals = h.globals; apart = apart_same (s.last + 1) (all_of s) (all_of (call.put code args s)) same h.apart };
-  anew = λ id low other. same id;
 }
   where
     same : (id : ℕ) → count_of id (all_of (call.put code args s)) ≡ count_of id (all_of s)
@@ -109,11 +110,13 @@ put_bridge m code args s none = record {
 pub label_bridge : (m : Module) (label : ℕ) (s : Sections) → Bridge m (instr op.LABEL (label ∷ []) ∷ []) (label ∷ []) s (call.put op.LABEL (label ∷ []) s)
 unfolding form_of
 label_bridge m label s = record {
-  extends = extends_put op.LABEL (label ∷ []) s;
+  link = record {
+    extends = extends_put op.LABEL (label ∷ []) s;
+    sorted = λ o h. record { set = h.set; imports = h.imports; names = h.names; decorations = h.decorations; globals = h.globals; apart = apart o.0 h.apart };
+    anew = λ id low other. let e = one id in let z = no_more id (or_parts (label == id) false other).0 in omega (arith, e, z);
+  };
   puts = refl;
-  sorted = λ o h. record { set = h.set; imports = h.imports; names = h.names; decorations = h.decorations; globals = h.globals; apart = apart o.0 h.apart };
   fine = λ o h. record { set = h.set; imports = h.imports; names = h.names; decorations = h.decorations; globals = h.globals; apart = apart o.0 h.apart };
-  anew = λ id low other. let e = one id in let z = no_more id (or_parts (label == id) false other).0 in omega (arith, e, z);
 }
   where
     one : (id : ℕ) → count_of id (all_of (call.put op.LABEL (label ∷ []) s)) ≡ count_of id (all_of s) + one_if (label == id)
@@ -126,14 +129,11 @@ label_bridge m label s = record {
     apart o h = apart_owed (s.last + 1) (all_of s) (all_of (call.put op.LABEL (label ∷ []) s)) label o.least (let low = o.taken in omega (arith, low)) o.none one h
 
 -- what a part of lowering puts
+pub part_link : (a b : Sections) → Stays a b → Link [] a b
+part_link a b stays = record { extends = stays.extends; sorted = λ o h. stays.sorted h; anew = λ id low other. stays.anew id low }
+
 pub part_bridge : (m : Module) (rank : ℕ → ℕ) (f : Frame) (deep taken : ℕ) (splits : Bool) (given now : List ℕ) (a b : Flow) → FlowStays taken a b → (x : Crosses m rank f deep splits given now a b) → Bridge m x.code [] a.sections b.sections
-part_bridge m rank f deep taken splits given now a b stays x = record {
-  extends = stays.sections.extends;
-  puts = x.puts;
-  sorted = λ o h. stays.sections.sorted h;
-  fine = λ o h. x.fine h;
-  anew = λ id low other. stays.sections.anew id low;
-}
+part_bridge m rank f deep taken splits given now a b stays x = record { link = part_link a.sections b.sections stays.sections; puts = x.puts; fine = λ o h. x.fine h }
 
 -- ---- ids that are taken are owed
 
@@ -146,16 +146,18 @@ pub taken_owed : (s : Sections) (id last : ℕ) → AreApart (s.last + 1) (all_o
 taken_owed s id last h least most = record { least = omega (arith, least); taken = most; none = none_count (count_of id (all_of s)) (all_of s) (s.last + 1) id refl h least }
 
 -- all of it together, from where the ids were taken
-pub stays_all : (m : Module) (code : Code) (used : List ℕ) (s b : Sections) (last : ℕ) → s.last ≤ last → Bridge m code used (record s { last = last }) b → (AreApart (s.last + 1) (all_of s) → AreOwed (record s { last = last }) used) → ((id : ℕ) → id ≤ s.last → is_among used id ≡ false)
-    → Stays s b × (Fine m s → Fine m b)
-stays_all m code used s b last more x owed others = (record {
+pub stays_all : (used : List ℕ) (s b : Sections) (last : ℕ) → s.last ≤ last → Link used (record s { last = last }) b → (AreApart (s.last + 1) (all_of s) → AreOwed (record s { last = last }) used) → ((id : ℕ) → id ≤ s.last → is_among used id ≡ false) → Stays s b
+stays_all used s b last more x owed others = record {
   extends = extends_then wide x.extends;
   sorted = λ h. x.sorted (owed h.apart) (record { set = h.set; imports = h.imports; names = h.names; decorations = h.decorations; globals = h.globals; apart = apart_wider (s.last + 1) (last + 1) (all_of s) (omega (arith, more)) h.apart });
   anew = λ id low. x.anew id (omega (arith, low, more)) (others id low);
-}, λ h. x.fine (owed h.apart) (record { set = h.set; imports = h.imports; names = h.names; decorations = h.decorations; globals = h.globals; apart = apart_wider (s.last + 1) (last + 1) (all_of s) (omega (arith, more)) h.apart }))
+}
   where
     wide : Extends s (record s { last = last })
     wide = record { stage = refl; target = refl; imports = (extends_same s).imports; names = (extends_same s).names; decorations = (extends_same s).decorations; globals = (extends_same s).globals; functions = (extends_same s).functions; last = more; wanting = λ h. h }
+
+pub fine_all : (m : Module) (code : Code) (used : List ℕ) (s b : Sections) (last : ℕ) → s.last ≤ last → Bridge m code used (record s { last = last }) b → (AreApart (s.last + 1) (all_of s) → AreOwed (record s { last = last }) used) → Fine m s → Fine m b
+fine_all m code used s b last more x owed h = x.fine (owed h.apart) (record { set = h.set; imports = h.imports; names = h.names; decorations = h.decorations; globals = h.globals; apart = apart_wider (s.last + 1) (last + 1) (all_of s) (omega (arith, more)) h.apart })
 
 -- ---- labels are marks
 

@@ -36,6 +36,10 @@ abbrev pub EmitStays : {A : Type 0} → ℕ → Flow → Lowered A → Type 0
 EmitStays taken before (Gives a after) = FlowStays taken before after
 EmitStays taken before Lacks = Unit {0}
 
+-- A place tells the same but for the block that is open and the holders that were used.
+abbrev pub SamePlace : Flow → Flow → Type 0
+SamePlace before after = after.place ≡ record before.place { label = after.place.label; used = after.place.used }
+
 -- how many holders something takes that waits, or does not, and of which types
 abbrev pub taken_if : Bool → ℕ
 taken_if true = 1
