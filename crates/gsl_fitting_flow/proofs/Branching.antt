@@ -1,15 +1,9 @@
 -- Blocks that end in a choice or a branch, and the block that begins behind.
-use Rattle.std.proofs.Common.{◌≡◌, ◌≢◌, ℕ, ◌<◌, ◌≤◌, true, cond, List, [], ◌∷◌, ◌++◌, Option, Some, None, refl, sym, ap, ◌∙◌, subst, arith}
-use Rattle.std.specs.Prelude.{◌==◌}
-use Rattle.std.specs.List.{AllByRecursion}
-use Rattle.std.proofs.lemmas.Bool.{and_from, ne_eqb, not_from_false, or_left, true≢false}
+use Rattle.std.proofs.Common.{◌≡◌, ◌≢◌, ℕ, ◌<◌, ◌≤◌, true, cond, List, [], ◌∷◌, refl, sym, ap, ◌∙◌, subst, arith}
+use Rattle.std.proofs.lemmas.Bool.{and_from, ne_eqb, not_from_false, or_left}
 use Rattle.gsl_blocks.specs.declared.around.Around.{Around}
 use Rattle.gsl_blocks.specs.declared.around.Due.{Due}
-use Rattle.gsl_blocks.specs.declared.block.End.TheVariants.{Branch, Conditional}
-use Rattle.gsl_blocks.specs.declared.block.Merge.TheVariants.{Selection}
-use Rattle.gsl_blocks.specs.declared.block.Role.TheVariants.{Merges, Ends}
-use Rattle.gsl_blocks.specs.Around.{in_arm, may_end, needs_run}
-use Rattle.gsl_blocks.specs.Blocks.{role_at}
+use Rattle.gsl_blocks.specs.Around.{in_arm, may_end}
 use Rattle.gsl_blocks.specs.Order.{arm, run}
 use Rattle.gsl_instr.specs.Forms.{form_of}
 use Rattle.gsl_instr.specs.declared.op.TheConstants as op
@@ -18,7 +12,6 @@ use Rattle.gsl_types.specs.declared.ty.Scalar.TheVariants.{Bool as Boolean}
 use Rattle.gsl_tree.specs.Shapes.{flag}
 use Rattle.gsl_words.specs.declared.module.Instr.{Instr}
 use Rattle.gsl_words.specs.declared.module.Module.{Module}
-use Rattle.gsl_valid.specs.Kinds.{type_of}
 use Rattle.gsl_valid.specs.LimitRules.{most_constructs}
 use Rattle.gsl_valid.specs.OperandRules.{is_bool_value}
 use Rattle.gsl_valid.specs.Placed.{Code}
@@ -27,7 +20,7 @@ use Rattle.gsl_spv.specs.Calls as call
 use Rattle.gsl_spv.specs.Declarations.{instr}
 use Rattle.gsl_spv.specs.Sections.{Sections}
 use Rattle.gsl_lower_holders.specs.Flow.{Flow}
-use Rattle.gsl_fitting.specs.Fits.{Behind, Fits, Frame, In, Sits, is_known, is_mark}
+use Rattle.gsl_fitting.specs.Fits.{Behind, Fits, Frame, In, Sits, is_mark}
 use Rattle.gsl_fitting_shapes.specs.Fresh.{Fresh, Selects}
 use Rattle.gsl_fitting_shapes.proofs.Arms.{needs, needs_none, one_arm, two_arms}
 use Rattle.gsl_fitting_types.specs.Making.{AreSorted, IsTypeOf, made}

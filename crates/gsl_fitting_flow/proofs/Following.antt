@@ -1,11 +1,7 @@
 -- Parts of lowering in a row, and steps of the builder as parts.
-use Rattle.std.proofs.Common.{◌≡◌, ℕ, ◌+◌, ◌≤◌, Bool, true, false, ◌||◌, List, [], ◌∷◌, ◌++◌, length, Some, refl, sym, ap, ◌∙◌, subst, suc, append_assoc, append-nil, arith}
-use Rattle.std.specs.Prelude.{slice_get}
+use Rattle.std.proofs.Common.{◌≡◌, ℕ, ◌+◌, ◌≤◌, Bool, true, false, ◌||◌, List, [], ◌∷◌, ◌++◌, length, refl, sym, ap, ◌∙◌, subst, suc, append_assoc, append-nil, arith}
 use Rattle.std.proofs.lemmas.Bool.{or_parts, true≢false}
-use Rattle.gsl_blocks.specs.declared.around.Around.{Around}
-use Rattle.gsl_blocks.specs.declared.around.Due.{Due}
 use Rattle.gsl_words.specs.declared.module.Module.{Module}
-use Rattle.gsl_valid.specs.LimitRules.{most_constructs}
 use Rattle.gsl_spv.specs.Growing.{Extends}
 use Rattle.gsl_spv.specs.Sections.{Sections}
 use Rattle.gsl_spv.proofs.Extending.{extends_then}
@@ -13,11 +9,10 @@ use Rattle.gsl_lower_values.specs.Building.{Built, Made, Full}
 use Rattle.gsl_lower_holders.specs.Flow.{Emit, Flow, Lowered, Gives, Lacks, behind, built_in, given as give}
 use Rattle.gsl_lower_holders.specs.declared.place.FlowPlace.{FlowPlace}
 use Rattle.gsl_fitting.specs.Fits.{Fits, Frame, In}
-use Rattle.gsl_fitting_shapes.specs.Fresh.{Fresh}
 use Rattle.gsl_fitting_shapes.proofs.Labels.{later}
 use Rattle.gsl_fitting_types.specs.Making.{Comes, Sorts, made}
 use Rattle.gsl_fitting_types.proofs.Sorting.{stays_same, stays_then}
-use Rattle.gsl_fitting_flow.specs.Flowing.{Carries, Crosses, EmitStays, FlowStays, Flows, Hold, IsHolder, SamePlace, Widens}
+use Rattle.gsl_fitting_flow.specs.Flowing.{Crosses, EmitStays, FlowStays, Flows, Hold, SamePlace, Widens}
 
 -- ---- what stays
 

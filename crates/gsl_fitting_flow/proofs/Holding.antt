@@ -1,6 +1,6 @@
 -- Values that wait in holders, and the types of the program's types.
-use Rattle.std.proofs.Common.{◌≡◌, ℕ, ◌+◌, ◌≤◌, Bool, true, false, List, [], ◌∷◌, ◌++◌, length, Option, Some, None, refl, sym, ap, ◌∙◌, subst, append-nil}
-use Rattle.std.specs.Prelude.{◌==◌, slice_get}
+use Rattle.std.proofs.Common.{◌≡◌, ℕ, Bool, true, false, List, [], ◌∷◌, Option, Some, None, refl, sym, ap, ◌∙◌, subst, append-nil}
+use Rattle.std.specs.Prelude.{slice_get}
 use Rattle.std.proofs.lemmas.Bool.{eq-eqb, or_left, or_right}
 use Rattle.gsl_instr.specs.Forms.{form_of}
 use Rattle.gsl_instr.specs.declared.op.TheConstants as op
@@ -10,17 +10,13 @@ use Rattle.gsl_types.specs.declared.ty.Ty.{Ty}
 use Rattle.gsl_tree.specs.Shapes.{Shape, shape_of}
 use Rattle.gsl_words.specs.declared.module.Module.{Module}
 use Rattle.gsl_valid.specs.EntryRules.{is_among}
-use Rattle.gsl_valid.specs.Ids.{defined}
-use Rattle.gsl_valid.specs.Instruction.{read}
 use Rattle.gsl_valid.specs.Kinds.{type_of}
-use Rattle.gsl_valid.specs.MemoryRules.{chain_of, is_base, leads_along, leads_through}
-use Rattle.gsl_valid.specs.Types.{defined_as, has_type, is_type, outside_of}
-use Rattle.gsl_spv.specs.Declarations.{instr}
-use Rattle.gsl_spv.specs.Growing.{Extends}
+use Rattle.gsl_valid.specs.MemoryRules.{leads_along}
+use Rattle.gsl_valid.specs.Types.{defined_as, is_type}
 use Rattle.gsl_spv.specs.Sections.{Sections}
-use Rattle.gsl_lower_values.specs.Building.{Made, giving, putting}
+use Rattle.gsl_lower_values.specs.Building.{giving, putting}
 use Rattle.gsl_lower_values.specs.Types as types
-use Rattle.gsl_lower_holders.specs.Flow.{Emit, Flow, Lowered, Gives, Lacks, behind, built_in, find_type, given as give, giving_here, id_at, putting_here, type_by, type_id}
+use Rattle.gsl_lower_holders.specs.Flow.{Emit, Flow, behind, built_in, find_type, given as give, id_at, putting_here, type_by, type_id}
 use Rattle.gsl_lower_holders.specs.Waiting.{fetch, hold, holder, holder_at, keep, take_back}
 use Rattle.gsl_lower_holders.specs.declared.place.FlowPlace.{FlowPlace}
 use Rattle.gsl_fitting.specs.Fits.{Frame, is_known}
@@ -38,7 +34,7 @@ use Rattle.gsl_fitting_flow.proofs.Following.{emit_then, flow_same, flows_then, 
 
 -- ---- what stays
 
-holder_stays : (s : Flow) → EmitStays 1 s (holder s)
+pub holder_stays : (s : Flow) → EmitStays 1 s (holder s)
 unfolding holder
 holder_stays s = by (slice_get s.place.holders s.place.used)
   where
@@ -104,7 +100,7 @@ module _ (whole : Sections) (main : ℕ) (local_size : List ℕ) (rank : ℕ →
   waits_later true given now type id wider w = w
   waits_later false given now type id wider w = of_later given now type id (wider refl) w
 
-  holder_flows : (deep : ℕ) (given : List ℕ) (type : ℕ) (s : Flow) → Flows whole main local_size rank f (type ∷ []) deep false given (λ h now after. IsHolder whole main local_size rank f type h × Widens given now) s (holder s)
+  pub holder_flows : (deep : ℕ) (given : List ℕ) (type : ℕ) (s : Flow) → Flows whole main local_size rank f (type ∷ []) deep false given (λ h now after. IsHolder whole main local_size rank f type h × Widens given now) s (holder s)
   unfolding holder
   holder_flows deep given type s = by (slice_get s.place.holders s.place.used) refl
     where

@@ -4,3 +4,4 @@ pub mod Owing
 pub mod Branching
 pub mod Meeting
 pub mod Short
+pub mod Choice

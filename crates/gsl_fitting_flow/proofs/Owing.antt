@@ -1,8 +1,8 @@
 -- Labels that are owed, and the code that puts them.
-use Rattle.std.proofs.Common.{◌≡◌, ℕ, ◌+◌, ◌≤◌, ◌<◌, Bool, true, false, ◌||◌, List, [], ◌∷◌, ◌++◌, Option, Some, None, refl, sym, ap, ◌∙◌, subst, append_assoc, append-nil, suc, zero, arith}
+use Rattle.std.proofs.Common.{◌≡◌, ℕ, ◌+◌, ◌≤◌, Bool, true, false, List, [], ◌∷◌, ◌++◌, None, refl, sym, ap, ◌∙◌, subst, append_assoc, suc, zero, arith}
 use Rattle.std.specs.Prelude.{◌==◌}
 use Rattle.std.specs.List.{AllByRecursion, Contains}
-use Rattle.std.proofs.lemmas.Bool.{eqb-true, or_from, or_parts}
+use Rattle.std.proofs.lemmas.Bool.{or_from, or_parts}
 use Rattle.std.proofs.lemmas.List.Elements.{Contains-append_left, Contains-append_right}
 use Rattle.gsl_instr.specs.Forms.{form_of}
 use Rattle.gsl_instr.specs.declared.op.TheConstants as op
@@ -12,19 +12,17 @@ use Rattle.gsl_valid.specs.Ids.{is_id, result}
 use Rattle.gsl_valid.specs.Instruction.{read}
 use Rattle.gsl_valid.specs.Kinds.{kind}
 use Rattle.gsl_valid.specs.Placed.{Code}
-use Rattle.gsl_valid.specs.Types.{defined_as}
 use Rattle.gsl_spv.specs.Calls as call
 use Rattle.gsl_spv.specs.Declarations.{instr}
 use Rattle.gsl_spv.specs.Growing.{Extends, all_of}
 use Rattle.gsl_spv.specs.Sections.{Sections}
 use Rattle.gsl_spv.proofs.Contained.{first_in}
-use Rattle.gsl_spv.proofs.Extending.{extends_same, extends_take, extends_then}
+use Rattle.gsl_spv.proofs.Extending.{extends_same, extends_then}
 use Rattle.gsl_lower_law.proofs.Adding.{extends_put}
 use Rattle.gsl_lower_holders.specs.Flow.{Flow}
 use Rattle.gsl_fitting.specs.Fits.{At, Fits, Frame, begins, is_mark}
 use Rattle.gsl_fitting_sections.specs.Sections.{AreApart, count_of, one_if}
 use Rattle.gsl_fitting_steps.specs.Keeping.{Fine, IsOwed}
-use Rattle.gsl_fitting_steps.proofs.Adding.{putting_fine, taking_fine}
 use Rattle.gsl_fitting_steps.proofs.Counting.{apart_owed, apart_same, apart_wider}
 use Rattle.gsl_fitting_steps.proofs.Giving.{put_count}
 use Rattle.gsl_fitting_types.specs.Making.{AreSorted, Stays, made}

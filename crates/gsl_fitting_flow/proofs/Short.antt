@@ -1,5 +1,5 @@
 -- The right operand of `&&` and `||` in a block of its own.
-use Rattle.std.proofs.Common.{◌≡◌, ℕ, ◌+◌, ◌<◌, ◌≤◌, Bool, true, false, cond, ◌||◌, List, [], ◌∷◌, ◌++◌, length, Option, Some, None, refl, sym, ap, ◌∙◌, subst, suc, arith}
+use Rattle.std.proofs.Common.{◌≡◌, ℕ, ◌+◌, ◌<◌, ◌≤◌, Bool, true, false, cond, ◌||◌, List, [], ◌∷◌, ◌++◌, length, refl, sym, ap, ◌∙◌, subst, suc, arith}
 use Rattle.std.specs.Prelude.{◌==◌, nat_le}
 use Rattle.std.proofs.lemmas.Bool.{eqb-true, or_from, true≢false}
 use Rattle.gsl_blocks.specs.declared.around.Around.{Around}
@@ -21,7 +21,7 @@ use Rattle.gsl_spv.specs.Growing.{Extends, all_of}
 use Rattle.gsl_spv.specs.Sections.{Sections}
 use Rattle.gsl_spv.specs.declared.refusal.TheConstants.{MOST_IDS}
 use Rattle.gsl_spv.proofs.Extending.{extends_then}
-use Rattle.gsl_lower_values.specs.Building.{Built, Made, Full}
+use Rattle.gsl_lower_values.specs.Building.{Made, Full}
 use Rattle.gsl_lower_holders.specs.Flow.{Emit, Flow, Lowered, Gives, Lacks, behind, built_in, given as give, fresh, opening}
 use Rattle.gsl_lower_holders.specs.Waiting.{fetch, keep}
 use Rattle.gsl_lower_holders.specs.Ways.{begin_short, choosing, fork, join, targets}
@@ -62,7 +62,7 @@ abbrev opened : LogicOp → ℕ → Flow → Flow
 opened which x s = chosen (s.sections.last + 1 + 1) (targets which x (s.sections.last + 1) (s.sections.last + 1 + 1)) (s.sections.last + 1) (with_last (s.sections.last + 1 + 1) s)
 
 -- where both ways meet
-abbrev met : ℕ → ℕ → ℕ → Flow → Flow
+abbrev pub met : ℕ → ℕ → ℕ → Flow → Flow
 met end h y u = jumped end end (kept_in h y u)
 
 pub greater : (a b : ℕ) → b < a → (a == b) ≡ false

@@ -1,5 +1,5 @@
 -- What a part of lowering does to the code of the function that is open, whose blocks may end and begin on the way (SPIR-V 1.0, 2.11).
-use Rattle.std.specs.Prelude.{◌≡◌, ℕ, ◌+◌, ◌≤◌, Bool, true, false, List, [], ◌∷◌, ◌++◌, length, slice_get, Option, Some, None}
+use Rattle.std.specs.Prelude.{◌≡◌, ℕ, ◌+◌, ◌≤◌, Bool, true, false, List, [], ◌∷◌, ◌++◌, slice_get, Option, Some, None}
 use Rattle.gsl_instr.specs.declared.enumerant.storage_class.TheConstants as storage_class
 use Rattle.gsl_types.specs.declared.ty.Ty.{Ty}
 use Rattle.gsl_tree.specs.Shapes.{Shape, shape_of}
@@ -13,7 +13,7 @@ use Rattle.gsl_valid.specs.Kinds.{kind, type_of}
 use Rattle.gsl_valid.specs.LimitRules.{most_constructs}
 use Rattle.gsl_valid.specs.MemoryRules.{is_base, is_moved}
 use Rattle.gsl_valid.specs.Placed.{Code}
-use Rattle.gsl_valid.specs.Types.{Target, defined_as, outside_of}
+use Rattle.gsl_valid.specs.Types.{defined_as, outside_of}
 use Rattle.gsl_spv.specs.Growing.{Extends}
 use Rattle.gsl_spv.specs.Sections.{Sections}
 use Rattle.gsl_lower_holders.specs.Flow.{Flow, Lowered, Gives, Lacks, find_type}
@@ -21,7 +21,7 @@ use Rattle.gsl_lower_holders.specs.declared.place.FlowPlace.{FlowPlace}
 use Rattle.gsl_fitting.specs.Fits.{Fits, Frame, In, is_known}
 use Rattle.gsl_fitting_shapes.specs.Fresh.{Fresh}
 use Rattle.gsl_fitting_steps.specs.Keeping.{Fine}
-use Rattle.gsl_fitting_types.specs.Making.{IsSized, IsTypeOf, IsValue, Stays, made}
+use Rattle.gsl_fitting_types.specs.Making.{IsSized, IsTypeOf, Stays, made}
 
 -- ---- what stays
 

@@ -5,4 +5,4 @@
 
 mod laws;
 
-pub use laws::{parts_follow, steps_flow, values_wait};
+pub use laws::{choices_fit, parts_follow, right_operands_fit, steps_flow, values_wait};
