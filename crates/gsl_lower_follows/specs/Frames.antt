@@ -96,8 +96,8 @@ type_named around (Local number) = slice_get around.locals number
 type_named around (Holder number) = None
 
 -- A call of a function: its code, which stands behind other functions and before others in the sections that the module is made of; what its
--- ids last for; the calls that wait; the numbers of its variables; what is declared for it; the values of the built-in variables that the module has; and all
--- variables as they were when it began.
+-- ids last for; the calls that wait; the numbers of its variables; what is declared for it; the type of what it gives; the values of the built-in variables that the
+-- module has; and all variables as they were when it began.
 pub record Frame (m : Module) (input : Input) (whole : Sections) : Type 0 where
   pub before : Code
   pub code : Code
@@ -114,6 +114,7 @@ pub record Frame (m : Module) (input : Input) (whole : Sections) : Type 0 where
   pub apart : (a b : Name) (number : ℕ) → seat a ≡ Some number → seat b ≡ Some number → a ≡ b
   pub place : FlowPlace
   pub known : (name : Name) (id : ℕ) → id_of place name ≡ Some id → (number : ℕ) × (seat name ≡ Some number) × (own id ≡ Some (Points (InVariable number [])))
+  pub result : Ty
   pub stages : List (Option Value)
   pub begun : List Value
   pub among : (name : Name) (number : ℕ) → seat name ≡ Some number → number < length begun

@@ -2,6 +2,7 @@
 use Rattle.std.proofs.Common.{◌≡◌, refl, sym, ap, ◌∙◌, subst, ℕ, ◌+◌, ◌<◌, List, ◌++◌, length, map, Some, inl, inr, arith, Option}
 use Rattle.std.proofs.lemmas.List.{length-append, length-map}
 use Rattle.gsl_base.specs.declared.input.Input.{Input}
+use Rattle.gsl_types.specs.declared.ty.Ty.{Ty}
 use Rattle.gsl_words.specs.declared.module.Module.{Module}
 use Rattle.gsl_values.specs.declared.value.Value.{Value}
 use Rattle.gsl_valid.specs.Placed.{Code, Placed, placed_from}
@@ -62,7 +63,7 @@ module _ (m : Module) (body : List Placed) (held : List Held) (count : ℕ) (pla
 
 -- ---- the frame
 
-module _ (m : Module) (whole : Sections) (input : Input) (id : ℕ) (before code behind : Code) (place : FlowPlace) (stages : List (Option Value)) (held : List Held) (waiting : List Waiting) (state : State)
+module _ (m : Module) (whole : Sections) (input : Input) (id : ℕ) (before code behind : Code) (place : FlowPlace) (result : Ty) (stages : List (Option Value)) (held : List Held) (waiting : List Waiting) (state : State)
     (valid : Valid m) (written : Written m whole) (s : StandsIn m id code) (is : whole.functions ≡ before ++ (code ++ behind))
     (passed : ArePassed m (placed_from (place_in m id code s) code) held (length state.variables)) (known : AreKnown m (placed_from (place_in m id code s) code) place) where
   abbrev body : List Placed
@@ -93,12 +94,13 @@ module _ (m : Module) (whole : Sections) (input : Input) (id : ℕ) (before code
     apart = seats_apart m body held count place passed known;
     place = place;
     known = known_seated m body held count place passed known (kept m valid);
+    result = result;
     stages = stages;
     begun = begun;
     among = λ name number is. subst (λ n. number < n) (sym many) (seat_below m body held count place passed known name number is);
   }
 
-  pub called_framed : HasFrame m input whole before code place stages (entered m (globals m) body held waiting state)
+  pub called_framed : HasFrame m input whole before code place result stages (entered m (globals m) body held waiting state)
   called_framed = record {
     frame = frame_of;
     front = refl;
@@ -109,6 +111,7 @@ module _ (m : Module) (whole : Sections) (input : Input) (id : ℕ) (before code
     ids = refl;
     waiting = refl;
     begun = refl;
+    gives = refl;
     given = refl;
     seats = refl;
     seated = record { same = refl };

@@ -4,6 +4,7 @@ use Rattle.std.specs.Prelude.{slice_get}
 use Rattle.std.proofs.lemmas.Bool.{and_parts, false≢true}
 use Rattle.std.proofs.lemmas.List.{length-map}
 use Rattle.gsl_base.specs.declared.input.Input.{Input}
+use Rattle.gsl_types.specs.declared.ty.Ty.TheVariants.{Void}
 use Rattle.gsl_words.specs.declared.module.Module.{Module}
 use Rattle.gsl_values.specs.declared.value.Value.{Value}
 use Rattle.gsl_valid.specs.EntryRules.{begins_main, is_main, is_main_shape, is_none_of}
@@ -98,9 +99,9 @@ module _ (input : Input) (whole : Sections) (main : ℕ) (local_size : List ℕ)
   abbrev before : Code
   before = e.before ++ begins main e.returned e.control e.function_type ∷ []
 
-  pub main_framed : HasFrame m input whole before code place stages (start m input)
+  pub main_framed : HasFrame m input whole before code place Void stages (start m input)
   main_framed =
-      subst (HasFrame m input whole before code place stages) (sym (start_is m input main code (valid_once m e.valid) entry stands))
-      (called_framed m whole input main before code e.behind place stages [] [] (before_entry m input)
+      subst (HasFrame m input whole before code place Void stages) (sym (start_is m input main code (valid_once m e.valid) entry stands))
+      (called_framed m whole input main before code e.behind place Void stages [] [] (before_entry m input)
       e.valid (finished_written whole main local_size) stands
       (e.is ∙ sym (append_assoc e.before (begins main e.returned e.control e.function_type ∷ []) (code ++ e.behind))) passed known)

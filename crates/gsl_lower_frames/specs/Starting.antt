@@ -2,6 +2,7 @@
 use Rattle.std.specs.Prelude.{◌≡◌, ℕ, List, [], ◌∷◌, ◌++◌, length, map, Option}
 use Rattle.std.specs.List.{filter_map}
 use Rattle.gsl_base.specs.declared.input.Input.{Input}
+use Rattle.gsl_types.specs.declared.ty.Ty.{Ty}
 use Rattle.gsl_words.specs.declared.module.Module.{Module}
 use Rattle.gsl_values.specs.declared.value.Value.{Value}
 use Rattle.gsl_valid.specs.Instruction.{read}
@@ -62,9 +63,9 @@ pub record IsEntered (whole : Sections) (main : ℕ) (local_size : List ℕ) (co
   pub valid : Valid (module_of whole main local_size)
   pub named : AreNamed (variables_in (module_of whole main local_size) code) place
 
--- There is a frame of a function of this code behind other code, which runs in this state, where its first label is next, with the
+-- There is a frame of a function of this code behind other code, which gives what is of a type and runs in this state, where its first label is next, with the
 -- ids of a place for its variables and with these values of the built-in variables.
-pub record HasFrame (m : Module) (input : Input) (whole : Sections) (before code : Code) (place : FlowPlace) (stages : List (Option Value)) (state : State) : Type 0 where
+pub record HasFrame (m : Module) (input : Input) (whole : Sections) (before code : Code) (place : FlowPlace) (result : Ty) (stages : List (Option Value)) (state : State) : Type 0 where
   pub frame : Frame m input whole
   pub front : frame.before ≡ before
   pub same : frame.code ≡ code
@@ -74,6 +75,7 @@ pub record HasFrame (m : Module) (input : Input) (whole : Sections) (before code
   pub ids : state.ids ≡ frame.own
   pub waiting : state.waiting ≡ frame.waiting
   pub begun : state.variables ≡ frame.begun
+  pub gives : frame.result ≡ result
   pub given : frame.stages ≡ stages
   pub seats : frame.seat ≡ seat_in frame.own place
   pub seated : Seated m input whole frame place

@@ -3,6 +3,8 @@
 ghost use Rattle.std.specs.Prelude.{◌≡◌, ℕ, List, [], ◌∷◌, ◌++◌, ◌<◌, length, slice_get, Option, None, Some};
 ghost use Rattle.gsl_base.specs.declared.input.Input.{Input};
 ghost use Rattle.gsl_instr.specs.declared.op.TheConstants as op;
+ghost use Rattle.gsl_types.specs.declared.ty.Ty.{Ty};
+ghost use Rattle.gsl_types.specs.declared.ty.Ty.TheVariants.{Void};
 ghost use Rattle.gsl_words.specs.declared.module.Module.{Module};
 ghost use Rattle.gsl_values.specs.declared.value.Value.{Value};
 ghost use Rattle.gsl_valid.specs.IdsDefinedOnce.{ids_defined_once};
@@ -63,11 +65,11 @@ pub fn modules_enter_main()
 
 /// Where the module of a builder starts there is a frame of main, and the ids of the names that are known point to their variables.
 pub fn main_has_a_frame()
-    ensures { (input : Input) (whole : Sections) (main : ℕ) (local_size : List ℕ) (code : Code) (place : FlowPlace) (stages : List (Option Value)) → (e : IsEntered whole main local_size code place) → HasFrame (module_of whole main local_size) input whole (e.before ++ begins main e.returned e.control e.function_type ∷ []) code place stages (start (module_of whole main local_size) input) }
+    ensures { (input : Input) (whole : Sections) (main : ℕ) (local_size : List ℕ) (code : Code) (place : FlowPlace) (stages : List (Option Value)) → (e : IsEntered whole main local_size code place) → HasFrame (module_of whole main local_size) input whole (e.before ++ begins main e.returned e.control e.function_type ∷ []) code place Void stages (start (module_of whole main local_size) input) }
 {}
 
 /// Where a function begins that is called, with pointers to variables that run, there is a frame of it, and the ids of the names that are
 /// known point to their variables.
 pub fn called_functions_have_frames()
-    ensures { (m : Module) (whole : Sections) (input : Input) (id : ℕ) (before code behind : Code) (place : FlowPlace) (stages : List (Option Value)) (held : List Held) (waiting : List Waiting) (state : State) → Valid m → Written m whole → (s : StandsIn m id code) → whole.functions ≡ before ++ (code ++ behind) → ArePassed m (placed_from (place_in m id code s) code) held (length state.variables) → AreKnown m (placed_from (place_in m id code s) code) place → HasFrame m input whole before code place stages (entered m (globals m) (placed_from (place_in m id code s) code) held waiting state) }
+    ensures { (m : Module) (whole : Sections) (input : Input) (id : ℕ) (before code behind : Code) (place : FlowPlace) (result : Ty) (stages : List (Option Value)) (held : List Held) (waiting : List Waiting) (state : State) → Valid m → Written m whole → (s : StandsIn m id code) → whole.functions ≡ before ++ (code ++ behind) → ArePassed m (placed_from (place_in m id code s) code) held (length state.variables) → AreKnown m (placed_from (place_in m id code s) code) place → HasFrame m input whole before code place result stages (entered m (globals m) (placed_from (place_in m id code s) code) held waiting state) }
 {}

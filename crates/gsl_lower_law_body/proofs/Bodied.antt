@@ -34,7 +34,7 @@ use Rattle.gsl_lower_law_loops.proofs.Looped.{loop_does}
 use Rattle.gsl_lower_law_switch.specs.Choosing.{AreArms, IsArm}
 use Rattle.gsl_lower_law_switch.proofs.Switched.{switch_does}
 use Rattle.gsl_lower_law_discard.proofs.Discarded.{discard_does}
-use Rattle.gsl_lower_law_body.specs.Asking.{Asks, AsksAt, Computes, Gives, IfAny}
+use Rattle.gsl_lower_law_body.specs.Asking.{Asks, AsksAt, Computes, Gives, IfAny, Returns}
 
 module _ (m : Module) (input : Input) (sections : Sections) (f : Frame m input sections) (p : Program) (around : Around) (lower : lowering.Setting) (means : meaning.Setting) (locals : List Ty) where
   abbrev Does : LowerStmt → Run statement.Flow → Type 0
@@ -104,9 +104,9 @@ module _ (m : Module) (input : Input) (sections : Sections) (f : Frame m input s
   loop_by body x does (Some t) None test step last = loop_does m input sections f p around body x does None None tt (Some (value_of lower t)) (Some (evaluating means t)) test last
   loop_by body x does (Some t) (Some e) test step last = loop_does m input sections f p around body x does (Some (value_of lower e)) (Some (evaluating means e)) step (Some (value_of lower t)) (Some (evaluating means t)) test last
 
-  return_by : (e : Option Expr) → IfAny m input sections f p around lower means locals (Gives m input sections f p around lower means locals) e → DoesStatement m input sections f p around true (λ exits. returned (value_if_any lower e)) (statement.returning_with means e)
-  return_by None is = return_nothing_does m input sections f p around
-  return_by (Some e) is = return_does m input sections f p around is.splits is.ty (value_of lower e) (evaluating means e) is.gives is.real
+  return_by : (e : Option Expr) → Returns m input sections f p around lower means locals e → DoesStatement m input sections f p around true (λ exits. returned (value_if_any lower e)) (statement.returning_with means e)
+  return_by None is = return_nothing_does m input sections f p around is
+  return_by (Some e) is = return_does m input sections f p around is.splits f.result (value_of lower e) (evaluating means e) is.gives is.real refl
 
   -- ---- every kind of statement
 

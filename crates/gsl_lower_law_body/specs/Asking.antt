@@ -1,7 +1,8 @@
 -- What statements ask of the expressions in them, so that they do what they mean as they are lowered.
-use Rattle.std.specs.Prelude.{ℕ, Bool, List, Option, Some, None}
+use Rattle.std.specs.Prelude.{◌≡◌, ◌≢◌, ℕ, Bool, List, Option, Some, None}
 use Rattle.gsl_base.specs.declared.input.Input.{Input}
 use Rattle.gsl_types.specs.declared.ty.Ty.{Ty}
+use Rattle.gsl_types.specs.declared.ty.Ty.TheVariants.{Void}
 use Rattle.gsl_words.specs.declared.module.Module.{Module}
 use Rattle.gsl_tree.specs.Around.{Around}
 use Rattle.gsl_tree.specs.Trees.{Exits}
@@ -34,6 +35,17 @@ module _ (m : Module) (input : Input) (sections : Sections) (f : Frame m input s
   IfAny Is None = Unit {0}
   IfAny Is (Some e) = Is e
 
+  -- What an expression is lowered to gives a value of the type that the function gives.
+  pub record IsReturned (e : Expr) : Type 0 where
+    pub splits : Bool
+    pub real : f.result ≢ Void
+    pub gives : GivesValue m input sections f p around splits f.result (value_of lower e) (evaluating means e)
+
+  -- `return` has a value where the function gives one, and none where it gives nothing.
+  abbrev pub Returns : Option Expr → Type 0
+  Returns None = f.result ≡ Void
+  Returns (Some e) = IsReturned e
+
   -- A local variable has its place, and what it begins with is given: the value of an initialiser, or zeros.
   pub record Begins (number : ℕ) (init : Option Expr) : Type 0 where
     pub ty : Ty
@@ -52,7 +64,7 @@ module _ (m : Module) (input : Input) (sections : Sections) (f : Frame m input s
   Asks (Stmt-F.Switch e arms) = Gives e
   Asks Stmt-F.Break = Unit {0}
   Asks Stmt-F.Continue = Unit {0}
-  Asks (Stmt-F.Return e) = IfAny Gives e
+  Asks (Stmt-F.Return e) = Returns e
   Asks Stmt-F.Discard = Unit {0}
 
   -- the same, where the statement stands: by which jumps it may make, nothing is asked

@@ -39,14 +39,14 @@ got_behind (x ∷ l) more k a is = let e : suc (length l) + k ≡ suc (length l 
 kept_in_front : {A : Type 0} (l more : List A) (k : ℕ) (a : A) → slice_get l k ≡ Some a → slice_get (l ++ more) k ≡ Some a
 kept_in_front l more k a is = get_in_front l more k (slice_get_within l k a is) ∙ is
 
-module _ (m : Module) (input : Input) (whole : Sections) (f : Frame m input whole) (p : Program) (around inner : Around) (place : FlowPlace) (stages : List (Option Value)) (function : ℕ) (begin b : Flow) (fn : IsFunction m whole p.structs place inner.locals function begin)
+module _ (m : Module) (input : Input) (whole : Sections) (f : Frame m input whole) (p : Program) (around inner : Around) (place : FlowPlace) (stages : List (Option Value)) (result : Ty) (function : ℕ) (begin b : Flow) (fn : IsFunction m whole p.structs place inner.locals function begin)
     (valid : Valid m) (written : Written m whole) (of_module : IsFrame m input whole place stages f) (first : ℕ) (s : shader.State) (state : State) (args : List Argument) (good : Good m input whole f p around b s state) (held : AreHeld m input whole f first state args)
     (enough : length args ≡ length begin.place.params) (alike : AreAlike around inner) (typed_args : (number : ℕ) → HasType m input whole f p inner (type_named inner (Param number)) (slice_get (values_of args) number)) where
   abbrev pub frame : List Waiting → Frame m input whole
-  frame waiting = frame_of m input whole f p.structs place inner.locals stages function begin fn valid written of_module first state args good.holds.count held enough waiting
+  frame waiting = frame_of m input whole f p.structs place inner.locals stages result function begin fn valid written of_module first state args good.holds.count held enough waiting
 
   abbrev pub lasting : Ids
-  lasting = own m input whole f p.structs place inner.locals stages function begin fn valid written of_module first state args good.holds.count held enough
+  lasting = own m input whole f p.structs place inner.locals stages result function begin fn valid written of_module first state args good.holds.count held enough
 
   abbrev more : List Value
   more = map (begins_as m) (variables_of (placed_from (place_in m function fn.code fn.stands) fn.code))
@@ -62,12 +62,12 @@ module _ (m : Module) (input : Input) (whole : Sections) (f : Frame m input whol
   variable_there position v is =
       got_behind state.variables more position (constant m v.zero)
       (map_there (begins_as m) (variables_of (placed_from (place_in m function fn.code fn.stands) fn.code)) position (variable_of v)
-      (ap (λ l. slice_get l position) (variables_are m input whole f p.structs place inner.locals stages function begin fn valid written of_module first state args good.holds.count held enough) ∙ map_there variable_of fn.opens.variables position v is))
+      (ap (λ l. slice_get l position) (variables_are m input whole f p.structs place inner.locals stages result function begin fn valid written of_module first state args good.holds.count held enough) ∙ map_there variable_of fn.opens.variables position v is))
 
   shared_is : (name : Name) (w : Value) → is_shared name ≡ true → value_of f.stages s name ≡ Some w → (number : ℕ) × (seat name ≡ Some number) × (slice_get (state.variables ++ more) number ≡ Some w)
   shared_is name w is has =
       let h = good.holds.values name w has in
-      (h.0, seat_kept m input whole f p.structs place inner.locals stages function begin fn valid written of_module first state args good.holds.count held enough b good.seated name is ∙ h.1, kept_in_front state.variables more h.0 w h.2)
+      (h.0, seat_kept m input whole f p.structs place inner.locals stages result function begin fn valid written of_module first state args good.holds.count held enough b good.seated name is ∙ h.1, kept_in_front state.variables more h.0 w h.2)
 
   values_begun : (name : Name) (w : Value) → value_of stages now name ≡ Some w → (number : ℕ) × (seat name ≡ Some number) × (slice_get (state.variables ++ more) number ≡ Some w)
   values_begun (Global k) w is = shared_is (Global k) w refl is
@@ -76,12 +76,12 @@ module _ (m : Module) (input : Input) (whole : Sections) (f : Frame m input whol
   values_begun (Param k) w is =
       let a = mapped (λ (a : Argument). a.value) args k w is in
       let h = held.each k a.0 a.1 in
-      (a.0.seat, param_seat m input whole f p.structs place inner.locals stages function begin fn valid written of_module first state args good.holds.count held enough k a.0 a.1, kept_in_front state.variables more a.0.seat w (h.value ∙ ap Some a.2))
+      (a.0.seat, param_seat m input whole f p.structs place inner.locals stages result function begin fn valid written of_module first state args good.holds.count held enough k a.0 a.1, kept_in_front state.variables more a.0.seat w (h.value ∙ ap Some a.2))
   values_begun (Local k) w is =
       let t = mapped (zero_value p.structs) inner.locals k w is in
       let z = fn.opens.zeros k t.0 t.1 in (
         length state.variables + z.0,
-        ap (number_at lasting) z.3 ∙ ap number_in (own_points m input whole f p.structs place inner.locals stages function begin fn valid written of_module first state args good.holds.count held enough z.0 z.1 z.2),
+        ap (number_at lasting) z.3 ∙ ap number_in (own_points m input whole f p.structs place inner.locals stages result function begin fn valid written of_module first state args good.holds.count held enough z.0 z.1 z.2),
         variable_there z.0 z.1 z.2 ∙ ap Some (z.4 ∙ t.2),
       )
   values_begun (Holder k) w is = absurd cc
@@ -116,7 +116,7 @@ module _ (m : Module) (input : Input) (whole : Sections) (f : Frame m input whol
     own = refl;
     waiting = refl;
     ready = record { lasting = keeps_same lasting; later = λ id less. refl };
-    seated = seated m input whole f p.structs place inner.locals stages function begin fn valid written of_module first state args good.holds.count held enough waiting;
+    seated = seated m input whole f p.structs place inner.locals stages result function begin fn valid written of_module first state args good.holds.count held enough waiting;
     holds = record {
       values = values_begun;
       blocks = λ number id block is at. good.holds.blocks number id block is (ap (λ l. slice_get l number) (of_module.knows.blocks ∙ sym fn.shared.blocks) ∙ at);
@@ -132,6 +132,6 @@ module _ (m : Module) (input : Input) (whole : Sections) (f : Frame m input whol
   pub each_there : (waiting : List Waiting) (position : ℕ) (v : Declared) → slice_get fn.opens.variables position ≡ Some v → IsThere m input (begun_state waiting) v
   each_there waiting position v is = record {
     number = length state.variables + position;
-    points = own_points m input whole f p.structs place inner.locals stages function begin fn valid written of_module first state args good.holds.count held enough position v is;
+    points = own_points m input whole f p.structs place inner.locals stages result function begin fn valid written of_module first state args good.holds.count held enough position v is;
     value = variable_there position v is;
   }

@@ -5,6 +5,7 @@ use Rattle.std.proofs.lemmas.List.{length-append}
 use Rattle.gsl_base.specs.declared.input.Input.{Input}
 use Rattle.gsl_instr.specs.Forms.{form_of}
 use Rattle.gsl_instr.specs.declared.op.TheConstants as op
+use Rattle.gsl_types.specs.declared.ty.Ty.{Ty}
 use Rattle.gsl_words.specs.declared.module.Module.{Module}
 use Rattle.gsl_values.specs.declared.value.Value.{Value}
 use Rattle.gsl_tree.specs.Around.{Around}
@@ -41,7 +42,7 @@ each_held state [] go each = refl
 each_held state (a ∷ args) go each =
     ap (λ o. on o (λ held. on_each state (ids_of args) (λ more. go (held ∷ more)))) (each 0 a refl) ∙ each_held state args (λ more. go (held_of a ∷ more)) (λ number. each (suc number))
 
-module _ (m : Module) (input : Input) (whole : Sections) (f : Frame m input whole) (p : Program) (around inner : Around) (place : FlowPlace) (stages : List (Option Value)) (function : ℕ) (begin b : Flow) (args : List Argument) (type first : ℕ) (s : shader.State) (state : State)
+module _ (m : Module) (input : Input) (whole : Sections) (f : Frame m input whole) (p : Program) (around inner : Around) (place : FlowPlace) (stages : List (Option Value)) (result : Ty) (function : ℕ) (begin b : Flow) (args : List Argument) (type first : ℕ) (s : shader.State) (state : State)
     (valid : Valid m) (written : Written m whole) (fn : IsFunction m whole p.structs place inner.locals function begin) (of_module : IsFrame m input whole place stages f) (alike : AreAlike around inner) (good : Good m input whole f p around b s state)
     (inside : Inside m input whole f (given_by op.FUNCTION_CALL (function ∷ ids_of args) type b).sections) (held : AreHeld m input whole f first state args) (enough : length args ≡ length begin.place.params)
     (typed_args : (number : ℕ) → HasType m input whole f p inner (type_named inner (Param number)) (slice_get (values_of args) number)) where
@@ -58,10 +59,10 @@ module _ (m : Module) (input : Input) (whole : Sections) (f : Frame m input whol
   waiting = call_of id state rest ∷ f.waiting
 
   abbrev g : Frame m input whole
-  g = frame m input whole f p around inner place stages function begin b fn valid written of_module first s state args good held enough alike typed_args waiting
+  g = frame m input whole f p around inner place stages result function begin b fn valid written of_module first s state args good held enough alike typed_args waiting
 
   abbrev begun : State
-  begun = begun_state m input whole f p around inner place stages function begin b fn valid written of_module first s state args good held enough alike typed_args waiting
+  begun = begun_state m input whole f p around inner place stages result function begin b fn valid written of_module first s state args good held enough alike typed_args waiting
 
   abbrev body : List Placed
   body = placed_from g.first fn.code
@@ -95,7 +96,7 @@ module _ (m : Module) (input : Input) (whole : Sections) (f : Frame m input whol
 
   coming_here : coming m input whole g begin.sections ≡ placed_from (words_from at_label opened) fn.rest
   coming_here =
-      coming_is m input whole g begin.sections (begins_inside m input whole f p around inner place stages function begin b fn valid written of_module first s state args good held enough alike typed_args waiting)
+      coming_is m input whole g begin.sections (begins_inside m input whole f p around inner place stages result function begin b fn valid written of_module first s state args good held enough alike typed_args waiting)
       ∙ ap (λ n. placed_from n fn.rest) (ap (words_from g.first) fn.opens.is ∙ words_on g.first fn.opens.params opened)
 
   from_label_on : from_first_label body ≡ placed_from at_label opened ++ coming m input whole g begin.sections
@@ -110,7 +111,7 @@ module _ (m : Module) (input : Input) (whole : Sections) (f : Frame m input whol
       ap (λ o. going_on o (run m input (length opened))) called
       ∙ ap (λ l. run m input (length opened) (record begun { rest = l })) from_label_on
       ∙ opening_leads m input begun fn.opens.label fn.opens.variables refl
-      (each_there m input whole f p around inner place stages function begin b fn valid written of_module first s state args good held enough alike typed_args waiting) at_label (coming m input whole g begin.sections)
+      (each_there m input whole f p around inner place stages result function begin b fn valid written of_module first s state args good held enough alike typed_args waiting) at_label (coming m input whole g begin.sections)
 
   entering : (units : ℕ) → Stretch m input 0 0 (suc units) state units (Going begun)
   entering units =
@@ -121,31 +122,32 @@ module _ (m : Module) (input : Input) (whole : Sections) (f : Frame m input whol
       let next : length (coming m input whole g begin.sections) ≡ length fn.rest = ap length coming_here ∙ placed_length (words_from at_label opened) fn.rest in
       record { count = suc (length opened); slow = omega arith; fast = omega (arith, here, behind, short, all, next); runs = runs }
 
-  pub has_entered : HasEntered m input whole f p (IsFrame m input whole place stages) inner first id args fn.before fn.code begin s state rest
+  pub has_entered : HasEntered m input whole f p (IsFrame m input whole place stages) inner result first id args fn.before fn.code begin s state rest
   has_entered = record {
     frame = g;
     front = refl;
     same = refl;
-    one = frame_is m input whole f p.structs place inner.locals stages function begin fn valid written of_module first state args good.holds.count held enough waiting;
-    called = was_called m input whole f p.structs place inner.locals stages function begin fn valid written of_module first state args good.holds.count held enough b good.seated id rest;
-    params = param_seat m input whole f p.structs place inner.locals stages function begin fn valid written of_module first state args good.holds.count held enough;
-    passed = param_argument m input whole f p.structs place inner.locals stages function begin fn valid written of_module first state args good.holds.count held enough;
+    gives = refl;
+    one = frame_is m input whole f p.structs place inner.locals stages result function begin fn valid written of_module first state args good.holds.count held enough waiting;
+    called = was_called m input whole f p.structs place inner.locals stages result function begin fn valid written of_module first state args good.holds.count held enough b good.seated id rest;
+    params = param_seat m input whole f p.structs place inner.locals stages result function begin fn valid written of_module first state args good.holds.count held enough;
+    passed = param_argument m input whole f p.structs place inner.locals stages result function begin fn valid written of_module first state args good.holds.count held enough;
     begun = begun;
-    good = begins_good m input whole f p around inner place stages function begin b fn valid written of_module first s state args good held enough alike typed_args waiting;
+    good = begins_good m input whole f p around inner place stages result function begin b fn valid written of_module first s state args good held enough alike typed_args waiting;
     stretch = entering;
   }
 
-pub call_enters : (m : Module) (input : Input) (whole : Sections) (f : Frame m input whole) (p : Program) (around inner : Around) (place : FlowPlace) (stages : List (Option Value)) (function : ℕ) (begin b later : Flow) (args : List Argument) (type id first : ℕ) (s : shader.State) (state : State) → Valid m → Written m whole
+pub call_enters : (m : Module) (input : Input) (whole : Sections) (f : Frame m input whole) (p : Program) (around inner : Around) (place : FlowPlace) (stages : List (Option Value)) (result : Ty) (function : ℕ) (begin b later : Flow) (args : List Argument) (type id first : ℕ) (s : shader.State) (state : State) → Valid m → Written m whole
     → (fn : IsFunction m whole p.structs place inner.locals function begin) → IsFrame m input whole place stages f → AreAlike around inner → Good m input whole f p around b s state → giving_here op.FUNCTION_CALL (function ∷ ids_of args) type b ≡ Gives id later → Inside m input whole f later.sections
     → AreHeld m input whole f first state args → length args ≡ length begin.place.params → ((number : ℕ) → HasType m input whole f p inner (type_named inner (Param number)) (slice_get (values_of args) number))
-    → HasEntered m input whole f p (IsFrame m input whole place stages) inner first id args fn.before fn.code begin s state (coming m input whole f later.sections)
-call_enters m input whole f p around inner place stages function begin b later args type id first s state valid written fn of_module alike good puts inside held enough typed =
-    subst (λ (n : ℕ). HasEntered m input whole f p (IsFrame m input whole place stages) inner first n args fn.before fn.code begin s state (coming m input whole f later.sections)) (sym made.0) (go later made.1 inside)
+    → HasEntered m input whole f p (IsFrame m input whole place stages) inner result first id args fn.before fn.code begin s state (coming m input whole f later.sections)
+call_enters m input whole f p around inner place stages result function begin b later args type id first s state valid written fn of_module alike good puts inside held enough typed =
+    subst (λ (n : ℕ). HasEntered m input whole f p (IsFrame m input whole place stages) inner result first n args fn.before fn.code begin s state (coming m input whole f later.sections)) (sym made.0) (go later made.1 inside)
   where
     made : (id ≡ b.sections.last + 1) × (later ≡ given_by op.FUNCTION_CALL (function ∷ ids_of args) type b)
     made = put_here op.FUNCTION_CALL (function ∷ ids_of args) type b id later puts
 
     go : (later : Flow) → later ≡ given_by op.FUNCTION_CALL (function ∷ ids_of args) type b → Inside m input whole f later.sections
-        → HasEntered m input whole f p (IsFrame m input whole place stages) inner first (b.sections.last + 1) args fn.before fn.code begin s state (coming m input whole f later.sections)
-    go later q = subst (λ (l : Flow). Inside m input whole f l.sections → HasEntered m input whole f p (IsFrame m input whole place stages) inner first (b.sections.last + 1) args fn.before fn.code begin s state (coming m input whole f l.sections)) (sym q)
-        (λ there. has_entered m input whole f p around inner place stages function begin b args type first s state valid written fn of_module alike good there held enough typed)
+        → HasEntered m input whole f p (IsFrame m input whole place stages) inner result first (b.sections.last + 1) args fn.before fn.code begin s state (coming m input whole f later.sections)
+    go later q = subst (λ (l : Flow). Inside m input whole f l.sections → HasEntered m input whole f p (IsFrame m input whole place stages) inner result first (b.sections.last + 1) args fn.before fn.code begin s state (coming m input whole f l.sections)) (sym q)
+        (λ there. has_entered m input whole f p around inner place stages result function begin b args type first s state valid written fn of_module alike good there held enough typed)

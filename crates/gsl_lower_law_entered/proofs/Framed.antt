@@ -23,7 +23,7 @@ use Rattle.gsl_lower_holders.specs.declared.place.FlowPlace.{FlowPlace}
 use Rattle.gsl_lower_text.specs.Written.{Written}
 use Rattle.gsl_lower_text.proofs.Lasting.{function_lasts}
 use Rattle.gsl_lower_follows.specs.Frames.{Frame, Global, Holder, Interface, Local, Name, Param, Seated, Stage, id_if, id_of}
-use Rattle.gsl_lower_follows.proofs.Holding.{found_among, holder_number}
+use Rattle.gsl_lower_follows.proofs.Holding.{found_among, holder_number, id_known, seat_known}
 use Rattle.gsl_lower_frames.specs.Calling.{AreKnown, ArePassed}
 use Rattle.gsl_lower_frames.specs.Named.{HasId, number_at, number_in, seat_in}
 use Rattle.gsl_lower_frames.specs.Standing.{place_in}
@@ -65,7 +65,7 @@ param_number (Param k) = k
 param_number (Local k) = 0
 param_number (Holder k) = 0
 
-module _ (m : Module) (input : Input) (whole : Sections) (f : Frame m input whole) (structs : List StructType) (place : FlowPlace) (locals : List Ty) (stages : List (Option Value)) (function : ℕ) (begin : Flow) (fn : IsFunction m whole structs place locals function begin)
+module _ (m : Module) (input : Input) (whole : Sections) (f : Frame m input whole) (structs : List StructType) (place : FlowPlace) (locals : List Ty) (stages : List (Option Value)) (result : Ty) (function : ℕ) (begin : Flow) (fn : IsFunction m whole structs place locals function begin)
     (valid : Valid m) (written : Written m whole) (of_module : IsFrame m input whole place stages f) (first : ℕ) (state : State) (args : List Argument) (many : length state.variables ≡ length f.begun) (held : AreHeld m input whole f first state args) (enough : length args ≡ length begin.place.params) where
   abbrev pub body : List Placed
   body = placed_from (place_in m function fn.code fn.stands) fn.code
@@ -154,6 +154,7 @@ module _ (m : Module) (input : Input) (whole : Sections) (f : Frame m input whol
     apart = seats_apart m body (helds args) count begin.place passed known;
     place = begin.place;
     known = known_seated m body (helds args) count begin.place passed known (kept m valid);
+    result = result;
     stages = stages;
     begun = begun;
     among = λ name number is. subst (λ n. number < n) (sym long) (seat_below m body (helds args) count begin.place passed known name number is);

@@ -1,6 +1,7 @@
 -- What is passed to a function that is called, and where control is behind the call (GLSL 4.50, 6.1.1).
 use Rattle.std.specs.Prelude.{◌≡◌, ℕ, suc, ◌≤◌, List, [], map, slice_get, Some}
 use Rattle.gsl_base.specs.declared.input.Input.{Input}
+use Rattle.gsl_types.specs.declared.ty.Ty.{Ty}
 use Rattle.gsl_words.specs.declared.module.Module.{Module}
 use Rattle.gsl_values.specs.declared.value.Value.{Value}
 use Rattle.gsl_tree.specs.Around.{Around}
@@ -42,12 +43,13 @@ module _ (m : Module) (input : Input) (whole : Sections) (f : Frame m input whol
     pub apart : (j k : ℕ) (a b : Argument) → slice_get args j ≡ Some a → slice_get args k ≡ Some b → a.holder ≡ b.holder → j ≡ k
 
   module _ (p : Program) where
-    -- There is a frame of a function that was called on arguments, and behind the call and the opening of its code control is where its body begins: the shader is in the state in
+    -- There is a frame of a function that was called on arguments and gives what is of a type, and behind the call and the opening of its code control is where its body begins: the shader is in the state in
     -- which the function's body begins, and a unit is used.
-    pub record HasEntered (IsOne : Frame m input whole → Type 0) (inner : Around) (first id : ℕ) (args : List Argument) (before code : Code) (b : Flow) (s : shader.State) (state : State) (rest : List Placed) : Type 0 where
+    pub record HasEntered (IsOne : Frame m input whole → Type 0) (inner : Around) (result : Ty) (first id : ℕ) (args : List Argument) (before code : Code) (b : Flow) (s : shader.State) (state : State) (rest : List Placed) : Type 0 where
       pub frame : Frame m input whole
       pub front : frame.before ≡ before
       pub same : frame.code ≡ code
+      pub gives : frame.result ≡ result
       pub one : IsOne frame
       pub called : IsCalled m input whole f frame first id state rest
       pub params : (number : ℕ) (a : Argument) → slice_get args number ≡ Some a → frame.seat (Param number) ≡ Some a.seat

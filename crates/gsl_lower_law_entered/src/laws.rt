@@ -3,6 +3,7 @@
 ghost use Rattle.std.specs.Prelude.{◌≡◌, ℕ, List, ◌∷◌, length, slice_get, Option};
 ghost use Rattle.gsl_base.specs.declared.input.Input.{Input};
 ghost use Rattle.gsl_instr.specs.declared.op.TheConstants as op;
+ghost use Rattle.gsl_types.specs.declared.ty.Ty.{Ty};
 ghost use Rattle.gsl_words.specs.declared.module.Module.{Module};
 ghost use Rattle.gsl_values.specs.declared.value.Value.{Value};
 ghost use Rattle.gsl_tree.specs.Around.{Around};
@@ -30,5 +31,5 @@ pub fn results_of_calls_do_not_last()
 
 /// A call of a function whose arguments wait in holders leads to where the body of the function begins, with zeros in its local variables.
 pub fn calls_lead_into_functions()
-    ensures { (m : Module) (input : Input) (whole : Sections) (f : Frame m input whole) (p : Program) (around inner : Around) (place : FlowPlace) (stages : List (Option Value)) (function : ℕ) (begin b later : Flow) (args : List Argument) (type id first : ℕ) (s : shader.State) (state : State) → Valid m → Written m whole → (fn : IsFunction m whole p.structs place inner.locals function begin) → IsFrame m input whole place stages f → AreAlike around inner → Good m input whole f p around b s state → giving_here op.FUNCTION_CALL (function ∷ ids_of args) type b ≡ Gives id later → Inside m input whole f later.sections → AreHeld m input whole f first state args → length args ≡ length begin.place.params → ((number : ℕ) → HasType m input whole f p inner (type_named inner (Param number)) (slice_get (values_of args) number)) → HasEntered m input whole f p (IsFrame m input whole place stages) inner first id args fn.before fn.code begin s state (coming m input whole f later.sections) }
+    ensures { (m : Module) (input : Input) (whole : Sections) (f : Frame m input whole) (p : Program) (around inner : Around) (place : FlowPlace) (stages : List (Option Value)) (result : Ty) (function : ℕ) (begin b later : Flow) (args : List Argument) (type id first : ℕ) (s : shader.State) (state : State) → Valid m → Written m whole → (fn : IsFunction m whole p.structs place inner.locals function begin) → IsFrame m input whole place stages f → AreAlike around inner → Good m input whole f p around b s state → giving_here op.FUNCTION_CALL (function ∷ ids_of args) type b ≡ Gives id later → Inside m input whole f later.sections → AreHeld m input whole f first state args → length args ≡ length begin.place.params → ((number : ℕ) → HasType m input whole f p inner (type_named inner (Param number)) (slice_get (values_of args) number)) → HasEntered m input whole f p (IsFrame m input whole place stages) inner result first id args fn.before fn.code begin s state (coming m input whole f later.sections) }
 {}

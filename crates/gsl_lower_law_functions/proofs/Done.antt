@@ -39,13 +39,14 @@ use Rattle.gsl_lower_law_returns.proofs.Returned.{given_by, put_here, returned_b
 use Rattle.gsl_lower_law_entered.specs.Modules.{AreShared, IsFrame, IsFunction}
 use Rattle.gsl_lower_law_entered.specs.Entering.{Argument, AreHeld, HasEntered, ids_of, values_of}
 use Rattle.gsl_lower_law_entered.proofs.Called.{call_enters}
-use Rattle.gsl_lower_law_functions.specs.Bodies.{AtResult, DoesBody, IsResult}
+use Rattle.gsl_lower_law_functions.specs.Bodies.{AtResult, DoesBody}
+use Rattle.gsl_lower_law_stmt.specs.Doing.{AtReturn, IsResult}
 use Rattle.gsl_lower_law_functions.proofs.Valued.{void_or_parts}
 use Rattle.gsl_lower_law_functions.specs.Functions.{FunctionDoes, HasReturned, IsLowered, running_body}
 
 module _ (m : Module) (input : Input) (whole : Sections) (p : Program) (inner : Around) (place : FlowPlace) (stages : List (Option Value)) (function : ℕ) (begin : Flow) (result : Ty) (body : Emit (Unit {0})) (run : Run statement.Flow)
     (valid : Valid m) (written : Written m whole) (fn : IsFunction m whole p.structs place inner.locals function begin) (lowered : IsLowered whole begin fn.rest body) (many : length inner.params ≡ length begin.place.params) (real : (result ≡ Void) ⊎ (is_value_of p.structs result nothing ≡ false))
-    (bodies : (g : Frame m input whole) → IsFrame m input whole place stages g → g.before ≡ fn.before → g.code ≡ fn.code → DoesBody m input whole g p inner result begin body run) where
+    (bodies : (g : Frame m input whole) → IsFrame m input whole place stages g → g.before ≡ fn.before → g.code ≡ fn.code → g.result ≡ result → DoesBody m input whole g p inner begin body run) where
   -- the whole body stands in each frame of the function
   body_inside : (g : Frame m input whole) → g.before ≡ fn.before → g.code ≡ fn.code → Inside m input whole g lowered.later.sections
   body_inside g front same = record {
@@ -56,11 +57,11 @@ module _ (m : Module) (input : Input) (whole : Sections) (p : Program) (inner : 
     all = same ∙ fn.is ∙ ap (λ l. fn.opening ++ l) lowered.all ∙ sym (append_assoc fn.opening lowered.put lowered.behind);
   }
 
-  body_follows : (g : Frame m input whole) → IsFrame m input whole place stages g → g.before ≡ fn.before → g.code ≡ fn.code → (s : shader.State) (units : ℕ) (state : State) → Good m input whole g p inner begin s state
-      → Follows m input p 0 units state (λ flow t last. AtResult m input whole g p inner result flow t last) (λ t last. ⊥) (run s units)
-  body_follows g of_module front same s units state good =
-      subst (λ (low : Lowered (Unit {0})). Does m input whole g p 0 units state (λ (done : Unit {0}) later flow t last. AtResult m input whole g p inner result flow t last) none_waits (run s units) low) lowered.is
-      ((bodies g of_module front same).does s units state good) (body_inside g front same)
+  body_follows : (g : Frame m input whole) → IsFrame m input whole place stages g → g.before ≡ fn.before → g.code ≡ fn.code → g.result ≡ result → (s : shader.State) (units : ℕ) (state : State) → Good m input whole g p inner begin s state
+      → Follows m input p 0 units state (λ flow t last. AtResult m input whole g p inner flow t last) (λ t last. ⊥) (run s units)
+  body_follows g of_module front same gives s units state good =
+      subst (λ (low : Lowered (Unit {0})). Does m input whole g p 0 units state (λ (done : Unit {0}) later flow t last. AtResult m input whole g p inner flow t last) none_waits (run s units) low) lowered.is
+      ((bodies g of_module front same gives).does s units state good) (body_inside g front same)
 
   module _ (f : Frame m input whole) (around : Around) (b later : Flow) (args : List Argument) (type id first : ℕ) (s : shader.State) (state : State) (of_module : IsFrame m input whole place stages f) (alike : AreAlike around inner) (good : Good m input whole f p around b s state)
       (puts : giving_here op.FUNCTION_CALL (function ∷ ids_of args) type b ≡ Gives id later) (inside : Inside m input whole f later.sections) (held : AreHeld m input whole f first state args) (enough : length args ≡ length inner.params)
@@ -80,8 +81,8 @@ module _ (m : Module) (input : Input) (whole : Sections) (p : Program) (inner : 
             let i = instr op.FUNCTION_CALL (type ∷ (b.sections.last + 1) ∷ function ∷ ids_of args) in
             subst (λ l. Contains l i) (sym there.extends.functions.is) (Contains-append_left (b.sections.functions ++ i ∷ []) there.extends.functions.more i (Contains-append_right b.sections.functions (i ∷ []) i (first_in i [])))
 
-    entered_is : HasEntered m input whole f p (IsFrame m input whole place stages) inner first id args fn.before fn.code begin s state (coming m input whole f later.sections)
-    entered_is = call_enters m input whole f p around inner place stages function begin b later args type id first s state valid written fn of_module alike good puts inside held (enough ∙ many) typed
+    entered_is : HasEntered m input whole f p (IsFrame m input whole place stages) inner result first id args fn.before fn.code begin s state (coming m input whole f later.sections)
+    entered_is = call_enters m input whole f p around inner place stages result function begin b later args type id first s state valid written fn of_module alike good puts inside held (enough ∙ many) typed
 
     abbrev g : Frame m input whole
     g = entered_is.frame
@@ -111,25 +112,27 @@ module _ (m : Module) (input : Input) (whole : Sections) (p : Program) (inner : 
           ap (slice_get last.variables) (sym same) ∙ q.2;
     }
 
-    returns : (flow : statement.Flow) (t : shader.State) (rest : ℕ) (mid : State) → AtResult m input whole g p inner result flow t mid
+    returns : (flow : statement.Flow) (t : shader.State) (rest : ℕ) (mid : State) → AtResult m input whole g p inner flow t mid
         → Follows m input p 0 rest mid (HasReturned m input whole p f around inner.params result first id args state later) (λ t last. ⊥) (left s (result_of p.structs result flow) t rest)
     returns flow t rest mid at =
-        let q = returned_back m input whole f g p around inner b later (function ∷ ids_of args) type id first s t state mid (result_of p.structs result flow) rest alike good puts inside passes entered_is.called at.0 in
-        record { later = q.later; is = back (result_of p.structs result flow) t q.later at.0.state_is.typed at.1 q.is; less = q.less; stretch = q.stretch }
+        let here : AtReturn m input whole g p inner (result_of p.structs result flow) t mid = subst (λ u. AtReturn m input whole g p inner (result_of p.structs u flow) t mid) entered_is.gives at in
+        let typed = subst (λ u. IsResult p.structs u (result_of p.structs result flow)) entered_is.gives here.typed in
+        let q = returned_back m input whole f g p around inner b later (function ∷ ids_of args) type id first s t state mid (result_of p.structs result flow) rest alike good puts inside passes entered_is.called here in
+        record { later = q.later; is = back (result_of p.structs result flow) t q.later here.state_is.typed typed q.is; less = q.less; stretch = q.stretch }
 
     follows : (units : ℕ) → Follows m input p 0 units state (HasReturned m input whole p f around inner.params result first id args state later) (λ t last. ⊥) (spending (running_body p.structs inner.locals result run (values_of args)) s units)
     follows zero = lasts_at_once m input state
     follows (suc units) =
         follows_behind m input p 0 0 (suc units) units state entered_is.begun (HasReturned m input whole p f around inner.params result first id args state later) (λ t last. ⊥) (running_body p.structs inner.locals result run (values_of args) s units) (entered_is.stretch units) (omega arith)
-        (follows_then m input p 0 units entered_is.begun (λ flow t last. AtResult m input whole g p inner result flow t last) (λ t last. ⊥) (HasReturned m input whole p f around inner.params result first id args state later) (λ t last. ⊥)
+        (follows_then m input p 0 units entered_is.begun (λ flow t last. AtResult m input whole g p inner flow t last) (λ t last. ⊥) (HasReturned m input whole p f around inner.params result first id args state later) (λ t last. ⊥)
         (run (entered p.structs inner.locals (values_of args) s) units) (λ flow. left s (result_of p.structs result flow))
-        (body_follows g entered_is.one entered_is.front entered_is.same (entered p.structs inner.locals (values_of args) s) units entered_is.begun entered_is.good)
+        (body_follows g entered_is.one entered_is.front entered_is.same entered_is.gives (entered p.structs inner.locals (values_of args) s) units entered_is.begun entered_is.good)
         (λ flow t rest mid at less. returns flow t rest mid at)
         (λ t rest mid none less. absurd none))
 
 pub function_does : (m : Module) (input : Input) (whole : Sections) (p : Program) (inner : Around) (place : FlowPlace) (stages : List (Option Value)) (function : ℕ) (begin : Flow) (result : Ty) (body : Emit (Unit {0})) (run : Run statement.Flow) → Valid m → Written m whole
     → (fn : IsFunction m whole p.structs place inner.locals function begin) → IsLowered whole begin fn.rest body → length inner.params ≡ length begin.place.params → AreStructs p.structs → IsSound (length p.structs) result
-    → ((g : Frame m input whole) → IsFrame m input whole place stages g → g.before ≡ fn.before → g.code ≡ fn.code → DoesBody m input whole g p inner result begin body run)
+    → ((g : Frame m input whole) → IsFrame m input whole place stages g → g.before ≡ fn.before → g.code ≡ fn.code → g.result ≡ result → DoesBody m input whole g p inner begin body run)
     → FunctionDoes m input whole p place stages inner function inner.params result (λ args. spending (running_body p.structs inner.locals result run args))
 function_does m input whole p inner place stages function begin result body run valid written fn lowered many are sound bodies = record {
   does = λ f around b later args type id first units s state of_module alike good puts inside held enough typed.

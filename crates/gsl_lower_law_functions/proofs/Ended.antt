@@ -1,5 +1,5 @@
 -- Bodies of functions up to the return.
-use Rattle.std.proofs.Common.{◌≡◌, ◌≢◌, refl, sym, ◌∙◌, subst, ℕ, inl, inr, ◌⊎◌, Bool, true, false, [], ◌∷◌}
+use Rattle.std.proofs.Common.{◌≡◌, ◌≢◌, refl, sym, ap, ◌∙◌, subst, ℕ, inl, inr, ◌⊎◌, Bool, true, false, [], ◌∷◌}
 use Rattle.gsl_base.specs.declared.input.Input.{Input}
 use Rattle.gsl_instr.specs.declared.op.TheConstants as op
 use Rattle.gsl_types.specs.Structs.{numbered}
@@ -42,9 +42,9 @@ use Rattle.gsl_lower_follows.proofs.Behind.{reaches_behind}
 use Rattle.gsl_lower_follows.proofs.Fetching.{adds_type_id}
 use Rattle.gsl_lower_follows.proofs.Growing.{adds_given, adds_lift, adds_then, grown_behind}
 use Rattle.gsl_lower_follows.proofs.Placing.{coming_before, inside_between}
-use Rattle.gsl_lower_law_stmt.specs.Doing.{AtReturn, DoesStatement, IsDone, LeadBehind, UnderExits}
+use Rattle.gsl_lower_law_stmt.specs.Doing.{AtReturn, DoesStatement, IsDone, IsResult, LeadBehind, UnderExits}
 use Rattle.gsl_lower_law_stmt.proofs.Exits.{adds_putting, return_nothing_does}
-use Rattle.gsl_lower_law_functions.specs.Bodies.{AtResult, DoesBody, GivesZeros, IsResult, ReturnsOf, bodied, ending, no_exits, zeros_returned}
+use Rattle.gsl_lower_law_functions.specs.Bodies.{AtResult, DoesBody, GivesZeros, bodied, ending, no_exits, zeros_returned}
 
 -- ---- types
 
@@ -95,14 +95,14 @@ module _ (m : Module) (input : Input) (whole : Sections) (f : Frame m input whol
   abbrev Before : Value → Unit {0} → Flow → Unit {0} → shader.State → State → Type 0
   Before v done later r t last = AtReturn m input whole f p around v t last
 
-  returns_nothing : (b : Flow) (s : shader.State) (units : ℕ) (state : State) → Good m input whole f p around b s state → Does m input whole f p 0 units state (Before nothing) none_waits (Got tt s units) (putting_here op.RETURN [] b)
-  returns_nothing b s units state good inside =
-      let q = (return_nothing_does m input whole f p around).does no_exits b s units state good inside (no_lead (put op.RETURN [] b.sections)) in
+  returns_nothing : f.result ≡ Void → (b : Flow) (s : shader.State) (units : ℕ) (state : State) → Good m input whole f p around b s state → Does m input whole f p 0 units state (Before nothing) none_waits (Got tt s units) (putting_here op.RETURN [] b)
+  returns_nothing none b s units state good inside =
+      let q = (return_nothing_does m input whole f p around none).does no_exits b s units state good inside (no_lead (put op.RETURN [] b.sections)) in
       record { later = q.later; is = q.is; less = q.less; stretch = q.stretch }
 
-  returns_zeros : (t : Ty) (v : Value) → t ≢ Void → (b : Flow) (s : shader.State) (units : ℕ) (state : State) → Good m input whole f p around b s state
+  returns_zeros : (t : Ty) (v : Value) → t ≢ Void → t ≡ f.result → (b : Flow) (s : shader.State) (units : ℕ) (state : State) → Good m input whole f p around b s state
       → Does m input whole f p 0 units state (HasGiven m input whole f p around false t b state) none_waits (Got v s units) (zeros t b) → Does m input whole f p 0 units state (Before v) none_waits (Got tt s units) (with_zeros t b)
-  returns_zeros t v real b s units state good = by (zeros t b) (adds_zeros m input whole t b)
+  returns_zeros t v real same b s units state good = by (zeros t b) (adds_zeros m input whole t b)
     where
       by : (low : Lowered ℕ) → GrownTo b low → Does m input whole f p 0 units state (HasGiven m input whole f p around false t b state) none_waits (Got v s units) low → Does m input whole f p 0 units state (Before v) none_waits (Got tt s units) (behind low (λ id. putting_here op.RETURN_VALUE (id ∷ [])))
       by Lacks grown does = tt
@@ -119,6 +119,7 @@ module _ (m : Module) (input : Input) (whole : Sections) (f : Frame m input whol
               rest = coming m input whole f (put op.RETURN_VALUE (id ∷ []) between.sections);
               is = after.rest ∙ at.1;
               gives = inr (id, refl, stands q.later id q.is.given);
+              typed = typed q.later id q.is.given;
               state_is = record { within = after.within; own = after.own; waiting = after.waiting; holds = after.holds; typed = after.typed };
             };
             less = q.less;
@@ -129,31 +130,34 @@ module _ (m : Module) (input : Input) (whole : Sections) (f : Frame m input whol
           stands last id (inl void) = absurd (real void)
           stands last id (inr is) = is.1
 
+          typed : (last : State) (id : ℕ) → (t ≡ Void) ⊎ ((is_value_of p.structs t v ≡ true) × Stands last.ids id v) → IsResult p.structs f.result v
+          typed last id (inl void) = absurd (real void)
+          typed last id (inr is) = inr (subst (λ u. is_value_of p.structs u v ≡ true) same is.0)
+
   -- ---- a body
 
-  module _ (leaves : Bool) (row : Exits → Emit (Unit {0})) (run : Run statement.Flow) (result : Ty) (b : Flow) (does_row : DoesStatement m input whole f p around leaves row run) (typed : ReturnsOf m input whole f p around result run)
-      (zero : IsResult p.structs result (zero_value p.structs result)) (end : Emit (Unit {0})) (adds_end : Adds end)
-      (ends : (later : Flow) → Grown b later → (s : shader.State) (units : ℕ) (state : State) → Good m input whole f p around later s state → Does m input whole f p 0 units state (Before (zero_value p.structs result)) none_waits (Got tt s units) (end later)) where
+  module _ (leaves : Bool) (row : Exits → Emit (Unit {0})) (run : Run statement.Flow) (b : Flow) (does_row : DoesStatement m input whole f p around leaves row run) (end : Emit (Unit {0})) (adds_end : Adds end)
+      (ends : (later : Flow) → Grown b later → (s : shader.State) (units : ℕ) (state : State) → Good m input whole f p around later s state → Does m input whole f p 0 units state (Before (zero_value p.structs f.result)) none_waits (Got tt s units) (end later)) where
     abbrev Is : Unit {0} → Flow → statement.Flow → shader.State → State → Type 0
-    Is done later flow t last = AtResult m input whole f p around result flow t last
+    Is done later flow t last = AtResult m input whole f p around flow t last
 
     -- where the statements leave, nothing stands behind them
     leaving : leaves ≡ true → (s : shader.State) (units : ℕ) (state : State) → Good m input whole f p around b s state → Does m input whole f p 0 units state Is none_waits (run s units) ((row no_exits >>= (λ done. given {A = Unit {0}} tt)) b)
     leaving left s units state good = by (row no_exits b) (does_row.does no_exits b s units state good)
       where
-        so : (later : Flow) (ran : Ran statement.Flow) → run s units ≡ ran → Follows m input p 0 units state (IsDone m input whole f p around leaves no_exits tt later) (none_waits {A = Unit {0}} tt later) ran → Follows m input p 0 units state (Is tt later) (none_waits {A = Unit {0}} tt later) ran
-        so later (Got Normal t rest) e q = absurd (let z : true ≡ false = sym left ∙ q.is.0 in cc)
-        so later (Got Broke t rest) e q = absurd q.is
-        so later (Got Continued t rest) e q = absurd q.is
-        so later (Got (Returned v) t rest) e q = record { later = q.later; is = (q.is, typed s t units rest v good.typed e); less = q.less; stretch = q.stretch }
-        so later (Ends t) e q = q
-        so later Strays e q = q
-        so later Goes e q = q
+        so : (later : Flow) (ran : Ran statement.Flow) → Follows m input p 0 units state (IsDone m input whole f p around leaves no_exits tt later) (none_waits {A = Unit {0}} tt later) ran → Follows m input p 0 units state (Is tt later) (none_waits {A = Unit {0}} tt later) ran
+        so later (Got Normal t rest) q = absurd (let z : true ≡ false = sym left ∙ q.is.0 in cc)
+        so later (Got Broke t rest) q = absurd q.is
+        so later (Got Continued t rest) q = absurd q.is
+        so later (Got (Returned v) t rest) q = q
+        so later (Ends t) q = q
+        so later Strays q = q
+        so later Goes q = q
 
         by : (low : Lowered (Unit {0})) → UnderExits m input whole f p around units state no_exits (IsDone m input whole f p around leaves no_exits) (run s units) low
             → Does m input whole f p 0 units state Is none_waits (run s units) (behind low (λ done. given {A = Unit {0}} tt))
         by Lacks does = tt
-        by (Gives done later) does = λ inside. so later (run s units) refl (does inside (no_lead later.sections))
+        by (Gives done later) does = λ inside. so later (run s units) (does inside (no_lead later.sections))
 
     -- where their end may be reached, what is put there returns
     going_on : (s : shader.State) (units : ℕ) (state : State) → Good m input whole f p around b s state → Does m input whole f p 0 units state Is none_waits (run s units) ((row no_exits >>= (λ done. end)) b)
@@ -164,50 +168,54 @@ module _ (m : Module) (input : Input) (whole : Sections) (f : Frame m input whol
         by Lacks grown does = tt
         by (Gives done between) grown does = later_by (end between) (adds_end between) (λ t rest mid good. ends between grown t rest mid good)
           where
-            later_by : (low : Lowered (Unit {0})) → GrownTo between low → ((t : shader.State) (rest : ℕ) (mid : State) → Good m input whole f p around between t mid → Does m input whole f p 0 rest mid (Before (zero_value p.structs result)) none_waits (Got tt t rest) low)
+            later_by : (low : Lowered (Unit {0})) → GrownTo between low → ((t : shader.State) (rest : ℕ) (mid : State) → Good m input whole f p around between t mid → Does m input whole f p 0 rest mid (Before (zero_value p.structs f.result)) none_waits (Got tt t rest) low)
                 → Does m input whole f p 0 units state Is none_waits (run s units) low
             later_by Lacks more go = tt
             later_by (Gives gone later) more go = λ inside.
                 let there = inside_between m input whole f b.sections between.sections later.sections good.inside inside grown.extends more.extends in
-                so (run s units) refl (λ t rest mid now. go t rest mid now inside) (does there (no_lead between.sections))
+                so (run s units) (λ t rest mid now. go t rest mid now inside) (does there (no_lead between.sections))
               where
-                so : (ran : Ran statement.Flow) → run s units ≡ ran
-                    → ((t : shader.State) (rest : ℕ) (mid : State) → Good m input whole f p around between t mid → Reaches m input 0 rest mid (λ last. AtReturn m input whole f p around (zero_value p.structs result) t last) rest)
+                so : (ran : Ran statement.Flow)
+                    → ((t : shader.State) (rest : ℕ) (mid : State) → Good m input whole f p around between t mid → Reaches m input 0 rest mid (λ last. AtReturn m input whole f p around (zero_value p.structs f.result) t last) rest)
                     → Follows m input p 0 units state (IsDone m input whole f p around leaves no_exits tt between) (none_waits {A = Unit {0}} tt between) ran → Follows m input p 0 units state (Is tt later) (none_waits {A = Unit {0}} tt later) ran
-                so (Got Normal t rest) e go q =
+                so (Got Normal t rest) go q =
                     reaches_behind m input 0 0 units rest rest state q.later (Is tt later Normal t) q.stretch q.less
-                    (let r = go t rest q.later q.is.1 in record { later = r.later; is = (r.is, zero); less = r.less; stretch = r.stretch })
-                so (Got Broke t rest) e go q = absurd q.is
-                so (Got Continued t rest) e go q = absurd q.is
-                so (Got (Returned v) t rest) e go q = record { later = q.later; is = (q.is, typed s t units rest v good.typed e); less = q.less; stretch = q.stretch }
-                so (Ends t) e go q = q
-                so Strays e go q = q
-                so Goes e go q = q
+                    (let r = go t rest q.later q.is.1 in record { later = r.later; is = r.is; less = r.less; stretch = r.stretch })
+                so (Got Broke t rest) go q = absurd q.is
+                so (Got Continued t rest) go q = absurd q.is
+                so (Got (Returned v) t rest) go q = q
+                so (Ends t) go q = q
+                so Strays go q = q
+                so Goes go q = q
 
   -- a body with what its end is
-  ended : (leaves : Bool) (row : Exits → Emit (Unit {0})) (run : Run statement.Flow) (result : Ty) (b : Flow) → DoesStatement m input whole f p around leaves row run → ReturnsOf m input whole f p around result run → IsResult p.structs result (zero_value p.structs result)
-      → Adds (zeros_returned result (out-Ty result)) → ((later : Flow) → Grown b later → (s : shader.State) (units : ℕ) (state : State) → Good m input whole f p around later s state → Does m input whole f p 0 units state (Before (zero_value p.structs result)) none_waits (Got tt s units) (zeros_returned result (out-Ty result) later))
-      → DoesBody m input whole f p around result b (bodied row leaves result) run
+  ended : (leaves : Bool) (row : Exits → Emit (Unit {0})) (run : Run statement.Flow) (b : Flow) → DoesStatement m input whole f p around leaves row run
+      → Adds (zeros_returned f.result (out-Ty f.result)) → ((later : Flow) → Grown b later → (s : shader.State) (units : ℕ) (state : State) → Good m input whole f p around later s state → Does m input whole f p 0 units state (Before (zero_value p.structs f.result)) none_waits (Got tt s units) (zeros_returned f.result (out-Ty f.result) later))
+      → DoesBody m input whole f p around b (bodied row leaves f.result) run
   unfolding ending
-  ended true row run result b does_row typed zero adds ends = record {
+  ended true row run b does_row adds ends = record {
     adds = grown_behind b (row no_exits b) (λ done. given {A = Unit {0}} tt) (does_row.adds no_exits b) (λ done. adds_given {A = Unit {0}} tt);
-    does = leaving true row run result b does_row typed zero (zeros_returned result (out-Ty result)) adds ends refl;
+    does = leaving true row run b does_row (zeros_returned f.result (out-Ty f.result)) adds ends refl;
   }
-  ended false row run result b does_row typed zero adds ends = record {
-    adds = grown_behind b (row no_exits b) (λ done. zeros_returned result (out-Ty result)) (does_row.adds no_exits b) (λ done. adds);
-    does = going_on false row run result b does_row typed zero (zeros_returned result (out-Ty result)) adds ends;
+  ended false row run b does_row adds ends = record {
+    adds = grown_behind b (row no_exits b) (λ done. zeros_returned f.result (out-Ty f.result)) (does_row.adds no_exits b) (λ done. adds);
+    does = going_on false row run b does_row (zeros_returned f.result (out-Ty f.result)) adds ends;
   }
 
-pub body_does : (m : Module) (input : Input) (whole : Sections) (f : Frame m input whole) (p : Program) (around : Around) (leaves : Bool) (row : Exits → Emit (Unit {0})) (run : Run statement.Flow) (result : Ty) (b : Flow) → DoesStatement m input whole f p around leaves row run → ReturnsOf m input whole f p around result run → result ≢ Void
-    → (is_value_of p.structs result (zero_value p.structs result) ≡ true) → GivesZeros m input whole f p around result b → DoesBody m input whole f p around result b (bodied row leaves result) run
-body_does m input whole f p around leaves row run result b does_row typed real zero gives =
-    ended m input whole f p around leaves row run result b does_row typed (inr zero) (subst Adds (sym (returned_is result real)) (adds_then (zeros result) (λ id. putting_here op.RETURN_VALUE (id ∷ [])) (adds_zeros m input whole result) (λ id. adds_putting op.RETURN_VALUE (id ∷ []))))
-    (λ later grown s units state good. subst (λ (e : Emit (Unit {0})). Does m input whole f p 0 units state (Before m input whole f p around (zero_value p.structs result)) none_waits (Got tt s units) (e later)) (sym (returned_is result real))
-    (returns_zeros m input whole f p around result (zero_value p.structs result) real later s units state good (gives later grown s units state good)))
+pub body_does : (m : Module) (input : Input) (whole : Sections) (f : Frame m input whole) (p : Program) (around : Around) (leaves : Bool) (row : Exits → Emit (Unit {0})) (run : Run statement.Flow) (b : Flow) → DoesStatement m input whole f p around leaves row run → f.result ≢ Void
+    → GivesZeros m input whole f p around f.result b → DoesBody m input whole f p around b (bodied row leaves f.result) run
+body_does m input whole f p around leaves row run b does_row real gives =
+    ended m input whole f p around leaves row run b does_row (subst Adds (sym (returned_is f.result real)) (adds_then (zeros f.result) (λ id. putting_here op.RETURN_VALUE (id ∷ [])) (adds_zeros m input whole f.result) (λ id. adds_putting op.RETURN_VALUE (id ∷ []))))
+    (λ later grown s units state good. subst (λ (e : Emit (Unit {0})). Does m input whole f p 0 units state (Before m input whole f p around (zero_value p.structs f.result)) none_waits (Got tt s units) (e later)) (sym (returned_is f.result real))
+    (returns_zeros m input whole f p around f.result (zero_value p.structs f.result) real refl later s units state good (gives later grown s units state good)))
 
-pub void_body_does : (m : Module) (input : Input) (whole : Sections) (f : Frame m input whole) (p : Program) (around : Around) (leaves : Bool) (row : Exits → Emit (Unit {0})) (run : Run statement.Flow) (b : Flow) → DoesStatement m input whole f p around leaves row run → DoesBody m input whole f p around Void b (bodied row leaves Void) run
-void_body_does m input whole f p around leaves row run b does_row =
-    ended m input whole f p around leaves row run Void b does_row (λ s t units left v typed e. inl refl) (inl refl) (subst (λ (l : Ty-F Ty). Adds (zeros_returned Void l)) (sym outs-Void) (adds_putting op.RETURN []))
-    (λ later grown s units state good. subst (λ (l : Ty-F Ty). Does m input whole f p 0 units state (Before m input whole f p around (zero_value p.structs Void)) none_waits (Got tt s units) (zeros_returned Void l later)) (sym outs-Void)
-    (subst (λ (v : Value). Does m input whole f p 0 units state (Before m input whole f p around v) none_waits (Got tt s units) (putting_here op.RETURN [] later)) (sym (over_void zero_meaning (numbered zero_meaning p.structs)))
-    (returns_nothing m input whole f p around later s units state good)))
+pub void_body_does : (m : Module) (input : Input) (whole : Sections) (f : Frame m input whole) (p : Program) (around : Around) (leaves : Bool) (row : Exits → Emit (Unit {0})) (run : Run statement.Flow) (b : Flow) → DoesStatement m input whole f p around leaves row run → f.result ≡ Void
+    → DoesBody m input whole f p around b (bodied row leaves f.result) run
+void_body_does m input whole f p around leaves row run b does_row none =
+    ended m input whole f p around leaves row run b does_row (subst (λ (l : Ty-F Ty). Adds (zeros_returned f.result l)) (sym bare) (adds_putting op.RETURN []))
+    (λ later grown s units state good. subst (λ (l : Ty-F Ty). Does m input whole f p 0 units state (Before m input whole f p around (zero_value p.structs f.result)) none_waits (Got tt s units) (zeros_returned f.result l later)) (sym bare)
+    (subst (λ (v : Value). Does m input whole f p 0 units state (Before m input whole f p around v) none_waits (Got tt s units) (putting_here op.RETURN [] later)) (sym (ap (zero_value p.structs) none ∙ over_void zero_meaning (numbered zero_meaning p.structs)))
+    (returns_nothing m input whole f p around none later s units state good)))
+  where
+    bare : out-Ty f.result ≡ Ty-F.Void
+    bare = ap out-Ty none ∙ outs-Void

@@ -1,28 +1,24 @@
 -- What it is for the body of a function, as it is lowered, to do what the body does up to the return (GLSL 4.50, 6.1 and 6.4).
-use Rattle.std.specs.Prelude.{◌≡◌, ℕ, ◌⊎◌, Bool, true, false, List, [], ◌∷◌, None}
+use Rattle.std.specs.Prelude.{ℕ, Bool, true, false, [], ◌∷◌, None}
 use Rattle.gsl_base.specs.declared.input.Input.{Input}
 use Rattle.gsl_instr.specs.declared.op.TheConstants as op
-use Rattle.gsl_types.specs.declared.ty.StructType.{StructType}
 use Rattle.gsl_types.specs.declared.ty.Ty.{Ty}
 use Rattle.gsl_types.specs.declared.ty.Ty.TheOpen.{Ty-F}
-use Rattle.gsl_types.specs.declared.ty.Ty.TheVariants.{Void}
 use Rattle.gsl_types.specs.declared.ty.Ty.TheViews.{out-Ty}
 use Rattle.gsl_words.specs.declared.module.Module.{Module}
-use Rattle.gsl_values.specs.declared.value.Value.{Value}
 use Rattle.gsl_tree.specs.Around.{Around}
-use Rattle.gsl_tree.specs.Values.{is_value_of, zero_value}
+use Rattle.gsl_tree.specs.Values.{zero_value}
 use Rattle.gsl_tree.specs.declared.program.Program.{Program}
 use Rattle.gsl_meaning.specs.Running.{Got, Run}
 use Rattle.gsl_meaning.specs.Shader.{result_of}
 use Rattle.gsl_meaning.specs.State as shader
 use Rattle.gsl_meaning.specs.Statements as statement
-use Rattle.gsl_meaning.specs.Statements.{Returned}
 use Rattle.gsl_machine.specs.State.{State}
 use Rattle.gsl_spv.specs.Sections.{Sections}
 use Rattle.gsl_lower_holders.specs.Flow.{Emit, Flow, given, putting_here, ◌>>=◌}
 use Rattle.gsl_lower_expr.specs.Calls.{zeros}
 use Rattle.gsl_lower_stmt.specs.declared.exits.Exits.{Exits}
-use Rattle.gsl_lower_follows.specs.Frames.{AreTyped, Frame, Good}
+use Rattle.gsl_lower_follows.specs.Frames.{Frame, Good}
 use Rattle.gsl_lower_follows.specs.Giving.{Does, Grown, GrownTo, HasGiven, none_waits}
 use Rattle.gsl_lower_law_stmt.specs.Doing.{AtReturn}
 
@@ -47,23 +43,15 @@ bodied row leaves result = row no_exits >>= (λ done. ending leaves result)
 
 -- ---- what it does
 
--- A value is one of what a function gives, or the function gives none.
-abbrev pub IsResult : List StructType → Ty → Value → Type 0
-IsResult structs result v = (result ≡ Void) ⊎ (is_value_of structs result v ≡ true)
-
 module _ (m : Module) (input : Input) (whole : Sections) (f : Frame m input whole) (p : Program) (around : Around) where
   -- Control is before the return of what a function gives whose body was left so.
-  abbrev pub AtResult : Ty → statement.Flow → shader.State → State → Type 0
-  AtResult result flow s state = AtReturn m input whole f p around (result_of p.structs result flow) s state × IsResult p.structs result (result_of p.structs result flow)
+  abbrev pub AtResult : statement.Flow → shader.State → State → Type 0
+  AtResult flow s state = AtReturn m input whole f p around (result_of p.structs f.result flow) s state
 
   -- What is lowered behind what a builder holds does what a body does up to the return.
-  pub record DoesBody (result : Ty) (b : Flow) (emit : Emit (Unit {0})) (run : Run statement.Flow) : Type 0 where
+  pub record DoesBody (b : Flow) (emit : Emit (Unit {0})) (run : Run statement.Flow) : Type 0 where
     pub adds : GrownTo b (emit b)
-    pub does : (s : shader.State) (units : ℕ) (state : State) → Good m input whole f p around b s state → Does m input whole f p 0 units state (λ (done : Unit {0}) later flow t last. AtResult result flow t last) none_waits (run s units) (emit b)
-
-  -- What statements return is of what the function gives.
-  abbrev pub ReturnsOf : Ty → Run statement.Flow → Type 0
-  ReturnsOf result run = (s t : shader.State) (units left : ℕ) (v : Value) → AreTyped m input whole f p around s → run s units ≡ Got (Returned v) t left → IsResult p.structs result v
+    pub does : (s : shader.State) (units : ℕ) (state : State) → Good m input whole f p around b s state → Does m input whole f p 0 units state (λ (done : Unit {0}) later flow t last. AtResult flow t last) none_waits (run s units) (emit b)
 
   -- Behind what a builder holds and more zeros of a type are given.
   abbrev pub GivesZeros : Ty → Flow → Type 0

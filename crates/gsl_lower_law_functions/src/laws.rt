@@ -25,20 +25,20 @@ ghost use Rattle.gsl_lower_text.specs.Written.{Written};
 ghost use Rattle.gsl_lower_follows.specs.Frames.{Frame};
 ghost use Rattle.gsl_lower_law_stmt.specs.Doing.{DoesStatement};
 ghost use Rattle.gsl_lower_law_entered.specs.Modules.{IsFrame, IsFunction};
-ghost use Rattle.gsl_lower_law_functions.specs.Bodies.{DoesBody, GivesZeros, ReturnsOf, bodied};
+ghost use Rattle.gsl_lower_law_functions.specs.Bodies.{DoesBody, GivesZeros, bodied};
 ghost use Rattle.gsl_lower_law_functions.specs.Functions.{FunctionDoes, IsLowered, running_body};
 
 /// A body whose statements do what they mean comes to the return of what they return, and, where its end is reached, of zeros, or of nothing where the
 /// function gives nothing.
 pub fn bodies_end()
-    ensures with_value { (m : Module) (input : Input) (whole : Sections) (f : Frame m input whole) (p : Program) (around : Around) (leaves : Bool) (row : Exits → Emit (Unit {0})) (run : Run statement.Flow) (result : Ty) (b : Flow) → DoesStatement m input whole f p around leaves row run → ReturnsOf m input whole f p around result run → result ≢ Void → (is_value_of p.structs result (zero_value p.structs result) ≡ true) → GivesZeros m input whole f p around result b → DoesBody m input whole f p around result b (bodied row leaves result) run }
-    ensures without { (m : Module) (input : Input) (whole : Sections) (f : Frame m input whole) (p : Program) (around : Around) (leaves : Bool) (row : Exits → Emit (Unit {0})) (run : Run statement.Flow) (b : Flow) → DoesStatement m input whole f p around leaves row run → DoesBody m input whole f p around Void b (bodied row leaves Void) run }
+    ensures with_value { (m : Module) (input : Input) (whole : Sections) (f : Frame m input whole) (p : Program) (around : Around) (leaves : Bool) (row : Exits → Emit (Unit {0})) (run : Run statement.Flow) (b : Flow) → DoesStatement m input whole f p around leaves row run → f.result ≢ Void → GivesZeros m input whole f p around f.result b → DoesBody m input whole f p around b (bodied row leaves f.result) run }
+    ensures without { (m : Module) (input : Input) (whole : Sections) (f : Frame m input whole) (p : Program) (around : Around) (leaves : Bool) (row : Exits → Emit (Unit {0})) (run : Run statement.Flow) (b : Flow) → DoesStatement m input whole f p around leaves row run → f.result ≡ Void → DoesBody m input whole f p around b (bodied row leaves f.result) run }
 {}
 
 /// Where the body of a function does what it means in each frame of it, a call of the function does, wherever it is called: a unit is used, and the caller goes on with
 /// its own parameters and local variables.
 pub fn functions_do()
-    ensures { (m : Module) (input : Input) (whole : Sections) (p : Program) (inner : Around) (place : FlowPlace) (stages : List (Option Value)) (function : ℕ) (begin : Flow) (result : Ty) (body : Emit (Unit {0})) (run : Run statement.Flow) → Valid m → Written m whole → (fn : IsFunction m whole p.structs place inner.locals function begin) → IsLowered whole begin fn.rest body → length inner.params ≡ length begin.place.params → AreStructs p.structs → IsSound (length p.structs) result → ((g : Frame m input whole) → IsFrame m input whole place stages g → g.before ≡ fn.before → g.code ≡ fn.code → DoesBody m input whole g p inner result begin body run) → FunctionDoes m input whole p place stages inner function inner.params result (λ args. spending (running_body p.structs inner.locals result run args)) }
+    ensures { (m : Module) (input : Input) (whole : Sections) (p : Program) (inner : Around) (place : FlowPlace) (stages : List (Option Value)) (function : ℕ) (begin : Flow) (result : Ty) (body : Emit (Unit {0})) (run : Run statement.Flow) → Valid m → Written m whole → (fn : IsFunction m whole p.structs place inner.locals function begin) → IsLowered whole begin fn.rest body → length inner.params ≡ length begin.place.params → AreStructs p.structs → IsSound (length p.structs) result → ((g : Frame m input whole) → IsFrame m input whole place stages g → g.before ≡ fn.before → g.code ≡ fn.code → g.result ≡ result → DoesBody m input whole g p inner begin body run) → FunctionDoes m input whole p place stages inner function inner.params result (λ args. spending (running_body p.structs inner.locals result run args)) }
 {}
 
 /// So calls of the program's functions at a depth do what they mean, where bodies do whose calls are one less deep.

@@ -1,5 +1,5 @@
 -- Expressions whose values are not used, and the ways out of a statement.
-use Rattle.std.proofs.Common.{◌≡◌, ◌≢◌, refl, ap, ◌∙◌, ℕ, suc, ◌⊎◌, inl, inr, Bool, true, false, List, [], ◌∷◌, ◌++◌, length, Option, Some, None, arith}
+use Rattle.std.proofs.Common.{◌≡◌, ◌≢◌, refl, ap, ◌∙◌, subst, ℕ, suc, ◌⊎◌, inl, inr, Bool, true, false, List, [], ◌∷◌, ◌++◌, length, Option, Some, None, arith}
 use Rattle.gsl_base.specs.declared.input.Input.{Input}
 use Rattle.gsl_instr.specs.Forms.{form_of}
 use Rattle.gsl_instr.specs.declared.op.TheConstants as op
@@ -35,7 +35,7 @@ use Rattle.gsl_lower_follows.proofs.Behind.{follows_then, reaches_here}
 use Rattle.gsl_lower_follows.proofs.Growing.{adds_given, adds_then}
 use Rattle.gsl_lower_follows.proofs.Placing.{coming_before, inside_between}
 use Rattle.gsl_lower_follows.proofs.Stretches.{stretch_of}
-use Rattle.gsl_lower_law_stmt.specs.Doing.{AtLabel, AtReturn, DoesHere, DoesStatement, IsDone, StandsBehind, Within}
+use Rattle.gsl_lower_law_stmt.specs.Doing.{AtLabel, AtReturn, DoesHere, DoesStatement, IsDone, IsResult, StandsBehind, Within}
 
 -- an instruction is put
 pub adds_putting : (code : ℕ) (operands : List ℕ) → Adds (putting_here code operands)
@@ -65,9 +65,9 @@ module _ (m : Module) (input : Input) (sections : Sections) (f : Frame m input s
 
     -- ---- `return` with a value
 
-    return_here : ty ≢ Void → (exits : Exits) (b : Flow) (s : shader.State) (units : ℕ) (state : State) → Good m input sections f p around b s state
+    return_here : ty ≢ Void → ty ≡ f.result → (exits : Exits) (b : Flow) (s : shader.State) (units : ℕ) (state : State) → Good m input sections f p around b s state
         → DoesHere m input sections f p around units state true exits (shader_run.◌>>=◌ x (λ v. shader_given (Returned v)) s units) ((emit >>= (λ id. putting_here op.RETURN_VALUE (id ∷ []))) b)
-    return_here real exits b s units state good = by (emit b) (gives.adds b) (gives.does b s units state good)
+    return_here real same exits b s units state good = by (emit b) (gives.adds b) (gives.does b s units state good)
       where
         by : (low : Lowered ℕ) → GrownTo b low → Does m input sections f p 0 units state (HasGiven m input sections f p around splits ty b state) none_waits (x s units) low
             → DoesHere m input sections f p around units state true exits (shader_run.◌>>=◌ x (λ v. shader_given (Returned v)) s units) (behind low (λ id. putting_here op.RETURN_VALUE (id ∷ [])))
@@ -91,6 +91,7 @@ module _ (m : Module) (input : Input) (sections : Sections) (f : Frame m input s
                   rest = coming m input sections f (put op.RETURN_VALUE (id ∷ []) between.sections);
                   is = g.after.good.rest ∙ at.1;
                   gives = inr (id, refl, stands g.given);
+                  typed = typed g.given;
                   state_is = within_good between t mid g.after.good;
                 }
               where
@@ -98,17 +99,21 @@ module _ (m : Module) (input : Input) (sections : Sections) (f : Frame m input s
                 stands (inl void) = absurd (real void)
                 stands (inr is) = is.1
 
-    pub return_does : ty ≢ Void → DoesStatement m input sections f p around true (λ exits. returned (Some emit)) (shader_run.◌>>=◌ x (λ v. shader_given (Returned v)))
-    return_does real = record { adds = λ exits. adds_then emit (λ id. putting_here op.RETURN_VALUE (id ∷ [])) gives.adds (λ id. adds_putting op.RETURN_VALUE (id ∷ [])); does = return_here real }
+                typed : (ty ≡ Void) ⊎ ((is_value_of p.structs ty v ≡ true) × Stands mid.ids id v) → IsResult p.structs f.result v
+                typed (inl void) = absurd (real void)
+                typed (inr is) = inr (subst (λ t. is_value_of p.structs t v ≡ true) same is.0)
+
+    pub return_does : ty ≢ Void → ty ≡ f.result → DoesStatement m input sections f p around true (λ exits. returned (Some emit)) (shader_run.◌>>=◌ x (λ v. shader_given (Returned v)))
+    return_does real same = record { adds = λ exits. adds_then emit (λ id. putting_here op.RETURN_VALUE (id ∷ [])) gives.adds (λ id. adds_putting op.RETURN_VALUE (id ∷ [])); does = return_here real same }
 
   -- `return` without one
-  pub return_nothing_does : DoesStatement m input sections f p around true (λ exits. returned None) (shader_given (Returned nothing))
-  return_nothing_does = record {
+  pub return_nothing_does : f.result ≡ Void → DoesStatement m input sections f p around true (λ exits. returned None) (shader_given (Returned nothing))
+  return_nothing_does none = record {
     adds = λ exits. adds_putting op.RETURN [];
     does = λ exits b s units state good inside lead.
         let at = coming_before m input sections f b.sections (put op.RETURN [] b.sections) (instr op.RETURN [] ∷ []) good.inside inside refl in
         reaches_here m input units state (IsDone m input sections f p around true exits tt (flow_of (put op.RETURN [] b.sections) b.place) (Returned nothing) s)
-        (record { place = at.0; i = instr op.RETURN []; rest = coming m input sections f (put op.RETURN [] b.sections); is = good.rest ∙ at.1; gives = inl (refl, refl); state_is = within_good b s state good });
+        (record { place = at.0; i = instr op.RETURN []; rest = coming m input sections f (put op.RETURN [] b.sections); is = good.rest ∙ at.1; gives = inl (refl, refl); typed = inl none; state_is = within_good b s state good });
   }
 
   -- ---- `break` and `continue`

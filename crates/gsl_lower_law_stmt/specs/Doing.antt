@@ -1,12 +1,15 @@
 -- What it is for what a statement is lowered to, to do what the statement does (GLSL 4.50, chapter 6).
-use Rattle.std.specs.Prelude.{◌≡◌, ◌==◌, if◌then◌else◌, ℕ, suc, ◌≤◌, Bool, false, List, [], ◌∷◌, length, Option, Some, None, ◌⊎◌}
+use Rattle.std.specs.Prelude.{◌≡◌, ◌==◌, if◌then◌else◌, ℕ, suc, ◌≤◌, Bool, true, false, List, [], ◌∷◌, length, Option, Some, None, ◌⊎◌}
 use Rattle.gsl_base.specs.declared.input.Input.{Input}
 use Rattle.gsl_instr.specs.declared.op.TheConstants as op
 use Rattle.gsl_words.specs.declared.module.Instr.{Instr}
+use Rattle.gsl_types.specs.declared.ty.StructType.{StructType}
+use Rattle.gsl_types.specs.declared.ty.Ty.{Ty}
+use Rattle.gsl_types.specs.declared.ty.Ty.TheVariants.{Void}
 use Rattle.gsl_words.specs.declared.module.Module.{Module}
 use Rattle.gsl_values.specs.declared.value.Value.{Value}
 use Rattle.gsl_tree.specs.Around.{Around}
-use Rattle.gsl_tree.specs.Values.{word_in}
+use Rattle.gsl_tree.specs.Values.{is_value_of, word_in}
 use Rattle.gsl_tree.specs.declared.program.Program.{Program}
 use Rattle.gsl_meaning.specs.Accesses as access
 use Rattle.gsl_meaning.specs.Accesses.{nothing}
@@ -50,6 +53,10 @@ declared_means number value = shader_run.◌>>=◌ value (λ v. shader_run.◌>>
 abbrev pub forked_means : Run Value → Run statement.Flow → Run statement.Flow → Run statement.Flow
 forked_means value first other = shader_run.◌>>=◌ value (λ v. if word_in v == 0 then other else first)
 
+-- A value is one of what a function gives, or the function gives none.
+abbrev pub IsResult : List StructType → Ty → Value → Type 0
+IsResult structs result v = (result ≡ Void) ⊎ (is_value_of structs result v ≡ true)
+
 module _ (m : Module) (input : Input) (sections : Sections) (f : Frame m input sections) where
   -- A label stands in the function, behind what a builder holds.
   pub record StandsBehind (b : Sections) (label : ℕ) : Type 0 where
@@ -87,13 +94,14 @@ module _ (m : Module) (input : Input) (sections : Sections) (f : Frame m input s
     abbrev pub Returning : Instr → Value → State → Type 0
     Returning i v state = ((i ≡ instr op.RETURN []) × (v ≡ nothing)) ⊎ ((id : ℕ) × (i ≡ instr op.RETURN_VALUE (id ∷ [])) × Stands state.ids id v)
 
-    -- Control is before the return of a value.
+    -- Control is before the return of a value that is of what the function gives.
     pub record AtReturn (v : Value) (s : shader.State) (state : State) : Type 0 where
       pub place : ℕ
       pub i : Instr
       pub rest : List Placed
       pub is : state.rest ≡ record { at = place; instr = i } ∷ rest
       pub gives : Returning i v state
+      pub typed : IsResult p.structs f.result v
       pub state_is : Within s state
 
     abbrev pub AtExit : Option ℕ → shader.State → State → Type 0

@@ -1,6 +1,6 @@
 //! Laws of the definitions: calls that do nothing, whose contracts are the laws.
 
-ghost use Rattle.std.specs.Prelude.{◌≢◌, ℕ, Bool, List, Option, Some, None, false, true, map};
+ghost use Rattle.std.specs.Prelude.{◌≡◌, ◌≢◌, ℕ, Bool, List, Option, Some, None, false, true, map};
 ghost use Rattle.gsl_base.specs.declared.input.Input.{Input};
 ghost use Rattle.gsl_types.specs.declared.ty.Ty.{Ty};
 ghost use Rattle.gsl_types.specs.declared.ty.Ty.TheVariants.{Void};
@@ -48,10 +48,10 @@ pub fn choices_are_made()
     ensures { (m : Module) (input : Input) (sections : Sections) (f : Frame m input sections) (p : Program) (around : Around) (first other : LowerStmt) (x y : Run statement.Flow) → DoesStatement m input sections f p around first.leaves first.run x → DoesStatement m input sections f p around other.leaves other.run y → (splits : Bool) (ty : Ty) (test : Emit ℕ) (z : Run Value) → ty ≢ Void → GivesValue m input sections f p around splits ty test z → DoesStatement m input sections f p around false (forked test first other) (forked_means z x y) }
 {}
 
-/// `return`, with a value and without.
+/// `return`, with a value of the type that the function gives, and without where it gives nothing.
 pub fn functions_are_left()
-    ensures with_value { (m : Module) (input : Input) (sections : Sections) (f : Frame m input sections) (p : Program) (around : Around) (splits : Bool) (ty : Ty) (emit : Emit ℕ) (x : Run Value) → GivesValue m input sections f p around splits ty emit x → ty ≢ Void → DoesStatement m input sections f p around true (λ exits. returned (Some emit)) (returned_means x) }
-    ensures without { (m : Module) (input : Input) (sections : Sections) (f : Frame m input sections) (p : Program) (around : Around) → DoesStatement m input sections f p around true (λ exits. returned None) (shader_given (Returned access.nothing)) }
+    ensures with_value { (m : Module) (input : Input) (sections : Sections) (f : Frame m input sections) (p : Program) (around : Around) (splits : Bool) (ty : Ty) (emit : Emit ℕ) (x : Run Value) → GivesValue m input sections f p around splits ty emit x → ty ≢ Void → ty ≡ f.result → DoesStatement m input sections f p around true (λ exits. returned (Some emit)) (returned_means x) }
+    ensures without { (m : Module) (input : Input) (sections : Sections) (f : Frame m input sections) (p : Program) (around : Around) → f.result ≡ Void → DoesStatement m input sections f p around true (λ exits. returned None) (shader_given (Returned access.nothing)) }
 {}
 
 /// `break` and `continue`.

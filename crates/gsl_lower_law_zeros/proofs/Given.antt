@@ -37,6 +37,7 @@ use Rattle.gsl_lower_law.specs.Values.{Stands}
 use Rattle.gsl_lower_law.proofs.Adding.{extends_intern}
 use Rattle.gsl_lower_law.proofs.Joining.{does_then as step_then, given_does}
 use Rattle.gsl_lower_law.proofs.Plain.{intern_does}
+use Rattle.gsl_lower_holders.specs.declared.place.FlowPlace.{FlowPlace}
 use Rattle.gsl_lower_holders.specs.Flow.{Flow, find_type, flow_of, id_at, lift, type_by, type_id}
 use Rattle.gsl_lower_expr.specs.Calls.{zeros}
 use Rattle.gsl_lower_follows.specs.Frames.{Frame, Good, Local, coming}

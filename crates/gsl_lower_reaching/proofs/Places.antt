@@ -98,7 +98,7 @@ module _ (m : Module) (input : Input) (sections : Sections) (f : Frame m input s
               → Does m input sections f p 0 units state (HasReached m input sections f p around false false writes t b state) (HasStrayed m input sections f p around false false writes t b state) (Got (access.whole root) s units) (behind (id_at o b) (λ id. given (whole (Variable id class))))
           by b s units state good None e = tt
           by b s units state good (Some id) e = λ inside.
-              let seated = seat_known m input whole f b.place good.seated name id (same b.place ∙ e) in
+              let seated = seat_known m input sections f b.place good.seated name id (same b.place ∙ e) in
               reaches_here m input units state (HasReached m input sections f p around false false writes t b state (whole (Variable id class)) b (access.whole root) s)
               (record {
                 trail = named_trail;

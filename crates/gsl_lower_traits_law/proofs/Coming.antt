@@ -1,11 +1,11 @@
 -- What always comes to something or strays.
-use Rattle.std.proofs.Common.{◌≡◌, refl, sym, ap, ◌∙◌, ℕ, Bool, true, false, ◌||◌, ◌&&◌, List, [], ◌∷◌, map, Option, Some, None, if◌then◌else◌}
+use Rattle.std.proofs.Common.{◌≡◌, refl, sym, ◌∙◌, ℕ, Bool, true, false, ◌||◌, ◌&&◌, List, [], ◌∷◌, Some, None, if◌then◌else◌}
 use Rattle.std.specs.Prelude.{nat_lt}
 use Rattle.gsl_types.specs.declared.ty.Ty.{Ty}
 use Rattle.gsl_types.specs.declared.ty.StructType.{StructType}
 use Rattle.gsl_values.specs.declared.value.Value.{Value}
 use Rattle.gsl_meaning.specs.Accesses.{Access, Loose, index_of, parts_at, read, whole}
-use Rattle.gsl_meaning.specs.Expressions.{Meant, accessed, in_order, valued}
+use Rattle.gsl_meaning.specs.Expressions.{accessed, valued}
 use Rattle.gsl_meaning.specs.Running.{Ran, Run, Got, Ends, Strays, Goes, behind, given, ◌>>=◌, told_by, drawing, storing, indexing}
 use Rattle.gsl_meaning.specs.State.{State}
 use Rattle.gsl_lower_traits.specs.declared.traits.Traits.{Traits}

@@ -16,16 +16,25 @@ use Rattle.gsl_tree.specs.declared.expr.Expr.{Expr}
 use Rattle.gsl_tree.specs.declared.expr.LogicOp.{LogicOp}
 use Rattle.gsl_tree.specs.declared.expr.LogicOp.TheVariants as logic
 use Rattle.gsl_tree.specs.declared.expr.ExprKind.{ExprKind}
-use Rattle.gsl_tree.specs.declared.expr.ExprKind.TheOpen.{ExprKind-F, Expr-F}
+use Rattle.gsl_tree.specs.declared.expr.ExprKind.TheOpen.{ExprKind-F}
 use Rattle.gsl_tree.specs.declared.expr.ExprKind.TheFolds.{fold-Expr, fold-ExprKind, fold-roll-Expr, fold-roll-ExprKind, map-ExprKind}
-use Rattle.gsl_tree.specs.declared.expr.ExprKind.TheViews.{roll-out-Expr, roll-out-ExprKind, out-Expr, out-ExprKind}
-use Rattle.gsl_meaning.specs.Accesses.{Access, Block, Global, Interface, Local, Loose, Param, member_of, read, swizzle_of, whole}
-use Rattle.gsl_meaning.specs.Expressions.{Meant, Setting, block_parts, counted, in_order, is_signed_first, last_of, means, means_by, member_root, stepping, typed_by, updating}
-use Rattle.gsl_meaning.specs.Running.{Run, Got, given, ◌>>=◌, told_by, drawing, storing, indexing}
+use Rattle.gsl_tree.specs.declared.expr.ExprKind.TheViews.{roll-out-Expr, roll-out-ExprKind, out-Expr}
+use Rattle.gsl_meaning.specs.Accesses.{Global, Interface, Local, Loose, Param, member_of, read, swizzle_of, whole}
+use Rattle.gsl_meaning.specs.Expressions.{Meant, Setting, counted, in_order, is_signed_first, last_of, means, means_by, member_root, stepping, typed_by, updating}
+use Rattle.gsl_meaning.specs.Running.{Run, given, ◌>>=◌, told_by, drawing, storing, indexing}
 use Rattle.gsl_lower_traits.specs.declared.traits.Traits.{Traits}
 use Rattle.gsl_lower_traits.specs.Traits.{Known, is_dynamic, is_selected, is_short, is_still_index, known, known_by, literal_by, together_on, traits_by, traits_of, valued, with}
 use Rattle.gsl_lower_traits_law.specs.Telling.{AlwaysComes, Tells}
 use Rattle.gsl_lower_traits_law.proofs.Coming.{NoneCall, accessed_tells, both_true, drawing_comes, given_comes, if_comes, indexing_comes, never, none_call, none_of, none_splits, storing_comes, then_comes, told_comes, valued_tells}
+
+-- a literal is that of its word
+pub literal_word : (layer : Ty-F Ty) (v : Value) (number : ℕ) → literal_by layer v ≡ Some number → word_in v ≡ number
+literal_word (Ty-F.One s) v number e = cc
+literal_word Ty-F.Void v number e = absurd cc
+literal_word (Ty-F.Vector s n) v number e = absurd cc
+literal_word (Ty-F.Array a n) v number e = absurd cc
+literal_word (Ty-F.Runtime a) v number e = absurd cc
+literal_word (Ty-F.Struct k) v number e = absurd cc
 
 module _ (setting : Setting) where
   abbrev kinds : ExprKind → Ty → Meant
@@ -107,18 +116,10 @@ module _ (setting : Setting) (kinds_as : ExprKind → Ty → Traits) (known_as :
   literal_told : (t : Ty) (v : Value) → Tells (record (valued false false true) { literal = literal_by (out-Ty t) v }) (means_form setting (ExprKind-F.Const v) t)
   literal_told t v = record {
     comes = λ e. (given_comes (whole (Loose v)), given_comes v);
-    literal = λ number e. (refl, refl, λ s units. (v, refl, by (out-Ty t) number e));
+    literal = λ number e. (refl, refl, λ s units. (v, refl, literal_word (out-Ty t) v number e));
     quiet = λ e. refl;
     still = λ e. refl;
   }
-    where
-      by : (layer : Ty-F Ty) (number : ℕ) → literal_by layer v ≡ Some number → word_in v ≡ number
-      by (Ty-F.One s) number e = cc
-      by Ty-F.Void number e = absurd cc
-      by (Ty-F.Vector s n) number e = absurd cc
-      by (Ty-F.Array a n) number e = absurd cc
-      by (Ty-F.Runtime a) number e = absurd cc
-      by (Ty-F.Struct k) number e = absurd cc
 
   choice_comes : (v : Value) (x y : Run Value) → AlwaysComes x → AlwaysComes y → AlwaysComes (if word_in v == 0 then x else y)
   choice_comes v x y first second = if_comes (word_in v == 0) x y first second
@@ -204,33 +205,6 @@ module _ (setting : Setting) (kinds_as : ExprKind → Ty → Traits) (known_as :
       valued_tells t (in_order (map part items) >>= (λ vs. given (last_of vs))) _ _ _
       (λ e. then_comes (in_order (map part items)) (λ vs. given (last_of vs)) (row_comes items all (none_call (valued false false true) (map known_as items) e).1) (λ vs. given_comes (last_of vs)))
       (λ e. absurd (let z : false ≡ true = e in cc))
-
--- what is known to be a literal is one
-module _ (kinds_as : ExprKind → Ty → Traits) (known_as : Expr → Known) where
-  pub literal_is : (form : ExprKind-F ExprKind Expr) (t : Ty) (number : ℕ) → (traits_by (map-ExprKind ExprKind Expr (Ty → Traits) Known kinds_as known_as form) t).literal ≡ Some number → (v : Value) × (form ≡ ExprKind-F.Const v) × (literal_by (out-Ty t) v ≡ Some number)
-  literal_is (ExprKind-F.Const v) t number e = (v, refl, e)
-  literal_is (ExprKind-F.Local n) t number e = absurd (let z : None ≡ Some number = e in cc)
-  literal_is (ExprKind-F.Global n) t number e = absurd (let z : None ≡ Some number = e in cc)
-  literal_is (ExprKind-F.Param n) t number e = absurd (let z : None ≡ Some number = e in cc)
-  literal_is (ExprKind-F.BlockMember b n) t number e = absurd (let z : None ≡ Some number = e in cc)
-  literal_is (ExprKind-F.Stage var) t number e = absurd (let z : None ≡ Some number = e in cc)
-  literal_is (ExprKind-F.Interface n) t number e = absurd (let z : None ≡ Some number = e in cc)
-  literal_is (ExprKind-F.Member a n) t number e = absurd (let z : None ≡ Some number = e in cc)
-  literal_is (ExprKind-F.Index a i) t number e = absurd (let z : None ≡ Some number = e in cc)
-  literal_is (ExprKind-F.Swizzle a l) t number e = absurd (let z : None ≡ Some number = e in cc)
-  literal_is (ExprKind-F.Length a) t number e = absurd (let z : None ≡ Some number = e in cc)
-  literal_is (ExprKind-F.Unary o a) t number e = absurd (let z : None ≡ Some number = e in cc)
-  literal_is (ExprKind-F.Binary o a b) t number e = absurd (let z : None ≡ Some number = e in cc)
-  literal_is (ExprKind-F.Logic o a b) t number e = absurd (let z : None ≡ Some number = e in cc)
-  literal_is (ExprKind-F.Choose test a b) t number e = absurd (let z : None ≡ Some number = e in cc)
-  literal_is (ExprKind-F.Assign a b) t number e = absurd (let z : None ≡ Some number = e in cc)
-  literal_is (ExprKind-F.Update o a b) t number e = absurd (let z : None ≡ Some number = e in cc)
-  literal_is (ExprKind-F.Step o a) t number e = absurd (let z : None ≡ Some number = e in cc)
-  literal_is (ExprKind-F.Call n es) t number e = absurd (let z : None ≡ Some number = e in cc)
-  literal_is (ExprKind-F.Built f es) t number e = absurd (let z : None ≡ Some number = e in cc)
-  literal_is (ExprKind-F.Build es) t number e = absurd (let z : None ≡ Some number = e in cc)
-  literal_is (ExprKind-F.Convert a) t number e = absurd (let z : None ≡ Some number = e in cc)
-  literal_is (ExprKind-F.Comma es) t number e = absurd (let z : None ≡ Some number = e in cc)
 
 module _ (setting : Setting) where
   abbrev kinds_known : ExprKind → Ty → Traits

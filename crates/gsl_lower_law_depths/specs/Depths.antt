@@ -1,0 +1,79 @@
+-- The functions of a program where they stand in a module, and what their calls do at a depth (GLSL 4.50, 6.1).
+use Rattle.std.specs.Prelude.{◌≡◌, ℕ, ◌<◌, ◌≤◌, List, [], map, length, slice_get, Option, Some}
+use Rattle.gsl_base.specs.declared.input.Input.{Input}
+use Rattle.gsl_types.specs.declared.ty.Ty.{Ty}
+use Rattle.gsl_words.specs.declared.module.Module.{Module}
+use Rattle.gsl_values.specs.declared.value.Value.{Value}
+use Rattle.gsl_tree.specs.Around.{Around}
+use Rattle.gsl_tree.specs.Statements.{IsBody}
+use Rattle.gsl_tree.specs.Trees.{AlongAll, outside, with_exits}
+use Rattle.gsl_tree.specs.WellTyped.{IsResult, around_body, program_lists}
+use Rattle.gsl_tree.specs.declared.expr.StageVar.{StageVar}
+use Rattle.gsl_tree.specs.declared.program.Program.{Program}
+use Rattle.gsl_tree.specs.declared.unit.Function.{Function}
+use Rattle.gsl_tree.specs.declared.unit.Prototype.{Prototype}
+use Rattle.gsl_meaning.specs.Shader.{calls, function_of}
+use Rattle.gsl_meaning.specs.Stages.{stage_value}
+use Rattle.gsl_spv.specs.Sections.{Sections}
+use Rattle.gsl_lower_holders.specs.Flow.{Emit, Flow}
+use Rattle.gsl_lower_holders.specs.declared.place.FlowPlace.{FlowPlace}
+use Rattle.gsl_lower_expr.specs.Calls.{calling}
+use Rattle.gsl_lower_expr.specs.Parts.{Lower}
+use Rattle.gsl_lower_needs.specs.Bodies.{any_leaves}
+use Rattle.gsl_lower_stmt.specs.Lowering.{lowers_stmt}
+use Rattle.gsl_lower_stmt.specs.Parts.{LowerStmt, in_turn}
+use Rattle.gsl_lower_follows.specs.Frames.{Frame}
+use Rattle.gsl_lower_law_entered.specs.Modules.{IsFrame, IsFunction}
+use Rattle.gsl_lower_law_functions.specs.Bodies.{bodied}
+use Rattle.gsl_lower_law_functions.specs.Functions.{FunctionDoes, IsLowered}
+use Rattle.gsl_lower_law_evaluated.specs.Evaluating.{IsTyped, lowered_in}
+use Rattle.gsl_lower_law_whole.specs.Typed.{AsksOf, KnowsTypes}
+
+-- what calls are lowered to in a program
+abbrev pub call_of : Program → ℕ → List Lower → Ty → Emit ℕ
+call_of p = calling p.structs p.prototypes
+
+-- its built-in variables on an input
+abbrev pub stage_of : Program → Input → StageVar → Value
+stage_of p input = stage_value p.local_size input
+
+-- the statements of a function as they are lowered
+abbrev pub statements_of : Program → Function → List LowerStmt
+statements_of p f = map (lowers_stmt (lowered_in p (call_of p)) f.locals) f.body
+
+-- its body as it is lowered, with what is put behind it
+abbrev pub body_of : Program → Function → Ty → Emit (Unit {0})
+body_of p f result = bodied (in_turn (statements_of p f)) (any_leaves (map (λ (s : LowerStmt). s.leaves) (statements_of p f))) result
+
+-- what stands outside functions
+abbrev pub globals_of : Program → Around
+globals_of p = around_body (program_lists p) [] []
+
+module _ (m : Module) (input : Input) (whole : Sections) (p : Program) (place : FlowPlace) (stages : List (Option Value)) where
+  -- A function of the module does what that of a head means, where calls nest at most so deep.
+  abbrev pub DoesAt : ℕ → ℕ → ℕ → Prototype → Type 0
+  DoesAt depth number function head = FunctionDoes m input whole p place stages (globals_of p) function head.params head.result (calls p input depth number)
+
+  -- the same, if the program has the head and the module the function
+  abbrev pub CallsDo : ℕ → ℕ → Type 0
+  CallsDo depth number = (head : Prototype) (function : ℕ) → slice_get p.prototypes number ≡ Some head → slice_get place.functions number ≡ Some function → DoesAt depth number function head
+
+  -- The function of a head is well typed and stands in the module as it is lowered; in each frame of it the types of the module are known, and what is asked of the expressions in it is so, where
+  -- calls of functions of lower rank do what they mean.
+  pub record Stands (rank : ℕ → ℕ) (number function : ℕ) (head : Prototype) : Type 0 where
+    pub tree : Function
+    pub found : function_of p.functions number ≡ Some tree
+    pub begin : Flow
+    pub stands : IsFunction m whole p.structs place tree.locals function begin
+    pub lowered : IsLowered whole begin stands.rest (body_of p tree head.result)
+    pub many : length head.params ≡ length begin.place.params
+    pub result : IsResult p.structs head.result
+    pub typed : IsTyped p head.params tree.locals
+    pub body : IsBody (around_body (program_lists p) head.params tree.locals) head.result tree.body
+    pub knows : (g : Frame m input whole) → IsFrame m input whole place stages g → KnowsTypes m input whole g p
+    pub asks : (depth : ℕ) → ((other : ℕ) → rank other < rank number → CallsDo depth other) → (g : Frame m input whole) → IsFrame m input whole place stages g
+        → AlongAll (AsksOf m input whole g p head.params tree.locals (call_of p) (stage_of p input) (calls p input depth)) (with_exits outside tree.body)
+
+  -- All functions that the module knows do so.
+  abbrev pub AllStand : (ℕ → ℕ) → Type 0
+  AllStand rank = (number function : ℕ) (head : Prototype) → slice_get p.prototypes number ≡ Some head → slice_get place.functions number ≡ Some function → Stands rank number function head

@@ -1,0 +1,6 @@
+pub mod Facts
+mod Lists
+mod Evaluated
+mod Stages
+mod Forms
+pub mod Whole

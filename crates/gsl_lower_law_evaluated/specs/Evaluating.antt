@@ -1,0 +1,118 @@
+-- What it is for a whole expression, as it is lowered, to do what it does, and what is asked of expressions for it (GLSL 4.50, chapter 5).
+use Rattle.std.specs.Prelude.{◌≡◌, ◌≢◌, ℕ, ◌≤◌, ◌<◌, ◌^◌, ◌⊎◌, Bool, true, false, List, [], ◌∷◌, length, slice_get, Some, None}
+use Rattle.std.specs.List.{AllByRecursion}
+use Rattle.gsl_base.specs.declared.input.Input.{Input}
+use Rattle.gsl_types.specs.Known.{IsSound}
+use Rattle.gsl_types.specs.declared.ty.Direction.{Direction}
+use Rattle.gsl_types.specs.declared.ty.Ty.{Ty}
+use Rattle.gsl_types.specs.declared.ty.Ty.TheVariants as ty
+use Rattle.gsl_types.specs.declared.ty.Ty.TheViews.{out-Ty}
+use Rattle.gsl_words.specs.declared.module.Module.{Module}
+use Rattle.gsl_values.specs.declared.value.Value.{Value}
+use Rattle.gsl_tree.specs.Around.{Around}
+use Rattle.gsl_tree.specs.Expressions.{boolean, is_runtime_layer}
+use Rattle.gsl_tree.specs.Operations.{has_fixed_length, length_of}
+use Rattle.gsl_tree.specs.Paths.{is_writable}
+use Rattle.gsl_tree.specs.Shapes.{shape_of}
+use Rattle.gsl_tree.specs.Trees.{form_of, type_of}
+use Rattle.gsl_tree.specs.Values.{is_value_of}
+use Rattle.gsl_tree.specs.WellTyped.{AreWellTyped, IsVariableType, around_body, program_lists}
+use Rattle.gsl_tree.specs.declared.expr.Expr.{Expr}
+use Rattle.gsl_tree.specs.declared.expr.ExprKind.{ExprKind}
+use Rattle.gsl_tree.specs.declared.expr.ExprKind.TheOpen.{ExprKind-F}
+use Rattle.gsl_tree.specs.declared.expr.StageVar.{StageVar}
+use Rattle.gsl_tree.specs.declared.program.Program.{Program}
+use Rattle.gsl_meaning.specs.Expressions as meaning
+use Rattle.gsl_meaning.specs.Expressions.{Calls, Meant}
+use Rattle.gsl_spv.specs.Sections.{Sections}
+use Rattle.gsl_lower_holders.specs.Flow.{Emit}
+use Rattle.gsl_lower_traits.specs.Traits.{is_selected, is_short}
+use Rattle.gsl_lower_traits_law.specs.Telling.{Tells}
+use Rattle.gsl_lower_expr.specs.Lowering as lowering
+use Rattle.gsl_lower_expr.specs.Parts.{Lower, stage_number}
+use Rattle.gsl_lower_follows.specs.Frames.{AreTyped, Frame}
+use Rattle.gsl_lower_follows.specs.Giving.{GivesValue}
+use Rattle.gsl_lower_law_built.specs.Places.{NoVector}
+use Rattle.gsl_lower_law_expr.specs.Known.{IsQuiet}
+use Rattle.gsl_lower_reaching.specs.Reaching.{GivesPlace}
+
+-- what expressions of a program are lowered in, by what calls are lowered to
+abbrev pub lowered_in : Program → (ℕ → List Lower → Ty → Emit ℕ) → lowering.Setting
+lowered_in p call = record { structs = p.structs; interfaces = p.interfaces; call = call }
+
+-- what they mean, by the built-in variables and what calls do
+abbrev pub meant_in : Program → (StageVar → Value) → Calls → meaning.Setting
+meant_in p stage calls = record { structs = p.structs; prototypes = p.prototypes; stage_value = stage; call = calls }
+
+-- A program is well typed, and so are the parameters and local variables of a function of it.
+pub record IsTyped (p : Program) (params : List (Direction × Ty)) (locals : List Ty) : Type 0 where
+  pub program : AreWellTyped (program_lists p)
+  pub of_params : AllByRecursion (λ (param : Direction × Ty). IsVariableType p.structs param.1) params
+  pub of_locals : AllByRecursion (IsVariableType p.structs) locals
+
+module _ (m : Module) (input : Input) (whole : Sections) (f : Frame m input whole) (p : Program) (around : Around) where
+  -- What an expression of a type is lowered to gives its value, unless it is a runtime array, and leads where it does: to a variable, where it may be
+  -- written. What is known of it before is so.
+  pub record Evaluates (may_write : Bool) (t : Ty) (l : Lower) (x : Meant) : Type 0 where
+    pub typed : l.ty ≡ t
+    pub meant : x.ty ≡ t
+    pub sound : IsSound (length p.structs) t
+    pub gives : is_runtime_layer (out-Ty t) ≡ false → GivesValue m input whole f p around l.traits.splits t l.value x.value
+    pub leads : t ≢ ty.Void → (writes : Bool) → (writes ≡ true → may_write ≡ true) → GivesPlace m input whole f p around l.traits.splits l.traits.is_loose writes t l.reach x.access
+    pub tells : Tells l.traits x
+
+-- A function knows a variable for a built-in variable, which has its value.
+pub record KnowsStage (m : Module) (input : Input) (whole : Sections) (f : Frame m input whole) (stage : StageVar → Value) (var : StageVar) : Type 0 where
+  pub told : slice_get f.stages (stage_number var) ≡ Some (Some (stage var))
+  pub real : (id : ℕ) → slice_get f.place.stage_vars (stage_number var) ≡ Some id → id ≢ 0
+
+module _ (m : Module) (input : Input) (whole : Sections) (f : Frame m input whole) (p : Program) (params : List (Direction × Ty)) (locals : List Ty) (call : ℕ → List Lower → Ty → Emit ℕ) (stage : StageVar → Value) (calls : Calls) where
+  abbrev around : Around
+  around = around_body (program_lists p) params locals
+
+  abbrev low : Expr → Lower
+  low = lowering.lowers (lowered_in p call)
+
+  abbrev means : Expr → Meant
+  means = meaning.means (meant_in p stage calls)
+
+  -- Lowered, an expression does what it does.
+  abbrev pub IsEvaluated : Expr → Type 0
+  IsEvaluated e = Evaluates m input whole f p around (is_writable around e) (type_of e) (low e) (means e)
+
+  abbrev pub AllEvaluated : List Expr → Type 0
+  AllEvaluated [] = Unit {0}
+  AllEvaluated (e ∷ es) = IsEvaluated e × AllEvaluated es
+
+  -- What is lowered for an expression gives its value.
+  abbrev pub HasValue : Expr → Type 0
+  HasValue e = GivesValue m input whole f p around (low e).traits.splits (type_of e) (low e).value (means e).value
+
+  -- An operand that may be evaluated where it does not count is there at once.
+  abbrev pub QuietIn : Ty → Expr → Type 0
+  QuietIn t e = IsQuiet (AreTyped m input whole f p around) (is_value_of p.structs t) (means e).value
+
+  -- What is asked of an expression by its form: of members of blocks, `.length()` of a runtime array, assignments, `++`, `--` and calls, that they do what they do where their parts do;
+  -- of an index that calls functions, or leads into a runtime array, too; of operands that may be evaluated where they do not count, that they are there at once; of built-in variables, that the module has them; of lengths,
+  -- that they are words; of swizzles, that they have their words; and of the arguments of a constructor, that they have values.
+  abbrev pub AsksFor : Expr → ExprKind-F ExprKind Expr → Type 0
+  AsksFor e (ExprKind-F.BlockMember block number) = IsEvaluated e
+  AsksFor e (ExprKind-F.Stage var) = KnowsStage m input whole f stage var
+  AsksFor e (ExprKind-F.Index a i) = (((low i).traits.calls ≡ false) × (has_fixed_length (type_of a) ≡ true)) ⊎ (IsEvaluated a → IsEvaluated i → IsEvaluated e)
+  AsksFor e (ExprKind-F.Swizzle a lanes) = lanes.count ≤ length lanes.words
+  AsksFor e (ExprKind-F.Length a) = ((has_fixed_length (type_of a) ≡ true) × (length_of (type_of a) < 2 ^ 32)) ⊎ HasValue e
+  AsksFor e (ExprKind-F.Logic op a b) = is_short op (low b).traits ≡ false → QuietIn boolean b
+  AsksFor e (ExprKind-F.Choose test a b) = is_selected (type_of e) (low a).traits (low b).traits ≡ true → QuietIn (type_of e) a × QuietIn (type_of e) b
+  AsksFor e (ExprKind-F.Assign a b) = IsEvaluated a → IsEvaluated b → HasValue e
+  AsksFor e (ExprKind-F.Update op a b) = IsEvaluated a → IsEvaluated b → HasValue e
+  AsksFor e (ExprKind-F.Step op a) = IsEvaluated a → HasValue e
+  AsksFor e (ExprKind-F.Call number args) = AllEvaluated args → HasValue e
+  AsksFor e (ExprKind-F.Build args) = AllByRecursion (λ (arg : Expr). type_of arg ≢ ty.Void) args
+  AsksFor e _ = Unit {0}
+
+  abbrev pub Asks : Expr → Type 0
+  Asks e = AsksFor e (form_of e)
+
+-- What stands for the arrays and structs that a function knows is no vector in the module.
+abbrev pub NoVectors : (m : Module) (input : Input) (whole : Sections) → Frame m input whole → Type 0
+NoVectors m input whole f = (t : Ty) → shape_of t ≡ None → NoVector m t f.place

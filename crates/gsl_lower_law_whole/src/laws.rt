@@ -1,0 +1,31 @@
+//! Laws of the definitions: calls that do nothing, whose contracts are the laws.
+
+ghost use Rattle.std.specs.Prelude.{◌≡◌, ℕ, List, map};
+ghost use Rattle.gsl_base.specs.declared.input.Input.{Input};
+ghost use Rattle.gsl_types.specs.declared.ty.Direction.{Direction};
+ghost use Rattle.gsl_types.specs.declared.ty.Ty.{Ty};
+ghost use Rattle.gsl_words.specs.declared.module.Module.{Module};
+ghost use Rattle.gsl_values.specs.declared.value.Value.{Value};
+ghost use Rattle.gsl_tree.specs.Statements.{IsBody};
+ghost use Rattle.gsl_tree.specs.Trees.{AlongAll, outside, with_exits};
+ghost use Rattle.gsl_tree.specs.WellTyped.{around_body, program_lists};
+ghost use Rattle.gsl_tree.specs.declared.expr.StageVar.{StageVar};
+ghost use Rattle.gsl_tree.specs.declared.program.Program.{Program};
+ghost use Rattle.gsl_tree.specs.declared.stmt.Stmt.{Stmt};
+ghost use Rattle.gsl_meaning.specs.Expressions.{Calls};
+ghost use Rattle.gsl_meaning.specs.Statements.{runs_all};
+ghost use Rattle.gsl_spv.specs.Sections.{Sections};
+ghost use Rattle.gsl_lower_holders.specs.Flow.{Emit};
+ghost use Rattle.gsl_lower_expr.specs.Parts.{Lower};
+ghost use Rattle.gsl_lower_needs.specs.Bodies.{any_leaves};
+ghost use Rattle.gsl_lower_stmt.specs.Lowering.{lowers_stmt};
+ghost use Rattle.gsl_lower_stmt.specs.Parts.{LowerStmt, in_turn};
+ghost use Rattle.gsl_lower_follows.specs.Frames.{Frame};
+ghost use Rattle.gsl_lower_law_stmt.specs.Doing.{DoesStatement};
+ghost use Rattle.gsl_lower_law_evaluated.specs.Evaluating.{IsTyped, lowered_in, meant_in};
+ghost use Rattle.gsl_lower_law_whole.specs.Typed.{AsksOf, KnowsTypes};
+
+/// The statements of a well typed body, one behind the other, do what they mean.
+pub fn typed_bodies_do()
+    ensures { (m : Module) (input : Input) (whole : Sections) (f : Frame m input whole) (p : Program) (params : List (Direction × Ty)) (locals : List Ty) (call : ℕ → List Lower → Ty → Emit ℕ) (stage : StageVar → Value) (calls : Calls) (ss : List Stmt) → IsTyped p params locals → KnowsTypes m input whole f p → IsBody (around_body (program_lists p) params locals) f.result ss → AlongAll (AsksOf m input whole f p params locals call stage calls) (with_exits outside ss) → DoesStatement m input whole f p (around_body (program_lists p) params locals) (any_leaves (map (λ (s : LowerStmt). s.leaves) (map (lowers_stmt (lowered_in p call) locals) ss))) (in_turn (map (lowers_stmt (lowered_in p call) locals) ss)) (runs_all (meant_in p stage calls) locals ss) }
+{}
