@@ -108,7 +108,7 @@ module _ (m : Module) (input : Input) (whole : Sections) (f : Frame m input whol
       held_on : (b1 : Flow) (mid : State) → After m input whole f p around false b state b1 s mid → AreHeld m input whole f b0.place.used mid args
       held_on b1 mid unchanged = record { each = λ k a is. still_held m input whole f p around b0.place.used b.place.used state mid a (below k a is) unchanged.held (held.each k a is); apart = held.apart }
 
-      given_back : (b1 later : Flow) (mid last : State) (id : ℕ) (c : Called) (u : shader.State) → After m input whole f p around false b state b1 s mid → HasReturned m input whole p f around t b0.place.used id args mid later c u last → Is id later c.value u last
+      given_back : (b1 later : Flow) (mid last : State) (id : ℕ) (c : Called) (u : shader.State) → After m input whole f p around false b state b1 s mid → HasReturned m input whole p f around (ins tys) t b0.place.used id args mid later c u last → Is id later c.value u last
       given_back b1 later mid last id c u unchanged ret = record {
         given = ret.given;
         after = record {
@@ -121,8 +121,8 @@ module _ (m : Module) (input : Input) (whole : Sections) (f : Frame m input whol
       follows_call : (type : ℕ) (b1 later : Flow) (id : ℕ) (mid : State) → Grown b b1 → After m input whole f p around false b state b1 s mid → giving_here op.FUNCTION_CALL (function ∷ pointers (map going args)) type b1 ≡ Gives id later → Inside m input whole f later.sections
           → Follows m input p 0 units mid (Is id later) (none_waits id later) (means (map meant args) s units)
       follows_call type b1 later id mid more unchanged puts inside =
-          follows_then m input p 0 units mid (HasReturned m input whole p f around t b0.place.used id args mid later) (λ u last. ⊥) (Is id later) (none_waits id later) (setting.call number (shader_expr.values_of (map meant args)) s units) (shader_expr.returning (map meant args))
-          (subst (λ vs. Follows m input p 0 units mid (HasReturned m input whole p f around t b0.place.used id args mid later) (λ u last. ⊥) (setting.call number vs s units)) (sym (values_are args))
+          follows_then m input p 0 units mid (HasReturned m input whole p f around (ins tys) t b0.place.used id args mid later) (λ u last. ⊥) (Is id later) (none_waits id later) (setting.call number (shader_expr.values_of (map meant args)) s units) (shader_expr.returning (map meant args))
+          (subst (λ vs. Follows m input p 0 units mid (HasReturned m input whole p f around (ins tys) t b0.place.used id args mid later) (λ u last. ⊥) (setting.call number vs s units)) (sym (values_are args))
           (function_does.does f around b1 later args type id b0.place.used units s mid one alike unchanged.good (ap (λ ids. giving_here op.FUNCTION_CALL (function ∷ ids) type b1) (sym (pointers_are args)) ∙ puts) inside
           (held_on b1 mid unchanged) (many ∙ sym (length-map tys (λ ty. (In, ty)))) typed))
           (λ c u left last ret less. subst (λ w. Follows m input p 0 left last (Is id later) (none_waits id later) (Got c.value w left)) (sym (none_back args c.params u)) (reaches_here m input left last (Is id later c.value u) (given_back b1 later mid last id c u unchanged ret)))

@@ -33,7 +33,7 @@ use Rattle.gsl_lower_law_returns.proofs.Returned.{given_by, put_here}
 use Rattle.gsl_lower_law_entered.specs.Modules.{AreShared, IsFrame, IsFunction, declares}
 use Rattle.gsl_lower_law_entered.specs.Entering.{Argument, AreHeld, HasEntered, ids_of, values_of}
 use Rattle.gsl_lower_law_entered.proofs.Begun.{begins_good, begins_inside, begun_state, each_there, frame}
-use Rattle.gsl_lower_law_entered.proofs.Framed.{frame_is, held_of, helds, param_seat, was_called}
+use Rattle.gsl_lower_law_entered.proofs.Framed.{frame_is, held_of, helds, param_argument, param_seat, was_called}
 use Rattle.gsl_lower_law_entered.proofs.Opening.{first_label, opening_leads, words_on}
 
 -- what ids of arguments stand for
@@ -131,6 +131,7 @@ module _ (m : Module) (input : Input) (whole : Sections) (f : Frame m input whol
     one = frame_is m input whole f p.structs place inner.locals stages result function begin fn valid written of_module first state args good.holds.count held enough waiting;
     called = was_called m input whole f p.structs place inner.locals stages result function begin fn valid written of_module first state args good.holds.count held enough b good.seated id rest;
     params = param_seat m input whole f p.structs place inner.locals stages result function begin fn valid written of_module first state args good.holds.count held enough;
+    passed = param_argument m input whole f p.structs place inner.locals stages result function begin fn valid written of_module first state args good.holds.count held enough;
     begun = begun;
     good = begins_good m input whole f p around inner place stages result function begin b fn valid written of_module first s state args good held enough alike typed_args waiting;
     stretch = entering;

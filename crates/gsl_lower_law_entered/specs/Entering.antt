@@ -53,6 +53,7 @@ module _ (m : Module) (input : Input) (whole : Sections) (f : Frame m input whol
       pub one : IsOne frame
       pub called : IsCalled m input whole f frame first id state rest
       pub params : (number : ℕ) (a : Argument) → slice_get args number ≡ Some a → frame.seat (Param number) ≡ Some a.seat
+      pub passed : (number seat : ℕ) → frame.seat (Param number) ≡ Some seat → (a : Argument) × (slice_get args number ≡ Some a) × (a.seat ≡ seat)
       pub begun : State
       pub good : Good m input whole frame p inner b (entered p.structs inner.locals (values_of args) s) begun
       pub stretch : (units : ℕ) → Stretch m input 0 0 (suc units) state units (Going begun)

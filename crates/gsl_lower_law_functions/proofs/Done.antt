@@ -30,7 +30,7 @@ use Rattle.gsl_lower_holders.specs.Flow.{Emit, Flow, Gives, Lowered, giving_here
 use Rattle.gsl_lower_holders.specs.declared.place.FlowPlace.{FlowPlace}
 use Rattle.gsl_lower_text.specs.Written.{Written}
 use Rattle.gsl_lower_follows.specs.Following.{Follows}
-use Rattle.gsl_lower_follows.specs.Frames.{Frame, Good, HasType, Inside, coming, type_of_param}
+use Rattle.gsl_lower_follows.specs.Frames.{AreTyped, Frame, Good, HasType, Inside, Param, coming, type_of_param}
 use Rattle.gsl_lower_follows.specs.Giving.{Does, IsGiven, none_waits}
 use Rattle.gsl_lower_follows.proofs.Behind.{follows_behind, follows_then}
 use Rattle.gsl_lower_follows.proofs.Stretches.{lasts_at_once}
@@ -96,13 +96,15 @@ module _ (m : Module) (input : Input) (whole : Sections) (p : Program) (inner : 
         by (inl void) = inl void
         by (inr no_value) = absurd (let z : true ≡ false = sym is ∙ ap (is_value_of p.structs result) none ∙ no_value in cc)
 
-    back : (v : Value) (t : shader.State) (last : State) → IsResult p.structs result v → IsBack m input whole f g p around first id state later s v t last
-        → HasReturned m input whole p f around result first id args state later (record { value = v; params = t.params }) (record t { params = s.params; locals = s.locals }) last
-    back v t last is x = record {
+    back : (v : Value) (t : shader.State) (last : State) → AreTyped m input whole g p inner t → IsResult p.structs result v → IsBack m input whole f g p around first id state later s v t last
+        → HasReturned m input whole p f around inner.params result first id args state later (record { value = v; params = t.params }) (record t { params = s.params; locals = s.locals }) last
+    back v t last has is x = record {
       good = x.good;
       ids = x.ids;
       given = given last v is x.given;
       held = x.held;
+      others = λ holder number seat none. x.others holder number seat (λ k e. let q = entered_is.passed k number e in none k q.0 q.1 q.2);
+      typed = λ number. has.each (Param number);
       params = λ number a w there has.
           let q = x.params number w has in
           let both : Some q.0 ≡ Some a.seat = sym q.1 ∙ entered_is.params number a there in
@@ -111,18 +113,18 @@ module _ (m : Module) (input : Input) (whole : Sections) (p : Program) (inner : 
     }
 
     returns : (flow : statement.Flow) (t : shader.State) (rest : ℕ) (mid : State) → AtResult m input whole g p inner flow t mid
-        → Follows m input p 0 rest mid (HasReturned m input whole p f around result first id args state later) (λ t last. ⊥) (left s (result_of p.structs result flow) t rest)
+        → Follows m input p 0 rest mid (HasReturned m input whole p f around inner.params result first id args state later) (λ t last. ⊥) (left s (result_of p.structs result flow) t rest)
     returns flow t rest mid at =
         let here : AtReturn m input whole g p inner (result_of p.structs result flow) t mid = subst (λ u. AtReturn m input whole g p inner (result_of p.structs u flow) t mid) entered_is.gives at in
         let typed = subst (λ u. IsResult p.structs u (result_of p.structs result flow)) entered_is.gives here.typed in
         let q = returned_back m input whole f g p around inner b later (function ∷ ids_of args) type id first s t state mid (result_of p.structs result flow) rest alike good puts inside passes entered_is.called here in
-        record { later = q.later; is = back (result_of p.structs result flow) t q.later typed q.is; less = q.less; stretch = q.stretch }
+        record { later = q.later; is = back (result_of p.structs result flow) t q.later here.state_is.typed typed q.is; less = q.less; stretch = q.stretch }
 
-    follows : (units : ℕ) → Follows m input p 0 units state (HasReturned m input whole p f around result first id args state later) (λ t last. ⊥) (spending (running_body p.structs inner.locals result run (values_of args)) s units)
+    follows : (units : ℕ) → Follows m input p 0 units state (HasReturned m input whole p f around inner.params result first id args state later) (λ t last. ⊥) (spending (running_body p.structs inner.locals result run (values_of args)) s units)
     follows zero = lasts_at_once m input state
     follows (suc units) =
-        follows_behind m input p 0 0 (suc units) units state entered_is.begun (HasReturned m input whole p f around result first id args state later) (λ t last. ⊥) (running_body p.structs inner.locals result run (values_of args) s units) (entered_is.stretch units) (omega arith)
-        (follows_then m input p 0 units entered_is.begun (λ flow t last. AtResult m input whole g p inner flow t last) (λ t last. ⊥) (HasReturned m input whole p f around result first id args state later) (λ t last. ⊥)
+        follows_behind m input p 0 0 (suc units) units state entered_is.begun (HasReturned m input whole p f around inner.params result first id args state later) (λ t last. ⊥) (running_body p.structs inner.locals result run (values_of args) s units) (entered_is.stretch units) (omega arith)
+        (follows_then m input p 0 units entered_is.begun (λ flow t last. AtResult m input whole g p inner flow t last) (λ t last. ⊥) (HasReturned m input whole p f around inner.params result first id args state later) (λ t last. ⊥)
         (run (entered p.structs inner.locals (values_of args) s) units) (λ flow. left s (result_of p.structs result flow))
         (body_follows g entered_is.one entered_is.front entered_is.same entered_is.gives (entered p.structs inner.locals (values_of args) s) units entered_is.begun entered_is.good)
         (λ flow t rest mid at less. returns flow t rest mid at)

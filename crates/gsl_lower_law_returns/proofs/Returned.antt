@@ -29,7 +29,7 @@ use Rattle.gsl_lower_follows.specs.Stretching.{room, room_behind}
 use Rattle.gsl_lower_follows.proofs.Stretches.{stretch_one}
 use Rattle.gsl_lower_law_stmt.specs.Doing.{AtReturn}
 use Rattle.gsl_lower_law_returns.specs.Calling.{AreAlike, IsBack, IsCalled, call_of}
-use Rattle.gsl_lower_law_returns.proofs.Untouched.{holders_stay, holds_back, params_are, typed_back}
+use Rattle.gsl_lower_law_returns.proofs.Untouched.{holders_stay, others_stay, holds_back, params_are, typed_back}
 
 -- what a builder holds behind an instruction with a new id
 abbrev pub given_by : ℕ → List ℕ → ℕ → Flow → Flow
@@ -83,6 +83,7 @@ module _ (m : Module) (input : Input) (whole : Sections) (f g : Frame m input wh
     ids = keeps;
     given = given;
     held = record { same = holders_stay m input whole f g p around inner first id b rest s t state last alike good called at.state_is.holds at.state_is.typed };
+    others = others_stay m input whole f g p around inner first id b rest s t state last alike good called at.state_is.holds at.state_is.typed;
     params = params_are m input whole f g p around inner first id b rest s t state last alike good called at.state_is.holds at.state_is.typed;
   }
 

@@ -78,6 +78,21 @@ module _ (m : Module) (input : Input) (whole : Sections) (f g : Frame m input wh
       (λ other shared e. absurd (let q : true ≡ false = sym shared ∙ ap is_shared (f.apart other (Holder holder) number e seat) in cc))
       (λ other passed e. absurd (let n : other ≡ holder = ap holder_number (f.apart (Holder other) (Holder holder) number e seat) in omega (arith, less, passed, n))))
 
+  -- and so are those that were not passed
+  pub others_stay : (holder number : ℕ) → f.seat (Holder holder) ≡ Some number → ((parameter : ℕ) → g.seat (Param parameter) ≢ Some number) → slice_get (take count last.variables) number ≡ slice_get state.variables number
+  others_stay holder number seat none = stays number by
+    where
+      not_shared : (name : Name) → is_shared name ≡ true → g.seat name ≢ Some number
+      not_shared name shared e = absurd (let q : true ≡ false = sym shared ∙ ap is_shared (f.apart name (Holder holder) number (sym (called.shared name shared) ∙ e) seat) in cc)
+
+      by : number < count → (name : Name) → g.seat name ≢ Some number
+      by less (Global k) = not_shared (Global k) refl
+      by less (Interface k) = not_shared (Interface k) refl
+      by less (Stage k) = not_shared (Stage k) refl
+      by less (Param k) = none k
+      by less (Local k) = λ e. absurd (let behind = called.own (Local k) number refl e in omega (arith, less, behind))
+      by less (Holder k) = λ e. absurd (let behind = called.own (Holder k) number refl e in omega (arith, less, behind))
+
   -- what a parameter is at the end, its variable is
   pub params_are : (number : ℕ) (w : Value) → slice_get t.params number ≡ Some w → (seat : ℕ) × (g.seat (Param number) ≡ Some seat) × (slice_get (take count last.variables) seat ≡ Some w)
   params_are number w is =

@@ -1,5 +1,5 @@
 -- A function that was called and its caller, which waits, and where control is when the call is over (GLSL 4.50, 6.1; SPIR-V 1.0, 3.32.17).
-use Rattle.std.specs.Prelude.{◌≡◌, ℕ, ◌≤◌, ◌⊎◌, Bool, true, false, List, ◌∷◌, ◌++◌, length, slice_get, Some}
+use Rattle.std.specs.Prelude.{◌≡◌, ◌≢◌, ℕ, ◌≤◌, ◌⊎◌, Bool, true, false, List, ◌∷◌, ◌++◌, length, slice_get, Some}
 use Rattle.gsl_base.specs.declared.input.Input.{Input}
 use Rattle.gsl_words.specs.declared.module.Module.{Module}
 use Rattle.gsl_values.specs.declared.value.Value.{Value}
@@ -61,10 +61,11 @@ module _ (m : Module) (input : Input) (whole : Sections) where
     pub begun : g.begun ≡ state.variables ++ begins
 
   -- The call is over that was made in a state, and control is behind it in the caller's code: its id stands for the value that was returned, if there is one,
-  -- the ids of the block and the first holders are as they were, and the variables that were passed have the values of the parameters at the end.
+  -- the ids of the block, the first holders and those that were not passed are as they were, and the variables that were passed have the values of the parameters at the end.
   pub record IsBack (f g : Frame m input whole) (p : Program) (around : Around) (first id : ℕ) (state : State) (later : Flow) (caller : shader.State) (v : Value) (after : shader.State) (last : State) : Type 0 where
     pub good : Good m input whole f p around later (back_with caller after) last
     pub ids : Keeps state.ids last.ids
     pub given : (v ≡ nothing) ⊎ Stands last.ids id v
     pub held : Kept m input whole f first state last
+    pub others : (holder number : ℕ) → f.seat (Holder holder) ≡ Some number → ((parameter : ℕ) → g.seat (Param parameter) ≢ Some number) → slice_get last.variables number ≡ slice_get state.variables number
     pub params : (number : ℕ) (w : Value) → slice_get after.params number ≡ Some w → (seat : ℕ) × (g.seat (Param number) ≡ Some seat) × (slice_get last.variables seat ≡ Some w)
