@@ -78,8 +78,10 @@ module _ (m : Module) (input : Input) (whole : Sections) (p : Program) (place : 
     -- all functions have the program's variables
     outside : FunctionDoes m input whole p place stages (globals_of p) function head.params (result_type (slice_get p.prototypes number)) (λ args. spending (running_body p.structs s.tree.locals (result_type (slice_get p.prototypes number)) run args))
     outside = subst (λ t. FunctionDoes m input whole p place stages (globals_of p) function head.params t (λ args. spending (running_body p.structs s.tree.locals t run args))) (sym result_is)
-        (record { does = λ f around b later args type id first units t state of_module alike good puts inside held enough typed.
-            at_depth.does f around b later args type id first units t state of_module (record { globals = alike.globals; interfaces = alike.interfaces }) good puts inside held enough typed })
+        (record {
+          does = λ f around b later args type id first units t state of_module alike good puts inside held enough typed.
+              at_depth.does f around b later args type id first units t state of_module (record { globals = alike.globals; interfaces = alike.interfaces }) good puts inside held enough typed;
+        })
 
     pub one_does : DoesAt m input whole p place stages (suc depth) number function head
     one_does =

@@ -3,4 +3,4 @@
 
 mod laws;
 
-pub use laws::{modules_end_as_shaders};
+pub use laws::modules_end_as_shaders;
