@@ -3,4 +3,5 @@ mod Lists
 mod Evaluated
 mod Stages
 mod Forms
+mod Quiet
 pub mod Whole

@@ -43,10 +43,11 @@ use Rattle.gsl_lower_follows.specs.Giving.{GivesValue}
 use Rattle.gsl_lower_law_expr.specs.Known.{choice_means, logic_means}
 use Rattle.gsl_lower_elements.specs.Indexes.{indexed_means}
 use Rattle.gsl_lower_reaching.proofs.Places.{global_place, interface_place, local_place, param_place}
-use Rattle.gsl_lower_law_evaluated.specs.Evaluating.{AllEvaluated, Asks, AsksFor, Evaluates, HasValue, IsEvaluated, IsTyped, NoVectors, lowered_in, meant_in}
+use Rattle.gsl_lower_law_evaluated.specs.Evaluating.{AllEvaluated, Asks, Evaluates, HasValue, IsEvaluated, IsTyped, NoVectors, lowered_in, meant_in}
 use Rattle.gsl_lower_law_evaluated.proofs.Evaluated.{place_evaluates, value_evaluates}
 use Rattle.gsl_lower_law_evaluated.proofs.Forms as forms
 use Rattle.gsl_lower_law_evaluated.proofs.Lists.{or_false}
+use Rattle.gsl_lower_law_evaluated.proofs.Quiet as quiet
 use Rattle.gsl_lower_law_evaluated.proofs.Stages.{stage_gives}
 
 module _ (m : Module) (input : Input) (whole : Sections) (f : Frame m input whole) (p : Program) (params : List (Direction × Ty)) (locals : List Ty) (call : ℕ → List Lower → Ty → Emit ℕ) (stage : StageVar → Value) (calls : Calls) (types : IsTyped p params locals) (vectors : NoVectors m input whole f) where
@@ -89,9 +90,7 @@ module _ (m : Module) (input : Input) (whole : Sections) (f : Frame m input whol
   -- ---- an expression by its form
 
   low_is : (e : Expr) → low e ≡ low_form (form_of e) (type_of e)
-  low_is e =
-      ap low (sym (roll-out-Expr e)) ∙ fold-roll-Expr (Ty → Lower) Lower (lowered_by lower) lowering.typed_by (out-Expr e)
-      ∙ ap (λ (g : Ty → Lower). g (type_of e)) (ap kinds_low (sym (roll-out-ExprKind (out-Expr e).kind)) ∙ fold-roll-ExprKind (Ty → Lower) Lower (lowered_by lower) lowering.typed_by (form_of e))
+  low_is = quiet.low_is m input whole f p params locals call stage calls types vectors
 
   write_is : (e : Expr) → is_writable around e ≡ may_write (form_of e)
   write_is e =
@@ -164,7 +163,7 @@ module _ (m : Module) (input : Input) (whole : Sections) (f : Frame m input whol
   row_told = forms.row_told m input whole f p params locals call stage calls types vectors
 
   by_kind : (e : Expr) (form : ExprKind-F ExprKind Expr) → Whole e form → IsSound count (type_of e) → AllAre (parts_of form) → HasType around form (type_of e) → AllByRecursion (MayBeRead around) (read_parts around form)
-      → AsksFor m input whole f p params locals call stage calls e form → Here form (type_of e)
+      → quiet.AsksHere m input whole f p params locals call stage calls types vectors e form → Here form (type_of e)
   unfolding lowers means
   by_kind e (ExprKind-F.Const v) w sound all is reads asks =
       value_evaluates m input whole f p around (type_of e) _ (lift (constant_by (shape_or (type_of e)) v)) (shader_run.given v) sound refl (forms.const_gives m input whole f p params locals call stage calls types vectors v (type_of e) sound is) (tell (ExprKind-F.Const v) (type_of e) all)
@@ -237,7 +236,7 @@ module _ (m : Module) (input : Input) (whole : Sections) (f : Frame m input whol
       value_evaluates m input whole f p around (type_of e) (traits.loud (traits.together (map known_of (map low items)))) _ _ sound refl (forms.comma_is m input whole f p params locals call stage calls types vectors items (type_of e) all reads is.1)
       (row_told items traits.loud (means_form setting (ExprKind-F.Comma items) (type_of e)) (tell (ExprKind-F.Comma items) (type_of e) all))
 
-  one_is : (e : Expr) → IsNode around e → IsSound count (type_of e) → Asks m input whole f p params locals call stage calls e → AllAre (parts_of (form_of e)) → Is e
+  one_is : (e : Expr) → IsNode around e → IsSound count (type_of e) → quiet.AsksHere m input whole f p params locals call stage calls types vectors e (form_of e) → AllAre (parts_of (form_of e)) → Is e
   one_is e node sound asks all =
       subst (λ (b : Bool). Evaluates m input whole f p around b (type_of e) (low e) (part e)) (sym (write_is e))
       (subst (λ (l : Lower). Evaluates m input whole f p around (may_write (form_of e)) (type_of e) l (part e)) (sym (low_is e))
@@ -246,7 +245,8 @@ module _ (m : Module) (input : Input) (whole : Sections) (f : Frame m input whol
 
   mutual
     evaluated : (e : Expr) → Throughout (IsNode around) e → Throughout (λ (x : Expr). IsSound count (type_of x)) e → Throughout (Asks m input whole f p params locals call stage calls) e → Is e
-    evaluated _ (Throughout.whole e node parts) (Throughout.whole _ sound sounds) (Throughout.whole _ ask asks) = one_is e node sound ask (all_evaluated (parts_of (form_of e)) parts sounds asks)
+    evaluated _ (Throughout.whole e node parts) (Throughout.whole _ sound sounds) (Throughout.whole _ ask asks) =
+        one_is e node sound (quiet.asked m input whole f p params locals call stage calls types vectors e (form_of e) node.type parts sounds ask) (all_evaluated (parts_of (form_of e)) parts sounds asks)
 
     all_evaluated : (es : List Expr) → ThroughoutAll (IsNode around) es → ThroughoutAll (λ (x : Expr). IsSound count (type_of x)) es → ThroughoutAll (Asks m input whole f p params locals call stage calls) es → AllAre es
     all_evaluated _ ThroughoutAll.none sounds asks = tt

@@ -10,11 +10,11 @@ use Rattle.gsl_types.specs.declared.ty.Ty.TheViews.{out-Ty}
 use Rattle.gsl_words.specs.declared.module.Module.{Module}
 use Rattle.gsl_values.specs.declared.value.Value.{Value}
 use Rattle.gsl_tree.specs.Around.{Around}
-use Rattle.gsl_tree.specs.Expressions.{boolean, is_runtime_layer}
+use Rattle.gsl_tree.specs.Expressions.{is_runtime_layer}
 use Rattle.gsl_tree.specs.Operations.{has_fixed_length, length_of}
 use Rattle.gsl_tree.specs.Paths.{is_writable}
 use Rattle.gsl_tree.specs.Shapes.{shape_of}
-use Rattle.gsl_tree.specs.Trees.{form_of, type_of}
+use Rattle.gsl_tree.specs.Trees.{Throughout, form_of, type_of}
 use Rattle.gsl_tree.specs.Values.{is_value_of}
 use Rattle.gsl_tree.specs.WellTyped.{AreWellTyped, IsVariableType, around_body, program_lists}
 use Rattle.gsl_tree.specs.declared.expr.Expr.{Expr}
@@ -27,13 +27,14 @@ use Rattle.gsl_meaning.specs.Expressions.{Calls, Meant}
 use Rattle.gsl_spv.specs.Sections.{Sections}
 use Rattle.gsl_lower_holders.specs.Flow.{Emit}
 use Rattle.gsl_lower_traits.specs.Traits.{is_selected, is_short}
+use Rattle.gsl_lower_traits_law.specs.Quiet.{MayBeThere}
 use Rattle.gsl_lower_traits_law.specs.Telling.{Tells}
 use Rattle.gsl_lower_expr.specs.Lowering as lowering
 use Rattle.gsl_lower_expr.specs.Parts.{Lower, stage_number}
-use Rattle.gsl_lower_follows.specs.Frames.{AreTyped, Frame}
+use Rattle.gsl_lower_follows.specs.Frames.{Frame}
 use Rattle.gsl_lower_follows.specs.Giving.{GivesValue}
 use Rattle.gsl_lower_law_built.specs.Places.{NoVector}
-use Rattle.gsl_lower_law_expr.specs.Known.{IsQuiet, IsShort}
+use Rattle.gsl_lower_law_expr.specs.Known.{IsShort}
 use Rattle.gsl_lower_reaching.specs.Reaching.{GivesPlace}
 
 -- what expressions of a program are lowered in, by what calls are lowered to
@@ -88,12 +89,12 @@ module _ (m : Module) (input : Input) (whole : Sections) (f : Frame m input whol
   abbrev pub HasValue : Expr → Type 0
   HasValue e = GivesValue m input whole f p around (low e).traits.splits (type_of e) (low e).value (means e).value
 
-  -- An operand that may be evaluated where it does not count is there at once.
-  abbrev pub QuietIn : Ty → Expr → Type 0
-  QuietIn t e = IsQuiet (AreTyped m input whole f p around) (is_value_of p.structs t) (means e).value
+  -- In an operand that may be evaluated where it does not count, the parts of variables, the members of blocks and the lengths are there.
+  abbrev pub AllThere : Expr → Type 0
+  AllThere = Throughout (MayBeThere around (meant_in p stage calls))
 
   -- What is asked of an expression by its form: of members of blocks, `.length()` of a runtime array and calls, that they do what they do where their parts do;
-  -- of an index that calls functions, or leads into a runtime array, too; of operands that may be evaluated where they do not count, that they are there at once; of built-in variables, that the module has them; of lengths,
+  -- of an index that calls functions, or leads into a runtime array, too; of the parts of variables in operands that may be evaluated where they do not count, that they are there; of built-in variables, that the module has them; of lengths,
   -- that they are words; of swizzles, that they have their words; of the type of what is assigned to, that it has a value; and of the
   -- arguments of a constructor, that they have values.
   abbrev pub AsksFor : Expr → ExprKind-F ExprKind Expr → Type 0
@@ -102,8 +103,8 @@ module _ (m : Module) (input : Input) (whole : Sections) (f : Frame m input whol
   AsksFor e (ExprKind-F.Index a i) = (((low i).traits.calls ≡ false) × (has_fixed_length (type_of a) ≡ true)) ⊎ (IsEvaluated a → IsEvaluated i → IsEvaluated e)
   AsksFor e (ExprKind-F.Swizzle a lanes) = lanes.count ≤ length lanes.words
   AsksFor e (ExprKind-F.Length a) = ((has_fixed_length (type_of a) ≡ true) × (length_of (type_of a) < 2 ^ 32)) ⊎ HasValue e
-  AsksFor e (ExprKind-F.Logic op a b) = IsShort op → is_short op (low b).traits ≡ false → QuietIn boolean b
-  AsksFor e (ExprKind-F.Choose test a b) = is_selected (type_of e) (low a).traits (low b).traits ≡ true → QuietIn (type_of e) a × QuietIn (type_of e) b
+  AsksFor e (ExprKind-F.Logic op a b) = IsShort op → is_short op (low b).traits ≡ false → AllThere b
+  AsksFor e (ExprKind-F.Choose test a b) = is_selected (type_of e) (low a).traits (low b).traits ≡ true → AllThere a × AllThere b
   AsksFor e (ExprKind-F.Assign a b) = (v : Value) × (is_value_of p.structs (type_of a) v ≡ true)
   AsksFor e (ExprKind-F.Call number args) = AllEvaluated args → HasValue e
   AsksFor e (ExprKind-F.Build args) = AllByRecursion (λ (arg : Expr). type_of arg ≢ ty.Void) args

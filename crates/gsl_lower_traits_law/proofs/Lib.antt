@@ -1,2 +1,3 @@
 mod Coming
 pub mod Told
+pub mod There

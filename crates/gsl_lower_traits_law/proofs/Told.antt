@@ -210,7 +210,7 @@ module _ (setting : Setting) where
   abbrev kinds_known : ExprKind → Ty → Traits
   kinds_known = fold-ExprKind (Ty → Traits) Known traits_by known_by
 
-  traits_are : (e : Expr) → (known e).traits ≡ known_form setting kinds_known known (form_of e) (type_of e)
+  pub traits_are : (e : Expr) → (known e).traits ≡ known_form setting kinds_known known (form_of e) (type_of e)
   traits_are e =
       ap (λ (k : Known). k.traits) (ap known (sym (roll-out-Expr e)) ∙ fold-roll-Expr (Ty → Traits) Known traits_by known_by (out-Expr e))
       ∙ ap (λ (f : Ty → Traits). f (type_of e)) (ap kinds_known (sym (roll-out-ExprKind (out-Expr e).kind)) ∙ fold-roll-ExprKind (Ty → Traits) Known traits_by known_by (form_of e))

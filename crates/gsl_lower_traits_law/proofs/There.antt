@@ -1,0 +1,240 @@
+-- What may be evaluated where it does not count is there.
+use Rattle.std.proofs.Common.{◌≡◌, refl, sym, ap, ap₂, ◌∙◌, subst, ℕ, zero, suc, Bool, true, false, ◌&&◌, not, List, [], ◌∷◌, length, map, slice_get, Some, if◌then◌else◌}
+use Rattle.std.specs.Prelude.{◌==◌, slice_index_or}
+use Rattle.gsl_types.specs.Known.{AreStructs, IsSound}
+use Rattle.gsl_types.specs.declared.ty.Scalar.TheVariants.{Bool as Boolean}
+use Rattle.gsl_types.specs.declared.ty.StructType.{StructType}
+use Rattle.gsl_types.specs.declared.ty.Ty.{Ty}
+use Rattle.gsl_values.specs.Choices.{answer}
+use Rattle.gsl_values.specs.Operators.{binary_answer, binary_word, is_free}
+use Rattle.gsl_values.specs.Vectors.{binary_each}
+use Rattle.gsl_values.specs.declared.op.BinaryOp.{BinaryOp}
+use Rattle.gsl_values.specs.declared.op.BinaryOp.TheVariants as op
+use Rattle.gsl_values.specs.declared.value.Value.{Value}
+use Rattle.gsl_values.specs.declared.value.Value.TheVariants.{Word}
+use Rattle.gsl_values.specs.declared.value.Value.TheOpen.{Value-F}
+use Rattle.gsl_values.specs.declared.value.Value.TheViews.{out-Value}
+use Rattle.gsl_tree.specs.Around.{Around}
+use Rattle.gsl_tree.specs.Expressions.{HasType, IsBinary, IsExpr, IsNode, boolean, types_of}
+use Rattle.gsl_tree.specs.Operations.{binary_value, binary_words, build_value, decides, is_signed, logic_word, spread, unary_value}
+use Rattle.gsl_tree.proofs.Nodes.{value_of_one}
+use Rattle.gsl_tree.specs.Trees.{Throughout, ThroughoutAll, form_of, parts_of, type_of}
+use Rattle.gsl_tree.specs.Values.{all_pass, components_in, is_scalar_layer, is_value_of, is_word_of, word_in, word_layer}
+use Rattle.gsl_tree.specs.declared.expr.Expr.{Expr}
+use Rattle.gsl_tree.specs.declared.expr.ExprKind.{ExprKind}
+use Rattle.gsl_tree.specs.declared.expr.ExprKind.TheOpen.{ExprKind-F}
+use Rattle.gsl_tree.specs.declared.expr.ExprKind.TheFolds.{fold-Expr, fold-ExprKind, map-ExprKind}
+use Rattle.gsl_tree.specs.declared.expr.LogicOp.{LogicOp}
+use Rattle.gsl_tree.specs.declared.expr.LogicOp.TheVariants as logic
+use Rattle.gsl_typed_law.proofs.Bounds.{truth_fits}
+use Rattle.gsl_typed_law.proofs.Built.{build_typed}
+use Rattle.gsl_typed_law.proofs.Components.{scalar_typed}
+use Rattle.gsl_typed_law.proofs.Conversions.{converted_same}
+use Rattle.gsl_typed_law.proofs.Operators.{binary_typed, unary_typed}
+use Rattle.gsl_meaning.specs.Accesses.{nothing}
+use Rattle.gsl_meaning.specs.Expressions.{Meant, Setting, in_order, means, means_by, typed_by}
+use Rattle.gsl_meaning.specs.Running.{Run, Got, behind, drawing, given, ◌>>=◌}
+use Rattle.gsl_meaning.specs.State.{State}
+use Rattle.gsl_lower_traits.specs.declared.traits.Traits.{Traits}
+use Rattle.gsl_lower_traits.specs.Traits.{Known, is_sure, known, known_by, together_on, traits_by, traits_of, valued, with}
+use Rattle.gsl_lower_traits_law.specs.Quiet.{AreHeld, AsksThere, IsThere, MayBeThere}
+use Rattle.gsl_lower_traits_law.proofs.Coming.{both_true, never}
+use Rattle.gsl_lower_traits_law.proofs.Told.{means_form, part_is, traits_are}
+
+-- ---- operators that draw nothing
+
+sure_free : (op : BinaryOp) (signed : Bool) (a b : ℕ) → is_sure op ≡ true → is_free op signed a b ≡ false
+sure_free op.Div signed a b sure = absurd (let z : false ≡ true = sure in cc)
+sure_free op.Mod signed a b sure = absurd (let z : false ≡ true = sure in cc)
+sure_free op.Shl signed a b sure = absurd (let z : false ≡ true = sure in cc)
+sure_free op.Shr signed a b sure = absurd (let z : false ≡ true = sure in cc)
+sure_free _ signed a b sure = refl
+
+each_left : (op : BinaryOp) (signed : Bool) → is_sure op ≡ true → (xs ys choices : List ℕ) → (binary_each op signed xs ys choices).1 ≡ choices
+unfolding binary_answer
+each_left op signed sure [] ys choices = refl
+each_left op signed sure (x ∷ xs) [] choices = refl
+each_left op signed sure (x ∷ xs) (y ∷ ys) choices =
+    each_left op signed sure xs ys (binary_answer op signed x y choices).1 ∙ ap (λ free. (answer free (binary_word op signed x y) choices).1) (sure_free op signed x y sure)
+
+words_left : (op : BinaryOp) (signed : Bool) (v w : Value) (choices : List ℕ) → is_sure op ≡ true → (binary_words op signed (components_in v) (components_in w) choices).1 ≡ choices
+words_left op signed v w choices sure =
+    each_left op signed sure (spread (length (components_in w)) (components_in v)) (spread (length (components_in v)) (components_in w)) choices
+
+value_left : (op : BinaryOp) (signed : Bool) (v w : Value) (choices : List ℕ) → is_sure op ≡ true → (binary_value op signed v w choices).1 ≡ choices
+value_left op.Equal signed v w choices sure = refl
+value_left op.Unequal signed v w choices sure = refl
+value_left op.Add signed v w choices sure = words_left op.Add signed v w choices sure
+value_left op.Sub signed v w choices sure = words_left op.Sub signed v w choices sure
+value_left op.Mul signed v w choices sure = words_left op.Mul signed v w choices sure
+value_left op.Div signed v w choices sure = words_left op.Div signed v w choices sure
+value_left op.Mod signed v w choices sure = words_left op.Mod signed v w choices sure
+value_left op.Shl signed v w choices sure = words_left op.Shl signed v w choices sure
+value_left op.Shr signed v w choices sure = words_left op.Shr signed v w choices sure
+value_left op.And signed v w choices sure = words_left op.And signed v w choices sure
+value_left op.Or signed v w choices sure = words_left op.Or signed v w choices sure
+value_left op.Xor signed v w choices sure = words_left op.Xor signed v w choices sure
+value_left op.Less signed v w choices sure = words_left op.Less signed v w choices sure
+value_left op.LessEq signed v w choices sure = words_left op.LessEq signed v w choices sure
+value_left op.Greater signed v w choices sure = words_left op.Greater signed v w choices sure
+value_left op.GreaterEq signed v w choices sure = words_left op.GreaterEq signed v w choices sure
+
+-- ---- values
+
+index_or : (items : List Value) (number : ℕ) (v : Value) → slice_get items number ≡ Some v → slice_index_or items number nothing ≡ v
+index_or [] number v is = absurd cc
+index_or (one ∷ items) zero v is = cc
+index_or (one ∷ items) (suc number) v is = index_or items number v is
+
+truth_word : (structs : List StructType) (v : Value) → is_value_of structs boolean v ≡ true → is_word_of Boolean (word_in v) ≡ true
+truth_word structs v fits = by (out-Value v) (sym (value_of_one structs Boolean v) ∙ fits)
+  where
+    by : (layer : Value-F Value) → is_scalar_layer Boolean layer ≡ true → is_word_of Boolean (word_layer layer) ≡ true
+    by (Value-F.Word word) is = is
+    by (Value-F.Many parts) is = absurd (let z : false ≡ true = is in cc)
+
+joined_word : (op : LogicOp) (a b : ℕ) → is_word_of Boolean b ≡ true → is_word_of Boolean (logic_word op a b) ≡ true
+joined_word logic.And a b fits = fits
+joined_word logic.Or a b fits = fits
+joined_word logic.Xor a b fits = truth_fits (not (a == b))
+
+-- ---- every kind, over whatever says what is known of its parts
+
+module _ (around : Around) (are : AreStructs around.structs) (setting : Setting) (kinds_as : ExprKind → Ty → Traits) (known_as : Expr → Known) where
+  abbrev part : Expr → Meant
+  part = fold-Expr (Ty → Meant) Meant (means_by setting) typed_by
+
+  -- a part that may be evaluated where it does not count is there
+  pub record IsQuiet (e : Expr) : Type 0 where
+    pub sound : IsSound (length around.structs) (type_of e)
+    pub there : (known_as e).traits.quiet ≡ true → IsThere around (type_of e) (part e).value
+
+  abbrev pub AllQuiet : List Expr → Type 0
+  AllQuiet [] = Unit {0}
+  AllQuiet (e ∷ es) = IsQuiet e × AllQuiet es
+
+  abbrev Goal : ExprKind-F ExprKind Expr → Ty → Type 0
+  Goal form t = (traits_by (map-ExprKind ExprKind Expr (Ty → Traits) Known kinds_as known_as form) t).quiet ≡ true → IsThere around t (means_form setting form t).value
+
+  -- what is there, and then
+  there_then : (t u : Ty) (x : Run Value) (next : Value → Run Value) → IsThere around t x → ((v : Value) → is_value_of around.structs t v ≡ true → IsThere around u (next v)) → IsThere around u (x >>= next)
+  there_then t u x next first more s units held =
+      let a = first s units held in
+      let b = more a.0 a.2 s units held in
+      (b.0, ap (λ ran. behind ran next) a.1 ∙ b.1, b.2)
+
+  given_there : (t : Ty) (v : Value) → is_value_of around.structs t v ≡ true → IsThere around t (given v)
+  given_there t v fits s units held = (v, refl, fits)
+
+  if_there : (t : Ty) (b : Bool) (x y : Run Value) → IsThere around t x → IsThere around t y → IsThere around t (if b then x else y)
+  if_there t true x y first second = first
+  if_there t false x y first second = second
+
+  drawn_there : (op : BinaryOp) (signed : Bool) (a b t : Ty) (v w : Value) → is_sure op ≡ true → IsSound (length around.structs) a → IsSound (length around.structs) b → IsBinary around op a b t → is_value_of around.structs a v ≡ true → is_value_of around.structs b w ≡ true
+      → IsThere around t (drawing (binary_value op signed v w))
+  drawn_there op signed a b t v w sure sound_a sound_b is fits_v fits_w s units held =
+      ((binary_value op signed v w s.choices).0, ap (λ c. Got (binary_value op signed v w s.choices).0 (record s { choices = c }) units) (value_left op signed v w s.choices sure),
+      (binary_typed around op signed a b t v w s.choices sound_a sound_b is fits_v fits_w held.choices).typed)
+
+  -- ---- in a row
+
+  abbrev AllTrue : List Expr → Type 0
+  AllTrue [] = Unit {0}
+  AllTrue (e ∷ es) = ((known_as e).traits.quiet ≡ true) × AllTrue es
+
+  row_quiet : (so_far : Traits) (es : List Expr) → (together_on so_far (map known_as es)).quiet ≡ true → (so_far.quiet ≡ true) × AllTrue es
+  row_quiet so_far [] e = (e, tt)
+  row_quiet so_far (one ∷ es) e =
+      let more = row_quiet (with so_far (known_as one).traits) es e in
+      let here = both_true so_far.quiet (known_as one).traits.quiet more.0 in
+      (here.0, (here.1, more.1))
+
+  row_there : (es : List Expr) → AllQuiet es → AllTrue es → (s : State) (units : ℕ) → AreHeld around s → (vs : List Value) × (in_order (map part es) s units ≡ Got vs s units) × (all_pass (map (is_value_of around.structs) (types_of es)) vs ≡ true)
+  row_there [] all quiet s units held = ([], refl, refl)
+  row_there (e ∷ es) all quiet s units held =
+      let first = all.0.there quiet.0 s units held in
+      let rest = row_there es all.1 quiet.1 s units held in
+      (first.0 ∷ rest.0, ap (λ ran. behind ran (λ v. in_order (map part es) >>= (λ vs. given (v ∷ vs)))) first.1 ∙ ap (λ ran. behind ran (λ vs. given (first.0 ∷ vs))) rest.1, ap₂ (λ a b. a && b) first.2 rest.2)
+
+  pub by_form : (e : Expr) (form : ExprKind-F ExprKind Expr) → part e ≡ means_form setting form (type_of e) → AllQuiet (parts_of form) → HasType around form (type_of e) → AsksThere around setting e form → Goal form (type_of e)
+  unfolding means
+  by_form e (ExprKind-F.Const v) w all is asks q = given_there (type_of e) v is.0
+  by_form e (ExprKind-F.Local n) w all is asks q = λ s units held. let h = held.locals n (type_of e) is in (h.0, ap (λ v. Got v s units) (index_or s.locals n h.0 h.1), h.2)
+  by_form e (ExprKind-F.Global n) w all is asks q = λ s units held. let h = held.globals n (type_of e) is in (h.0, ap (λ v. Got v s units) (index_or s.globals n h.0 h.1), h.2)
+  by_form e (ExprKind-F.Param n) w all is asks q = λ s units held. let h = held.params n (type_of e) is in (h.0, ap (λ v. Got v s units) (index_or s.params n h.0 h.1), h.2)
+  by_form e (ExprKind-F.Interface n) w all is asks q = λ s units held. let h = held.interfaces n (type_of e) is in (h.0, ap (λ v. Got v s units) (index_or s.interfaces n h.0 h.1), h.2)
+  by_form e (ExprKind-F.Stage var) w all is asks q = given_there (type_of e) (setting.stage_value var) (subst (λ t. is_value_of around.structs t (setting.stage_value var) ≡ true) is.1 asks)
+  by_form e (ExprKind-F.BlockMember block n) w all is asks q = subst (λ (x : Meant). IsThere around (type_of e) x.value) w asks
+  by_form e (ExprKind-F.Member a n) w all is asks q = subst (λ (x : Meant). IsThere around (type_of e) x.value) w asks
+  by_form e (ExprKind-F.Index a i) w all is asks q = subst (λ (x : Meant). IsThere around (type_of e) x.value) w asks
+  by_form e (ExprKind-F.Swizzle a lanes) w all is asks q = subst (λ (x : Meant). IsThere around (type_of e) x.value) w asks
+  by_form e (ExprKind-F.Length a) w all is asks q = subst (λ (x : Meant). IsThere around (type_of e) x.value) w asks
+  by_form e (ExprKind-F.Unary op a) w all is asks q =
+      there_then (type_of a) (type_of e) (part a).value (λ v. given (unary_value op v)) (all.0.there q) (λ v fits. given_there (type_of e) (unary_value op v) (unary_typed around.structs op (type_of a) (type_of e) v is fits))
+  by_form e (ExprKind-F.Binary op a b) w all is asks q =
+      let both = both_true _ (is_sure op) q in
+      let each = both_true (known_as a).traits.quiet (known_as b).traits.quiet both.0 in
+      there_then (type_of a) (type_of e) (part a).value (λ x. (part b).value >>= (λ y. drawing (binary_value op (is_signed (part a).ty) x y))) (all.0.there each.0)
+      (λ x fits_x. there_then (type_of b) (type_of e) (part b).value (λ y. drawing (binary_value op (is_signed (part a).ty) x y)) (all.1.0.there each.1)
+      (λ y fits_y. drawn_there op (is_signed (part a).ty) (type_of a) (type_of b) (type_of e) x y both.1 all.0.sound all.1.0.sound is fits_x fits_y))
+  by_form e (ExprKind-F.Logic op a b) w all is asks q =
+      let each = both_true (known_as a).traits.quiet (known_as b).traits.quiet (both_true _ true q).0 in
+      there_then (type_of a) (type_of e) (part a).value (λ x. if decides op (word_in x) then given x else (part b).value >>= (λ y. given (Word (logic_word op (word_in x) (word_in y))))) (all.0.there each.0)
+      (λ x fits_x. if_there (type_of e) (decides op (word_in x)) (given x) ((part b).value >>= (λ y. given (Word (logic_word op (word_in x) (word_in y)))))
+      (given_there (type_of e) x (subst (λ t. is_value_of around.structs t x ≡ true) (is.0 ∙ sym is.2) fits_x))
+      (there_then (type_of b) (type_of e) (part b).value (λ y. given (Word (logic_word op (word_in x) (word_in y)))) (all.1.0.there each.1)
+      (λ y fits_y. given_there (type_of e) (Word (logic_word op (word_in x) (word_in y)))
+      (subst (λ t. is_value_of around.structs t (Word (logic_word op (word_in x) (word_in y))) ≡ true) (sym is.2)
+      (scalar_typed around.structs Boolean (logic_word op (word_in x) (word_in y)) (joined_word op (word_in x) (word_in y) (truth_word around.structs y (subst (λ t. is_value_of around.structs t y ≡ true) is.1 fits_y))))))))
+  by_form e (ExprKind-F.Choose test a b) w all is asks q =
+      let first = both_true (known_as test).traits.quiet _ q in
+      let last = both_true _ (known_as b).traits.quiet first.1 in
+      let middle = both_true _ (known_as a).traits.quiet last.0 in
+      there_then (type_of test) (type_of e) (part test).value (λ v. if word_in v == 0 then (part b).value else (part a).value) (all.0.there first.0)
+      (λ v fits. if_there (type_of e) (word_in v == 0) (part b).value (part a).value (subst (λ t. IsThere around t (part b).value) is.2 (all.1.1.0.there last.1)) (subst (λ t. IsThere around t (part a).value) is.1 (all.1.0.there middle.1)))
+  by_form e (ExprKind-F.Assign a b) w all is asks q = never _ q
+  by_form e (ExprKind-F.Update op a b) w all is asks q = never _ q
+  by_form e (ExprKind-F.Step op a) w all is asks q = absurd (let z : false ≡ true = q in cc)
+  by_form e (ExprKind-F.Call n args) w all is asks q = absurd (let z : false ≡ true = q in cc)
+  by_form e (ExprKind-F.Built which args) w all is asks q = absurd (let z : false ≡ true = q in cc)
+  by_form e (ExprKind-F.Build args) w all is asks q = λ s units held.
+      let quiet = row_quiet (valued false false true) args (both_true _ _ q).0 in
+      let row = row_there args all quiet.1 s units held in
+      (build_value (type_of e) row.0, ap (λ ran. behind ran (λ vs. given (build_value (type_of e) vs))) row.1, build_typed around are args row.0 row.2 (type_of e) is)
+  by_form e (ExprKind-F.Convert a) w all is asks q = λ s units held.
+      let x = all.0.there q s units held in
+      (x.0, x.1, sym (converted_same around.structs (type_of a) (type_of e) x.0 is.0) ∙ x.2)
+  by_form e (ExprKind-F.Comma items) w all is asks q = absurd (let z : false ≡ true = q in cc)
+
+-- ---- by what is known of trees
+
+module _ (around : Around) (are : AreStructs around.structs) (setting : Setting) where
+  abbrev kinds_known : ExprKind → Ty → Traits
+  kinds_known = fold-ExprKind (Ty → Traits) Known traits_by known_by
+
+  abbrev Here : Expr → Type 0
+  Here = IsQuiet around are setting kinds_known known
+
+  abbrev AllHere : List Expr → Type 0
+  AllHere = AllQuiet around are setting kinds_known known
+
+  one_there : (e : Expr) → IsNode around e → IsSound (length around.structs) (type_of e) → MayBeThere around setting e → AllHere (parts_of (form_of e)) → Here e
+  one_there e node sound asks all = record {
+    sound = sound;
+    there = λ q.
+        subst (λ (x : Meant). IsThere around (type_of e) x.value) (sym (part_is setting e))
+        (by_form around are setting kinds_known known e (form_of e) (part_is setting e) all node.type asks (ap (λ (k : Traits). k.quiet) (sym (traits_are setting e)) ∙ q));
+  }
+
+  mutual
+    there : (e : Expr) → Throughout (IsNode around) e → Throughout (λ (x : Expr). IsSound (length around.structs) (type_of x)) e → Throughout (MayBeThere around setting) e → Here e
+    there _ (Throughout.whole e node parts) (Throughout.whole _ sound sounds) (Throughout.whole _ ask asks) = one_there e node sound ask (all_there (parts_of (form_of e)) parts sounds asks)
+
+    all_there : (es : List Expr) → ThroughoutAll (IsNode around) es → ThroughoutAll (λ (x : Expr). IsSound (length around.structs) (type_of x)) es → ThroughoutAll (MayBeThere around setting) es → AllHere es
+    all_there _ ThroughoutAll.none sounds asks = tt
+    all_there _ (ThroughoutAll.more e es is rest) (ThroughoutAll.more _ _ sound sounds) (ThroughoutAll.more _ _ ask asks) = (there e is sound ask, all_there es rest sounds asks)
+
+pub quiet_there : (around : Around) (setting : Setting) (e : Expr) → AreStructs around.structs → IsExpr around e → Throughout (λ (x : Expr). IsSound (length around.structs) (type_of x)) e → Throughout (MayBeThere around setting) e → (traits_of e).quiet ≡ true
+    → IsThere around (type_of e) (means setting e).value
+unfolding means traits_of
+quiet_there around setting e are is sound asks quiet = (there around are setting e is sound asks).there quiet
