@@ -1,6 +1,7 @@
 -- Each step of lowering leaves what belongs in each section there, and ids apart.
-use Rattle.std.proofs.Common.{◌≡◌, ℕ, ◌+◌, Bool, true, false, cond, List, [], ◌∷◌, ◌++◌, Option, Some, None, sym, ap, subst, arith}
-use Rattle.std.specs.Prelude.{nat_le}
+use Rattle.std.proofs.Common.{◌≡◌, ℕ, ◌+◌, ◌≤◌, Bool, true, false, cond, List, [], ◌∷◌, ◌++◌, Option, Some, None, refl, sym, ap, ◌∙◌, subst, arith}
+use Rattle.std.specs.Prelude.{◌==◌, nat_le}
+use Rattle.std.proofs.lemmas.Bool.{eqb-true}
 use Rattle.std.specs.List.{AllByRecursion}
 use Rattle.gsl_words.specs.declared.module.Instr.{Instr}
 use Rattle.gsl_instr.specs.Forms.{form_of}
@@ -28,10 +29,10 @@ use Rattle.gsl_fitting_types.specs.Making.{AreSorted, Sorts, Stays}
 -- ---- in a row
 
 pub stays_same : (s : Sections) → Stays s s
-stays_same s = record { extends = extends_same s; sorted = λ h. h }
+stays_same s = record { extends = extends_same s; sorted = λ h. h; anew = λ id low. refl }
 
 pub stays_then : {a b c : Sections} → Stays a b → Stays b c → Stays a c
-stays_then p q = record { extends = extends_then p.extends q.extends; sorted = λ h. q.sorted (p.sorted h) }
+stays_then p q = record { extends = extends_then p.extends q.extends; sorted = λ h. q.sorted (p.sorted h); anew = λ id low. q.anew id (let more = p.extends.last in omega (arith, low, more)) ∙ p.anew id low }
 
 pub sorts_behind : {B : Type 0} {a b : Sections} → Stays a b → (built : Built B) → Sorts b built → Sorts a built
 sorts_behind p (Made x c) q = stays_then p q
@@ -62,7 +63,16 @@ putting_sorts op operands s none = record {
     globals = h.globals;
     apart = apart_same (s.last + 1) (all_of s) _ (λ id. let e = put_count s (instr op operands) id in let z : one_if (is_id id (result (read (instr op operands)))) ≡ 0 = ap (λ o. one_if (is_id id o)) none in omega (arith, e, z)) h.apart;
   };
+  anew = λ id low. let e = put_count s (instr op operands) id in let z : one_if (is_id id (result (read (instr op operands)))) ≡ 0 = ap (λ o. one_if (is_id id o)) none in omega (arith, e, z);
 }
+
+-- an id that was taken is not the next one
+taken_before : (id last : ℕ) → id ≤ last → one_if ((last + 1) == id) ≡ 0
+taken_before id last low = by ((last + 1) == id) refl
+  where
+    by : (b : Bool) → ((last + 1) == id) ≡ b → one_if b ≡ 0
+    by true e = let same = eqb-true (last + 1) id e in absurd (omega (arith, low, same))
+    by false e = refl
 
 put_one : (op : ℕ) (operands : List ℕ) (type : ℕ) (s : Sections) → result (read (instr op (type ∷ (s.last + 1) ∷ operands))) ≡ Some (s.last + 1) → Stays s (call.put op (type ∷ (s.last + 1) ∷ operands) (record s { last = s.last + 1 }))
 put_one op operands type s named = record {
@@ -75,6 +85,11 @@ put_one op operands type s named = record {
     globals = h.globals;
     apart = apart_more (s.last + 1) (all_of s) _ (s.last + 1) (omega arith) (omega arith) (λ id. subst (λ o. count_of id (all_of (call.put op (type ∷ (s.last + 1) ∷ operands) (record s { last = s.last + 1 }))) ≡ count_of id (all_of s) + one_if (is_id id o)) named (put_count s (instr op (type ∷ (s.last + 1) ∷ operands)) id)) h.apart;
   };
+  anew = λ id low.
+      let e : count_of id (all_of (call.put op (type ∷ (s.last + 1) ∷ operands) (record s { last = s.last + 1 }))) ≡ count_of id (all_of s) + one_if ((s.last + 1) == id) =
+          subst (λ o. count_of id (all_of (call.put op (type ∷ (s.last + 1) ∷ operands) (record s { last = s.last + 1 }))) ≡ count_of id (all_of s) + one_if (is_id id o)) named (put_count s (instr op (type ∷ (s.last + 1) ∷ operands)) id) in
+      let z = taken_before id s.last low in
+      omega (arith, e, z);
 }
 
 -- one that gives a value
@@ -105,11 +120,19 @@ declare_stays d s may h = record {
 
 pub intern_stays : (d : Declaration) (s : Sections) → Declares d → Stays s (intern d s).sections
 unfolding intern
-intern_stays d s may = record { extends = extends_intern d s; sorted = λ h. by h (id_of d s.globals) }
+intern_stays d s may = record { extends = extends_intern d s; sorted = λ h. by h (id_of d s.globals); anew = λ id low. new id low (id_of d s.globals) }
   where
     by : AreSorted s → (found : Option ℕ) → AreSorted (known found d s).sections
     by h (Some id) = h
     by h None = declare_stays d s may h
+
+    new : (id : ℕ) → id ≤ s.last → (found : Option ℕ) → count_of id (all_of (known found d s).sections) ≡ count_of id (all_of s)
+    new id low (Some there) = refl
+    new id low None =
+        let e : count_of id (all_of (call.declare d s).sections) ≡ count_of id (all_of s) + one_if ((s.last + 1) == id) =
+            subst (λ o. count_of id (all_of (call.declare d s).sections) ≡ count_of id (all_of s) + one_if (is_id id o)) (may.named (s.last + 1)) (declared_count s (defining d (s.last + 1)) id) in
+        let z = taken_before id s.last low in
+        omega (arith, e, z)
 
 -- what is declared once
 pub intern_sorts : (d : Declaration) (s : Sections) → Declares d → Sorts s (id_by (intern d) s)
@@ -123,8 +146,12 @@ intern_sorts d s may = by (nat_le (intern d s).sections.last MOST_IDS)
 
 import_stays : (s : Sections) → Stays s (glsl_set s).sections
 unfolding form_of
-import_stays s = record { extends = extends_glsl_set s; sorted = λ h. by h h.set h.imports }
+import_stays s = record { extends = extends_glsl_set s; sorted = λ h. by h h.set h.imports; anew = λ id low. new id low (imported s.imports) }
   where
+    new : (id : ℕ) → id ≤ s.last → (found : Option ℕ) → count_of id (all_of (with_import found s).sections) ≡ count_of id (all_of s)
+    new id low (Some there) = refl
+    new id low None = let e = import_count s id in let z = taken_before id s.last low in omega (arith, e, z)
+
     by : AreSorted s → (set : Option ℕ) → s.imports ≡ imports_of set → AreSorted (with_import (imported s.imports) s).sections
     by h (Some id) is = subst (λ o. AreSorted (with_import o s).sections) (sym (ap imported is)) h
     by h None is = subst (λ o. AreSorted (with_import o s).sections) (sym (ap imported is)) (record {

@@ -21,7 +21,7 @@ use Rattle.gsl_spv.specs.declared.plain.PlainType.TheVariants as plain
 use Rattle.gsl_lower_values.specs.Building.{Built, Made, Full}
 use Rattle.gsl_lower_values.specs.Types.{plain_scalar}
 use Rattle.gsl_fitting.specs.Fits.{Frame, Sits, is_known}
-use Rattle.gsl_fitting_sections.specs.Sections.{AreApart, declares}
+use Rattle.gsl_fitting_sections.specs.Sections.{AreApart, count_of, declares}
 use Rattle.gsl_fitting_steps.specs.Keeping.{Goes}
 
 -- ---- sections
@@ -35,10 +35,11 @@ pub record AreSorted (s : Sections) : Type 0 where
   pub globals : AllByRecursion (λ i. declares (kind (read i)) ≡ true) s.globals
   pub apart : AreApart (s.last + 1) (all_of s)
 
--- What a builder held stays in its sections, and they stay sorted.
+-- What a builder held stays in its sections, they stay sorted, and what is defined are new ids.
 pub record Stays (before after : Sections) : Type 0 where
   pub extends : Extends before after
   pub sorted : AreSorted before → AreSorted after
+  pub anew : (id : ℕ) → id ≤ before.last → count_of id (all_of after) ≡ count_of id (all_of before)
 
 -- A step leaves sections so, where it comes to something.
 abbrev pub Sorts : {A : Type 0} → Sections → Built A → Type 0

@@ -1,1 +1,1 @@
-mod Ranked
+pub mod Ranked

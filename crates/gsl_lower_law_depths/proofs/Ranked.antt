@@ -1,11 +1,10 @@
 -- Functions of a program, by the depth of their calls.
-use Rattle.std.proofs.Common.{◌≡◌, ◌≢◌, refl, sym, ap, ◌∙◌, subst, inl, inr, ◌⊎◌, ℕ, zero, suc, ◌<◌, Bool, List, [], map, length, slice_get, Option, Some, arith}
+use Rattle.std.proofs.Common.{◌≡◌, sym, ap, ◌∙◌, subst, inl, inr, ℕ, zero, suc, ◌<◌, Bool, List, map, length, slice_get, Option, Some, arith}
 use Rattle.gsl_base.specs.declared.input.Input.{Input}
 use Rattle.gsl_types.specs.Known.{IsSound}
-use Rattle.gsl_types.specs.declared.ty.Ty.{Ty}
 use Rattle.gsl_types.specs.declared.ty.Ty.TheFolds.{fold-roll-Ty}
 use Rattle.gsl_types.specs.declared.ty.Ty.TheOpen.{Ty-F}
-use Rattle.gsl_types.specs.declared.ty.Ty.TheVariants.{Void, rolls-Void}
+use Rattle.gsl_types.specs.declared.ty.Ty.TheVariants.{rolls-Void}
 use Rattle.gsl_types.specs.Known.{sound, sound_kind}
 use Rattle.gsl_words.specs.declared.module.Module.{Module}
 use Rattle.gsl_values.specs.declared.value.Value.{Value}
@@ -79,8 +78,10 @@ module _ (m : Module) (input : Input) (whole : Sections) (p : Program) (place : 
     -- all functions have the program's variables
     outside : FunctionDoes m input whole p place stages (globals_of p) function head.params (result_type (slice_get p.prototypes number)) (λ args. spending (running_body p.structs s.tree.locals (result_type (slice_get p.prototypes number)) run args))
     outside = subst (λ t. FunctionDoes m input whole p place stages (globals_of p) function head.params t (λ args. spending (running_body p.structs s.tree.locals t run args))) (sym result_is)
-        (record { does = λ f around b later args type id first units t state of_module alike good puts inside held enough typed.
-            at_depth.does f around b later args type id first units t state of_module (record { globals = alike.globals; interfaces = alike.interfaces }) good puts inside held enough typed })
+        (record {
+          does = λ f around b later args type id first units t state of_module alike good puts inside held enough typed.
+              at_depth.does f around b later args type id first units t state of_module (record { globals = alike.globals; interfaces = alike.interfaces }) good puts inside held enough typed;
+        })
 
     pub one_does : DoesAt m input whole p place stages (suc depth) number function head
     one_does =
@@ -88,8 +89,8 @@ module _ (m : Module) (input : Input) (whole : Sections) (p : Program) (place : 
         (call_does m input whole p place stages (globals_of p) function number depth head.params s.tree s.found outside)
 
   pub at_each_depth : AllStand m input whole p place stages rank → (depth number : ℕ) → rank number < depth → CallsDo m input whole p place stages depth number
-  at_each_depth all zero number less = absurd (omega (arith, less))
-  at_each_depth all (suc depth) number less head function named there =
+  at_each_depth all zero number less = λ head function named there. absurd (omega (arith, less))
+  at_each_depth all (suc depth) number less = λ head function named there.
       one_does depth number function head named (all number function head named there) (λ other below. at_each_depth all depth other (omega (arith, less, below)))
 
 pub ranked_do : (m : Module) (input : Input) (whole : Sections) (p : Program) (place : FlowPlace) (stages : List (Option Value)) (rank : ℕ → ℕ) (depth number : ℕ) → Valid m → Written m whole → AllStand m input whole p place stages rank → rank number < depth → CallsDo m input whole p place stages depth number

@@ -3,4 +3,4 @@
 
 mod laws;
 
-pub use laws::{functions_do_at_each_depth};
+pub use laws::functions_do_at_each_depth;

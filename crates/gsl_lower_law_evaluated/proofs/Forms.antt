@@ -30,7 +30,7 @@ use Rattle.gsl_tree.specs.Constants.{constant_of, gives, kind_gives, kind_standi
 use Rattle.gsl_tree.proofs.Steps.{gives-Const, gives_opens, standing-Const, standing_opens}
 use Rattle.gsl_tree.specs.Expressions as tree
 use Rattle.gsl_tree.specs.Expressions.{HasType, IsBinary, IsBuild, IsBuilt, IsConst, IsIndex, IsSwizzle, IsUnary, MayBeRead, boolean, element_of, is_in_range, is_in_range_kind, is_runtime_layer, shapes_of}
-use Rattle.gsl_tree.specs.Operations.{binary_value, has_fixed_length, is_fixed_kind, is_signed, length_kind, length_of}
+use Rattle.gsl_tree.specs.Operations.{binary_value, decides, has_fixed_length, is_fixed_kind, is_postfix, is_signed, length_kind, length_of, step_value}
 use Rattle.gsl_tree.specs.Paths.{is_writable, kind_in, repeats, writable_by}
 use Rattle.gsl_tree.specs.Shapes.{Shape, is_integer, shape_kind, shape_of}
 use Rattle.gsl_tree.specs.Trees.{form_of, type_of}
@@ -46,11 +46,12 @@ use Rattle.gsl_tree.specs.declared.expr.ExprKind.TheOpen.{ExprKind-F}
 use Rattle.gsl_tree.specs.declared.expr.LogicOp.{LogicOp}
 use Rattle.gsl_tree.specs.declared.expr.LogicOp.TheVariants as logic
 use Rattle.gsl_tree.specs.declared.expr.StageVar.{StageVar}
+use Rattle.gsl_tree.specs.declared.expr.StepOp.{StepOp}
 use Rattle.gsl_tree.specs.declared.program.Program.{Program}
 use Rattle.gsl_typed_law.proofs.Builtins.{builtin_typed}
 use Rattle.gsl_typed_law.proofs.Components.{scalar_typed, shape_again, some_component}
 use Rattle.gsl_typed_law.proofs.Bounds.{integer_fits}
-use Rattle.gsl_typed_law.proofs.Conversions.{converted_same}
+use Rattle.gsl_typed_law.proofs.Conversions.{converted_same, step_typed}
 use Rattle.gsl_typed_law.proofs.Operators.{binary_typed, unary_typed}
 use Rattle.gsl_meaning.specs.Accesses as access
 use Rattle.gsl_meaning.specs.Expressions as meaning
@@ -96,6 +97,11 @@ use Rattle.gsl_lower_reaching.proofs.Places.{member_place, swizzle_place}
 use Rattle.gsl_lower_elements.specs.Indexes.{Indexes, indexed_means}
 use Rattle.gsl_lower_elements.proofs.Literal.{literal_place}
 use Rattle.gsl_lower_indexes.proofs.Computing.{computed_place}
+use Rattle.gsl_lower_assigns.specs.Assigning.{assign_means}
+use Rattle.gsl_lower_assigns.proofs.Assigned.{place_assigned}
+use Rattle.gsl_lower_updates.specs.Updating.{step_means, update_means}
+use Rattle.gsl_lower_updates.proofs.Stepping.{place_stepped}
+use Rattle.gsl_lower_updates.proofs.Updating.{place_updated}
 use Rattle.gsl_lower_law_evaluated.specs.Evaluating.{Evaluates, IsTyped, NoVectors, lowered_in, meant_in}
 use Rattle.gsl_lower_law_evaluated.proofs.Evaluated.{value_evaluates}
 use Rattle.gsl_lower_law_evaluated.proofs.Facts.{at_place, conversion_of, element_real, index_shape, is_false, plain_real, scalar_shape, shaped_read, shaped_real, struct_real, value_read, value_real}
@@ -331,17 +337,22 @@ module _ (m : Module) (input : Input) (whole : Sections) (f : Frame m input whol
   abbrev choice_run : Expr → Expr → Expr → Run Value
   choice_run test a b = choice_means (part test).value (part a).value (part b).value
 
-  pub logic_is : (op : LogicOp) (a b : Expr) → Is a → Is b → type_of a ≡ boolean → type_of b ≡ boolean → (is_short op (low b).traits ≡ false → Quiet boolean b)
+  pub logic_is : (op : LogicOp) (a b : Expr) → Is a → Is b → type_of a ≡ boolean → type_of b ≡ boolean → (IsShort op → is_short op (low b).traits ≡ false → Quiet boolean b)
       → Gives ((low a).traits.splits || (low b).traits.splits || is_short op (low b).traits) boolean (logical op (low a) (low b)) (logic_means op (part a).value (part b).value)
   logic_is op a b x y first second quiet = by (is_short op (low b).traits) refl
     where
+      decides_or : (which : LogicOp) (word : ℕ) → is_short which (low b).traits ≡ false → (IsShort which → is_short which (low b).traits ≡ false → Quiet boolean b) → (decides which word ≡ false) ⊎ Quiet boolean b
+      decides_or logic.And word e quiet = inr (quiet tt e)
+      decides_or logic.Or word e quiet = inr (quiet tt e)
+      decides_or logic.Xor word e quiet = inl refl
+
       by : (short : Bool) → is_short op (low b).traits ≡ short → Gives (either a b || short) boolean (if short then Parts.short op (low a) (low b) else Parts.both op (low a) (low b)) (logic_means op (part a).value (part b).value)
       by true e =
           subst (λ splits. Gives splits boolean (Parts.short op (low a) (low b)) (logic_means op (part a).value (part b).value)) (sym (or_true (either a b)))
           (short_gives m input whole f p around op (low a) (low b) (part a).value (part b).value (short_of op (low b).traits e) (x.typed ∙ first) (y.typed ∙ second) (own a x (boolean_read (type_of a) first)) (own b y (boolean_read (type_of b) second)))
       by false e =
           subst (λ splits. Gives splits boolean (Parts.both op (low a) (low b)) (logic_means op (part a).value (part b).value)) (sym (or_false (either a b)))
-          (both_give m input whole f p around op (low a) (low b) (part a).value (part b).value (x.typed ∙ first) (y.typed ∙ second) (λ word. inr (quiet e)) (own a x (boolean_read (type_of a) first)) (own b y (boolean_read (type_of b) second)))
+          (both_give m input whole f p around op (low a) (low b) (part a).value (part b).value (x.typed ∙ first) (y.typed ∙ second) (λ word. decides_or op word e quiet) (own a x (boolean_read (type_of a) first)) (own b y (boolean_read (type_of b) second)))
 
   pub choice_is : (t : Ty) (test a b : Expr) → IsSound count t → Is test → Is a → Is b → type_of test ≡ boolean → type_of a ≡ t → type_of b ≡ t → IsTrue (tree.is_value_type t) → (is_selected t (low a).traits (low b).traits ≡ true → Quiet t a × Quiet t b)
       → Gives (traits.chosen t (low test).traits (low a).traits (low b).traits).splits t (chosen t (low test) (low a) (low b)) (choice_means (part test).value (part a).value (part b).value)
@@ -381,6 +392,62 @@ module _ (m : Module) (input : Input) (whole : Sections) (f : Frame m input whol
       let to : is_integer (shape_or t).0 ≡ true = ap (λ (shape : Shape). is_integer shape.0) (shape_or_is t c.to c.gives) ∙ c.integer in
       conversion_gives m input whole f p around (shape_or t).0 c.from (low a) t (part a).value are (own_sound a x) (own_real a x (shaped_real (type_of a) c.from c.of)) (ap shape_of x.typed ∙ c.of) to
       (λ v. subst (λ u. is_value_of p.structs u v ≡ true → is_value_of p.structs t v ≡ true) (sym x.typed) (λ fits. sym (converted_same p.structs (type_of a) t v is) ∙ fits)) (own a x (shaped_read (type_of a) c.from c.of))
+
+  -- ---- what is stored
+
+  place_of : (a : Expr) → Is a → type_of a ≢ ty.Void → IsTrue (is_writable around a) → GivesPlace m input whole f p around (low a).traits.splits (low a).traits.is_loose true (low a).ty (low a).reach (part a).access
+  place_of a x real may = own_leads a x real true (λ e. may)
+
+  pub assign_is : (a b : Expr) (t : Ty) → Is a → Is b → type_of a ≡ t → type_of b ≡ t → IsTrue (tree.is_value_type t) → IsTrue (is_writable around a) → (v : Value) × (is_value_of p.structs (type_of a) v ≡ true)
+      → Gives ((low a).traits.splits || (low b).traits.splits) t (Parts.assigned p.structs (low a) (low b)) (assign_means (part a).access (part b).value)
+  assign_is a b t x y first second real may some =
+      let real_a : type_of a ≢ ty.Void = (λ void. value_real t real (sym first ∙ void)) in
+      subst (λ u. Gives ((low a).traits.splits || (low b).traits.splits) u (Parts.assigned p.structs (low a) (low b)) (assign_means (part a).access (part b).value)) (x.typed ∙ first)
+      (place_assigned m input whole f p around (low a).traits.is_loose (low a) (low b) (part b).value
+      (record {
+        are = are;
+        sound = own_sound a x;
+        real = own_real a x real_a;
+        some = (some.0, subst (λ u. is_value_of p.structs u some.0 ≡ true) (sym x.typed) some.1);
+        same = y.typed ∙ second ∙ sym first ∙ sym x.typed;
+        comes = λ none. (y.tells.comes none).1;
+      })
+      (own b y (ap (λ u. is_runtime_layer (out-Ty u)) second ∙ value_read t real)) (low a).traits.splits (part a).access (place_of a x real_a may))
+
+  pub update_is : (op : BinaryOp) (a b : Expr) (t : Ty) → Is a → Is b → type_of a ≡ t → tree.IsOperation op t (type_of b) t → IsTrue (is_writable around a)
+      → Gives ((low a).traits.splits || (low b).traits.splits) t (Parts.updated p.structs op (low a) (low b)) (meaning.updating p.structs (part a) (part b) (binary_value op (is_signed (part a).ty)))
+  update_is op a b t x y first is may =
+      let read = operands_read op t (type_of b) t (inr is) in
+      let here : IsBinary around op (low a).ty (low b).ty (low a).ty = subst (λ u. IsBinary around op u (low b).ty u) (sym (x.typed ∙ first)) (subst (λ u. IsBinary around op t u t) (sym y.typed) (inr is)) in
+      let real_a : type_of a ≢ ty.Void = (λ void. read.real_left (sym first ∙ void)) in
+      subst (λ u. Gives ((low a).traits.splits || (low b).traits.splits) u (Parts.updated p.structs op (low a) (low b)) (meaning.updating p.structs (part a) (part b) (binary_value op (is_signed (part a).ty)))) (x.typed ∙ first)
+      (subst (λ u. Gives ((low a).traits.splits || (low b).traits.splits) (low a).ty (Parts.updated p.structs op (low a) (low b)) (update_means p.structs u (part a).access (part b).value (binary_value op (is_signed u)))) (x.typed ∙ sym x.meant)
+      (place_updated m input whole f p around (low a).traits.is_loose (low a).traits.splits op (low a) (low b)
+      (record {
+        operates = record {
+          are = are;
+          sound_left = own_sound a x;
+          sound_right = own_sound b y;
+          real_left = own_real a x real_a;
+          real_right = own_real b y read.real_right;
+          operands = here;
+          gives = λ v w choices words left right. binary_typed around op (is_signed (low a).ty) (low a).ty (low b).ty (low a).ty v w choices (own_sound a x) (own_sound b y) here left right words;
+        };
+        shape = is.0;
+        shaped = ap shape_of (x.typed ∙ first) ∙ is.3;
+      })
+      (part a).access (part b).value (place_of a x real_a may) (own b y read.read_right)))
+
+  pub step_is : (op : StepOp) (a : Expr) (t : Ty) → Is a → type_of a ≡ t → (shape : Shape) × (shape_of t ≡ Some shape) × IsTrue (is_integer shape.0) → IsTrue (is_writable around a)
+      → Gives (low a).traits.splits t (Parts.stepped p.structs op (low a)) (meaning.stepping p.structs (part a) (step_value op) (is_postfix op))
+  step_is op a t x first is may =
+      let shaped : shape_of (low a).ty ≡ Some is.0 = ap shape_of (x.typed ∙ first) ∙ is.1 in
+      let real_a : type_of a ≢ ty.Void = (λ void. shaped_real t is.0 is.1 (sym first ∙ void)) in
+      subst (λ u. Gives (low a).traits.splits u (Parts.stepped p.structs op (low a)) (meaning.stepping p.structs (part a) (step_value op) (is_postfix op))) (x.typed ∙ first)
+      (subst (λ u. Gives (low a).traits.splits (low a).ty (Parts.stepped p.structs op (low a)) (step_means p.structs u (part a).access (step_value op) (is_postfix op))) (x.typed ∙ sym x.meant)
+      (place_stepped m input whole f p around (low a).traits.is_loose (low a) op
+      (record { are = are; sound = own_sound a x; real = own_real a x real_a; shape = is.0; shaped = shaped; gives = λ v fits. step_typed p.structs op (low a).ty is.0 v (own_sound a x) shaped is.2 fits })
+      (low a).traits.splits (part a).access (place_of a x real_a may)))
 
   -- the length that a type tells
   pub length_is : (a : Expr) → Is a → has_fixed_length (type_of a) ≡ true → length_of (type_of a) < 2 ^ 32 → Gives false (ty.One Int) (Parts.counted (low a)) (shader_run.told_by (meaning.counted (part a)))

@@ -213,11 +213,15 @@ module _ (m : Module) (input : Input) (whole : Sections) (f : Frame m input whol
       value_evaluates m input whole f p around (type_of e) (traits.chosen (type_of e) (low test).traits (low a).traits (low b).traits) (chosen (type_of e) (low test) (low a) (low b)) (choice_means (part test).value (part a).value (part b).value) sound refl
       (forms.choice_is m input whole f p params locals call stage calls types vectors (type_of e) test a b sound all.0 all.1.0 all.1.1.0 is.0 is.1 is.2 is.3 asks) (tell (ExprKind-F.Choose test a b) (type_of e) all)
   by_kind e (ExprKind-F.Assign a b) w sound all is reads asks =
-      value_evaluates m input whole f p around (type_of e) (traits.of_two false false (low a).traits (low b).traits) _ _ sound refl (value_here e (ExprKind-F.Assign a b) w (asks all.0 all.1.0)) (tell (ExprKind-F.Assign a b) (type_of e) all)
+      value_evaluates m input whole f p around (type_of e) (traits.of_two false false (low a).traits (low b).traits) _ _ sound refl
+      (subst (λ c. GivesValue m input whole f p around c (type_of e) (low_form (ExprKind-F.Assign a b) (type_of e)).value (means_form setting (ExprKind-F.Assign a b) (type_of e)).value) (sym (or_false ((low a).traits.splits || (low b).traits.splits)))
+      (forms.assign_is m input whole f p params locals call stage calls types vectors a b (type_of e) all.0 all.1.0 is.0 is.1 is.2 is.3 asks)) (tell (ExprKind-F.Assign a b) (type_of e) all)
   by_kind e (ExprKind-F.Update op a b) w sound all is reads asks =
-      value_evaluates m input whole f p around (type_of e) (traits.of_two false false (low a).traits (low b).traits) _ _ sound refl (value_here e (ExprKind-F.Update op a b) w (asks all.0 all.1.0)) (tell (ExprKind-F.Update op a b) (type_of e) all)
+      value_evaluates m input whole f p around (type_of e) (traits.of_two false false (low a).traits (low b).traits) _ _ sound refl
+      (subst (λ c. GivesValue m input whole f p around c (type_of e) (low_form (ExprKind-F.Update op a b) (type_of e)).value (means_form setting (ExprKind-F.Update op a b) (type_of e)).value) (sym (or_false ((low a).traits.splits || (low b).traits.splits)))
+      (forms.update_is m input whole f p params locals call stage calls types vectors op a b (type_of e) all.0 all.1.0 is.0 is.2 is.3)) (tell (ExprKind-F.Update op a b) (type_of e) all)
   by_kind e (ExprKind-F.Step op a) w sound all is reads asks =
-      value_evaluates m input whole f p around (type_of e) (traits.loud (low a).traits) _ _ sound refl (value_here e (ExprKind-F.Step op a) w (asks all.0)) (tell (ExprKind-F.Step op a) (type_of e) all)
+      value_evaluates m input whole f p around (type_of e) (traits.loud (low a).traits) _ _ sound refl (forms.step_is m input whole f p params locals call stage calls types vectors op a (type_of e) all.0 is.0 is.1 is.2) (tell (ExprKind-F.Step op a) (type_of e) all)
   by_kind e (ExprKind-F.Call n args) w sound all is reads asks =
       value_evaluates m input whole f p around (type_of e) (traits.called (traits.together (map known_of (map low args)))) (call n (map low args) (type_of e)) (meaning.calling setting n (map part args)) sound refl (value_here e (ExprKind-F.Call n args) w (asks (same_all args all)))
       (row_told args traits.called (means_form setting (ExprKind-F.Call n args) (type_of e)) (tell (ExprKind-F.Call n args) (type_of e) all))

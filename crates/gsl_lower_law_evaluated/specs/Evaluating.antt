@@ -33,7 +33,7 @@ use Rattle.gsl_lower_expr.specs.Parts.{Lower, stage_number}
 use Rattle.gsl_lower_follows.specs.Frames.{AreTyped, Frame}
 use Rattle.gsl_lower_follows.specs.Giving.{GivesValue}
 use Rattle.gsl_lower_law_built.specs.Places.{NoVector}
-use Rattle.gsl_lower_law_expr.specs.Known.{IsQuiet}
+use Rattle.gsl_lower_law_expr.specs.Known.{IsQuiet, IsShort}
 use Rattle.gsl_lower_reaching.specs.Reaching.{GivesPlace}
 
 -- what expressions of a program are lowered in, by what calls are lowered to
@@ -92,20 +92,19 @@ module _ (m : Module) (input : Input) (whole : Sections) (f : Frame m input whol
   abbrev pub QuietIn : Ty → Expr → Type 0
   QuietIn t e = IsQuiet (AreTyped m input whole f p around) (is_value_of p.structs t) (means e).value
 
-  -- What is asked of an expression by its form: of members of blocks, `.length()` of a runtime array, assignments, `++`, `--` and calls, that they do what they do where their parts do;
+  -- What is asked of an expression by its form: of members of blocks, `.length()` of a runtime array and calls, that they do what they do where their parts do;
   -- of an index that calls functions, or leads into a runtime array, too; of operands that may be evaluated where they do not count, that they are there at once; of built-in variables, that the module has them; of lengths,
-  -- that they are words; of swizzles, that they have their words; and of the arguments of a constructor, that they have values.
+  -- that they are words; of swizzles, that they have their words; of the type of what is assigned to, that it has a value; and of the
+  -- arguments of a constructor, that they have values.
   abbrev pub AsksFor : Expr → ExprKind-F ExprKind Expr → Type 0
   AsksFor e (ExprKind-F.BlockMember block number) = IsEvaluated e
   AsksFor e (ExprKind-F.Stage var) = KnowsStage m input whole f stage var
   AsksFor e (ExprKind-F.Index a i) = (((low i).traits.calls ≡ false) × (has_fixed_length (type_of a) ≡ true)) ⊎ (IsEvaluated a → IsEvaluated i → IsEvaluated e)
   AsksFor e (ExprKind-F.Swizzle a lanes) = lanes.count ≤ length lanes.words
   AsksFor e (ExprKind-F.Length a) = ((has_fixed_length (type_of a) ≡ true) × (length_of (type_of a) < 2 ^ 32)) ⊎ HasValue e
-  AsksFor e (ExprKind-F.Logic op a b) = is_short op (low b).traits ≡ false → QuietIn boolean b
+  AsksFor e (ExprKind-F.Logic op a b) = IsShort op → is_short op (low b).traits ≡ false → QuietIn boolean b
   AsksFor e (ExprKind-F.Choose test a b) = is_selected (type_of e) (low a).traits (low b).traits ≡ true → QuietIn (type_of e) a × QuietIn (type_of e) b
-  AsksFor e (ExprKind-F.Assign a b) = IsEvaluated a → IsEvaluated b → HasValue e
-  AsksFor e (ExprKind-F.Update op a b) = IsEvaluated a → IsEvaluated b → HasValue e
-  AsksFor e (ExprKind-F.Step op a) = IsEvaluated a → HasValue e
+  AsksFor e (ExprKind-F.Assign a b) = (v : Value) × (is_value_of p.structs (type_of a) v ≡ true)
   AsksFor e (ExprKind-F.Call number args) = AllEvaluated args → HasValue e
   AsksFor e (ExprKind-F.Build args) = AllByRecursion (λ (arg : Expr). type_of arg ≢ ty.Void) args
   AsksFor e _ = Unit {0}

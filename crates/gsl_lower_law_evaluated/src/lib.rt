@@ -3,4 +3,4 @@
 
 mod laws;
 
-pub use laws::{expressions_evaluate};
+pub use laws::expressions_evaluate;

@@ -1,9 +1,8 @@
 -- Well typed statements: what is asked of the expressions in them is so.
-use Rattle.std.proofs.Common.{◌≡◌, ◌≢◌, refl, sym, ap, ◌∙◌, subst, ℕ, zero, suc, Bool, true, false, List, [], ◌∷◌, ◌++◌, length, map, slice_get, Option, Some, None}
+use Rattle.std.proofs.Common.{◌≡◌, ◌≢◌, sym, ap, ◌∙◌, subst, ℕ, zero, suc, Bool, true, false, List, [], ◌∷◌, ◌++◌, map, slice_get, Option, Some, None}
 use Rattle.std.specs.Prelude.{slice_index_or}
 use Rattle.std.specs.List.{AllByRecursion}
 use Rattle.gsl_base.specs.declared.input.Input.{Input}
-use Rattle.gsl_types.specs.Known.{IsSound}
 use Rattle.gsl_types.specs.declared.ty.Direction.{Direction}
 use Rattle.gsl_types.specs.declared.ty.Scalar.TheVariants.{Bool as Boolean}
 use Rattle.gsl_types.specs.declared.ty.Ty.{Ty}
@@ -16,7 +15,7 @@ use Rattle.gsl_tree.specs.Expressions.{IsExpr, IsIndex, MayBeRead, boolean, is_r
 use Rattle.gsl_tree.specs.Shapes.{shape_of}
 use Rattle.gsl_tree.specs.Statements.{IsBody, IsLoop, IsStep as IsTypedStep, MayStand, Returns as MayReturn}
 use Rattle.gsl_tree.specs.Trees.{Along, AlongAll, Exits, Placed, exprs_of, inner_of, or_nothing, outside, type_of, with_exits}
-use Rattle.gsl_tree.specs.Values.{is_value_of, zero_value}
+use Rattle.gsl_tree.specs.Values.{zero_value}
 use Rattle.gsl_tree.specs.WellTyped.{IsVariableType, around_body, program_lists}
 use Rattle.gsl_tree.specs.declared.expr.Expr.{Expr}
 use Rattle.gsl_tree.specs.declared.expr.StageVar.{StageVar}
@@ -28,7 +27,6 @@ use Rattle.gsl_typed_law.proofs.Zeros.{declared_plain, zero_typed}
 use Rattle.gsl_meaning.specs.Expressions as meaning
 use Rattle.gsl_meaning.specs.Expressions.{Calls, evaluating}
 use Rattle.gsl_meaning.specs.Running as shader_run
-use Rattle.gsl_meaning.specs.Statements as statement
 use Rattle.gsl_meaning.specs.Statements.{runs_all}
 use Rattle.gsl_spv.specs.Sections.{Sections}
 use Rattle.gsl_lower_holders.specs.Flow.{Emit}
@@ -47,7 +45,7 @@ use Rattle.gsl_lower_law_body.specs.Asking as asking
 use Rattle.gsl_lower_law_body.specs.Asking.{AsksAt}
 use Rattle.gsl_lower_law_body.proofs.Bodied.{body_does}
 use Rattle.gsl_lower_law_zeros.proofs.Given.{zeros_given}
-use Rattle.gsl_lower_law_evaluated.specs.Evaluating.{IsEvaluated, IsTyped, lowered_in, meant_in}
+use Rattle.gsl_lower_law_evaluated.specs.Evaluating.{IsTyped, lowered_in, meant_in}
 use Rattle.gsl_lower_law_evaluated.proofs.Facts.{at_place, index_shape, is_false, plain_real, scalar_shape, shaped_real}
 use Rattle.gsl_lower_law_evaluated.proofs.Whole.{expr_evaluates}
 use Rattle.gsl_lower_law_whole.specs.Typed.{AsksOf, AsksThroughout, KnowsTypes}

@@ -3,4 +3,4 @@
 
 mod laws;
 
-pub use laws::{typed_bodies_do};
+pub use laws::typed_bodies_do;

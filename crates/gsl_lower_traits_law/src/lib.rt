@@ -3,4 +3,4 @@
 
 mod laws;
 
-pub use laws::{traits_tell};
+pub use laws::traits_tell;

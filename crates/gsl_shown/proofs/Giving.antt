@@ -32,7 +32,7 @@ use Rattle.gsl_shown.proofs.Bounds.{Bounded, after, bounded_in, grows}
 use Rattle.gsl_shown.proofs.Places.{StandsAt, place_given, stays_in}
 use Rattle.gsl_shown.proofs.Passing.{in_all_behind, in_all_next, stands, taken_next}
 
-length_with : (slots new : List ℕ) (at : ℕ) → at + length new ≤ length slots → length (with_words slots at new) ≡ length slots
+pub length_with : (slots new : List ℕ) (at : ℕ) → at + length new ≤ length slots → length (with_words slots at new) ≡ length slots
 length_with slots new at room =
     let front : length (take at slots) ≡ at = length-take-le at slots (omega (arith, room)) in
     let behind = length-drop (at + length new) slots in
@@ -41,7 +41,7 @@ length_with slots new at room =
     omega (arith, front, behind, all, later, room)
 
 -- among ids that have slots, one more
-give_slots : (m : Module) (words : Held → List ℕ) (at : ℕ → ℕ) (slots : List ℕ) (top : ℕ) (ids : Ids) (id : ℕ) (held : Held) → Holds words at slots top (give (in_slots m ids) id held) → Holds words at slots top (in_slots m (give ids id held))
+pub give_slots : (m : Module) (words : Held → List ℕ) (at : ℕ → ℕ) (slots : List ℕ) (top : ℕ) (ids : Ids) (id : ℕ) (held : Held) → Holds words at slots top (give (in_slots m ids) id held) → Holds words at slots top (in_slots m (give ids id held))
 give_slots m words at slots top ids id held holds = record { each = λ other it is. holds.each other it (by_slot other it (takes (kind (defined_as m other)) || gives_value (kind (defined_as m other))) refl is) }
   where
     by_slot : (other : ℕ) (it : Held) (b : Bool) → (takes (kind (defined_as m other)) || gives_value (kind (defined_as m other))) ≡ b → (if b then (if other == id then Some held else ids other) else None) ≡ Some it
@@ -54,7 +54,7 @@ module _ (m : Module) (new : List ℕ) (slots : List ℕ) (at : ℕ) (room : at 
   Now = with_words slots at new
 
   -- those who wait keep what they have
-  kept_each : (first : ℕ) (callers : List Standing) (calls : List Waiting) → first ≤ at → ShowsEach m slots first callers calls → ShowsEach m Now first callers calls
+  pub kept_each : (first : ℕ) (callers : List Standing) (calls : List Waiting) → first ≤ at → ShowsEach m slots first callers calls → ShowsEach m Now first callers calls
   kept_each first [] [] above shows = tt
   kept_each first [] (call ∷ calls) above shows = absurd shows
   kept_each first (f ∷ callers) [] above shows = absurd shows
@@ -69,6 +69,7 @@ module _ (m : Module) (new : List ℕ) (slots : List ℕ) (at : ℕ) (room : at 
         shows.3,
         record {
           body_is = ids.body_is;
+          fresh = ids.fresh;
           variables_are = ids.variables_are;
           room = subst (λ n. f.slots + (frame m call.body).most ≤ n) (sym (length_with slots new at room)) ids.room;
           in_all = ids.in_all;
@@ -131,6 +132,7 @@ module _ (m : Module) (kept : Kept m) (input : Input) (f : Standing) (callers : 
         rest = stood.behind_it;
         ids = record {
           body_is = shows.ids.body_is;
+          fresh = shows.ids.fresh;
           variables_are = shows.ids.variables_are;
           room = subst (λ n. f.slots + (frame m state.body).most ≤ n) (sym (length_with slots New (f.slots + T.top) fits)) shows.ids.room;
           in_all = in_all_next m f callers slots words buffers choices state shows p more comes (Gives type) gives refl;

@@ -3,3 +3,5 @@ pub mod Places
 pub mod Passing
 pub mod Giving
 pub mod Counted
+pub mod Labels
+pub mod Branching

@@ -67,6 +67,7 @@ module _ (m : Module) (f : Standing) (callers : List Standing) (slots words : Li
         rest = (stands m f callers slots words buffers choices state shows p more comes Opens is refl).behind_it;
         ids = record {
           body_is = shows.ids.body_is;
+          fresh = shows.ids.fresh;
           variables_are = shows.ids.variables_are;
           room = shows.ids.room;
           in_all = in_all_next m f callers slots words buffers choices state shows p more comes Opens is refl;
@@ -87,6 +88,7 @@ module _ (m : Module) (f : Standing) (callers : List Standing) (slots words : Li
         rest = (stands m f callers slots words buffers choices state shows p more comes Merges is refl).behind_it;
         ids = record {
           body_is = shows.ids.body_is;
+          fresh = shows.ids.fresh;
           variables_are = shows.ids.variables_are;
           room = shows.ids.room;
           in_all = in_all_next m f callers slots words buffers choices state shows p more comes Merges is refl;

@@ -21,7 +21,7 @@ use Rattle.gsl_memory_law.specs.Typed.{place_by}
 use Rattle.gsl_positions.specs.Positions.{left}
 use Rattle.gsl_slots.specs.Holding.{Holds}
 use Rattle.gsl_frames.specs.Frames.{frame, held_words, place, sum, taken_in, variable_words}
-use Rattle.gsl_frames.specs.Taken.{taken_by}
+use Rattle.gsl_frames.specs.Taken.{nothing_taken, taken_by}
 use Rattle.gsl_sound_types.specs.Typed.{types_below, types_of}
 
 -- ---- what ids stand for, in words
@@ -55,6 +55,8 @@ pub record Standing : Type 0 where
 -- below what is taken so far, and what lasts for the function below the end of its parameters; and there is room for all that the function takes.
 pub record ShowsIds (m : Module) (below : List ℕ) (f : Standing) (body : List Placed) (slots : List ℕ) (own ids : Ids) : Type 0 where
   pub body_is : body ≡ left m f.body
+  -- the function begins there, with nothing taken yet
+  pub fresh : taken_in m (front m f.body) ≡ nothing_taken
   pub variables_are : f.variables ≡ sum_by (leaves m) below
   pub room : f.slots + (frame m body).most ≤ length slots
   -- with what is still to come the function takes what it takes in all

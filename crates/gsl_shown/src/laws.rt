@@ -4,8 +4,10 @@ ghost use Rattle.std.specs.Prelude.{◌≡◌, ◌+◌, ◌∷◌, List, ℕ, So
 ghost use Rattle.gsl_base.specs.declared.input.Buffer.{Buffer};
 ghost use Rattle.gsl_base.specs.declared.input.Input.{Input};
 ghost use Rattle.gsl_frames.specs.Frames.{held_words, place};
+ghost use Rattle.gsl_machine.specs.Functions.{from_label};
 ghost use Rattle.gsl_machine.specs.State.{Held, State, give};
 ghost use Rattle.gsl_machine.specs.Steps.{in_new_block};
+ghost use Rattle.gsl_positions.specs.Positions.{left};
 ghost use Rattle.gsl_region.specs.Showing.{with_words};
 ghost use Rattle.gsl_shown.specs.Shown.{Shows, Standing, held_as};
 ghost use Rattle.gsl_sound.specs.Sound.{Good};
@@ -36,4 +38,10 @@ pub fn blocks_are_shown()
 /// The same words show the state behind a merge.
 pub fn merges_are_passed()
     ensures { (m : Module) (f : Standing) (callers : List Standing) (slots words : List ℕ) (buffers : List Buffer) (choices : List ℕ) (state : State) (p : Placed) (more : List Placed) → Shows m f callers slots words buffers choices state → state.rest ≡ p ∷ more → kind (read p.instr) ≡ Merges → Shows m (record f { at = f.at + 1 }) callers slots words buffers choices (record state { rest = more }) }
+{}
+
+/// In a valid module, where a branch leads to a label of the function, the same words show the state at the label, in which ids stand for what lasts for the
+/// function.
+pub fn branches_are_shown()
+    ensures { (m : Module) (input : Input) (f : Standing) (callers : List Standing) (slots words : List ℕ) (buffers : List Buffer) (choices : List ℕ) (state : State) (label at : ℕ) → Valid m → Good m input state → Shows m f callers slots words buffers choices state → from_label state.body label ≡ Some (left m at) → Shows m (record f { at = at }) callers slots words buffers choices (in_new_block (record state { rest = left m at })) }
 {}

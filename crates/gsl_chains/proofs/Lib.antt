@@ -1,0 +1,5 @@
+pub mod Bodies
+pub mod Walked
+pub mod Longer
+pub mod Chained
+pub mod Outside

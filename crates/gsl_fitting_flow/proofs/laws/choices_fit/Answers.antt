@@ -1,0 +1,8 @@
+use Rattle.gsl_fitting_flow.proofs.Choice.{choice_flows, choice_stays}
+use Rattle.gsl_fitting_flow.proofs.laws.choices_fit.Goals as goal
+
+pub returns-clause-stays : goal.returns-clause-stays
+returns-clause-stays c = choice_stays
+
+pub returns-clause-flows : goal.returns-clause-flows
+returns-clause-flows c = choice_flows

@@ -1,0 +1,9 @@
+pub mod Behind
+pub mod Returned
+pub mod Heads
+pub mod Putting
+pub mod Globals
+pub mod Entered
+pub mod Counting
+pub mod Called
+pub mod Started
