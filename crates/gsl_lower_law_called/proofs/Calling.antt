@@ -60,7 +60,7 @@ module _ (m : Module) (input : Input) (whole : Sections) (f : Frame m input whol
   void_grows b true = extends_intern (d.plain_type plain.Void) b.sections
   void_grows b false = tt
 
-  adds_result : (t : Ty) → Adds (result_type t)
+  pub adds_result : (t : Ty) → Adds (result_type t)
   unfolding result_type
   adds_result t = by (out-Ty t)
     where
@@ -72,7 +72,7 @@ module _ (m : Module) (input : Input) (whole : Sections) (f : Frame m input whol
       by (Ty-F.Runtime a) = adds_type_id m input whole t
       by (Ty-F.Struct k) = adds_type_id m input whole t
 
-  does_result : (t : Ty) (units : ℕ) (b : Flow) (s : shader.State) (state : State) → Good m input whole f p around b s state → Does m input whole f p 0 units state (Unchanged m input whole f p around b state) none_waits (Got tt s units) (result_type t b)
+  pub does_result : (t : Ty) (units : ℕ) (b : Flow) (s : shader.State) (state : State) → Good m input whole f p around b s state → Does m input whole f p 0 units state (Unchanged m input whole f p around b state) none_waits (Got tt s units) (result_type t b)
   unfolding result_type
   does_result t units b s state good = by (out-Ty t)
     where

@@ -1,0 +1,6 @@
+pub mod Fresh
+pub mod Items
+pub mod Passing
+pub mod Backs
+pub mod Called
+pub mod Calls
