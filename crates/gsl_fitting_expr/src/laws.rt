@@ -1,19 +1,21 @@
 //! Laws of the definitions: calls that do nothing, whose contracts are the laws.
 
-ghost use Rattle.std.specs.Prelude.{◌≡◌, ◌++◌, ◌||◌, ℕ, Bool, List, ◌∷◌, Some, suc, true};
+ghost use Rattle.std.specs.Prelude.{◌≡◌, ◌++◌, ◌||◌, ℕ, Bool, List, [], ◌∷◌, Some, false, length, suc, true};
 ghost use Rattle.gsl_types.specs.declared.ty.Scalar.{Scalar};
 ghost use Rattle.gsl_types.specs.declared.ty.StructType.{StructType};
 ghost use Rattle.gsl_types.specs.declared.ty.Ty.{Ty};
 ghost use Rattle.gsl_values.specs.declared.op.BinaryOp.{BinaryOp};
 ghost use Rattle.gsl_values.specs.declared.op.UnaryOp.{UnaryOp};
+ghost use Rattle.gsl_values.specs.declared.value.Value.{Value};
 ghost use Rattle.gsl_tree.specs.Shapes.{Shape, flag, shape_of};
+ghost use Rattle.gsl_tree.specs.Values.{components_in};
 ghost use Rattle.gsl_tree.specs.declared.expr.LogicOp.{LogicOp};
 ghost use Rattle.gsl_spv.specs.Sections.{Sections};
 ghost use Rattle.gsl_lower_law.specs.Operands.{Fit};
 ghost use Rattle.gsl_lower_values.specs.Operators as operators;
 ghost use Rattle.gsl_lower_holders.specs.Flow.{Flow, behind, lift};
 ghost use Rattle.gsl_lower_expr.specs.Parts as parts;
-ghost use Rattle.gsl_lower_expr.specs.Parts.{Lower, both, forked, of_type, shape_or, short};
+ghost use Rattle.gsl_lower_expr.specs.Parts.{Lower, both, constant_by, forked, of_type, picked_one, shape_or, short};
 ghost use Rattle.gsl_fitting.specs.Fits.{Frame};
 ghost use Rattle.gsl_fitting_types.specs.Making.{AreSorted};
 ghost use Rattle.gsl_fitting_operators.specs.Operands.{Suits, SuitsOne, pair_shape};
@@ -36,4 +38,10 @@ pub fn truths_evaluate()
 /// `?:`, with each value in a block of its own.
 pub fn choices_evaluate()
     ensures { (whole : Sections) (main : ℕ) (local_size : List ℕ) (rank : ℕ → ℕ) (f : Frame) → AreSorted whole → (s : Flow) (tests asks more : List ℕ) (deep : ℕ) (splits one_splits two_splits : Bool) (truth type : ℕ) (t : Ty) (test a b : Lower) → IsPlain whole main local_size rank f flag truth → IsTypeFor whole main local_size rank f s.place t type → Evaluates whole main local_size rank f s tests (suc deep) splits truth test.value → Evaluates whole main local_size rank f s asks deep one_splits type a.value → Evaluates whole main local_size rank f s more deep two_splits type b.value → Evaluates whole main local_size rank f s (tests ++ type ∷ (asks ++ more)) (suc deep) true type (forked t test a b) }
+{}
+
+/// A constant, and a scalar of which both values are there, where no operand has labels.
+pub fn values_evaluate()
+    ensures constant { (whole : Sections) (main : ℕ) (local_size : List ℕ) (rank : ℕ → ℕ) (f : Frame) → AreSorted whole → (s : Flow) (deep type : ℕ) (shape : Shape) (v : Value) → IsPlain whole main local_size rank f shape type → length (components_in v) ≡ shape.1 → Evaluates whole main local_size rank f s [] deep false type (lift (constant_by shape v)) }
+    ensures selected { (whole : Sections) (main : ℕ) (local_size : List ℕ) (rank : ℕ → ℕ) (f : Frame) → AreSorted whole → (s : Flow) (tests asks more : List ℕ) (deep truth type : ℕ) (t : Ty) (test a b : Lower) → IsPlain whole main local_size rank f flag truth → IsPlain whole main local_size rank f (shape_or t) type → (shape_or t).1 ≡ 1 → Evaluates whole main local_size rank f s tests deep false truth test.value → Evaluates whole main local_size rank f s asks deep false type a.value → Evaluates whole main local_size rank f s more deep false type b.value → Evaluates whole main local_size rank f s (tests ++ (asks ++ more)) deep false type (picked_one t test a b) }
 {}

@@ -5,4 +5,4 @@
 
 mod laws;
 
-pub use laws::{choices_evaluate, operators_evaluate, truths_evaluate};
+pub use laws::{choices_evaluate, operators_evaluate, truths_evaluate, values_evaluate};
