@@ -37,7 +37,7 @@ begins_op i None is begun = absurd (false≢true begun)
 begins_op i (Some d) is begun = function_op i d is begun
 
 -- an instruction has the opcode exactly where it begins a function
-opcode_tells : (i : Instr) → (i.op == op.FUNCTION) ≡ begins (kind (read i))
+pub opcode_tells : (i : Instr) → (i.op == op.FUNCTION) ≡ begins (kind (read i))
 opcode_tells i = by_test (i.op == op.FUNCTION) (begins (kind (read i))) (λ is. reads_function i is) (λ is. begins_op i (read i) refl is)
   where
     by_test : (a b : Bool) → (a ≡ true → b ≡ true) → (b ≡ true → a ≡ true) → a ≡ b

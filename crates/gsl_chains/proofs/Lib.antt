@@ -3,3 +3,4 @@ pub mod Walked
 pub mod Longer
 pub mod Chained
 pub mod Outside
+pub mod Nested

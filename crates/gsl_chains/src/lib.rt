@@ -8,4 +8,4 @@ mod walking;
 
 pub use chains::{Room, room_for};
 pub use globals::global_words;
-pub use laws::{calls_leave_room, chains_take_no_more};
+pub use laws::{calls_leave_room, chains_are_short, chains_take_no_more};
