@@ -1,5 +1,5 @@
 -- Constants, and one of two values that are both there.
-use Rattle.std.proofs.Common.{◌≡◌, ℕ, ◌+◌, Bool, true, false, cond, ◌||◌, List, [], ◌∷◌, ◌++◌, length, refl, sym, ap, ◌∙◌, subst, append-nil, arith}
+use Rattle.std.proofs.Common.{◌≡◌, ℕ, ◌+◌, Bool, true, false, cond, List, [], ◌++◌, length, refl, sym, subst, append-nil, arith}
 use Rattle.std.specs.Prelude.{◌==◌}
 use Rattle.std.proofs.lemmas.Bool.{eqb-true}
 use Rattle.std.proofs.lemmas.List.{length-append}
@@ -8,7 +8,6 @@ use Rattle.gsl_values.specs.declared.value.Value.{Value}
 use Rattle.gsl_tree.specs.Shapes.{Shape, flag}
 use Rattle.gsl_tree.specs.Values.{components_in, word_in}
 use Rattle.gsl_spv.specs.Sections.{Sections}
-use Rattle.gsl_lower_values.specs.Building.{Step}
 use Rattle.gsl_lower_values.specs.Operators as operators
 use Rattle.gsl_lower_values.specs.Types as types
 use Rattle.gsl_lower_holders.specs.Flow.{Emit, Flow, behind, lift}

@@ -1,5 +1,5 @@
 -- Operators and conversions of scalars and vectors, and of truth values.
-use Rattle.std.proofs.Common.{◌≡◌, ℕ, ◌+◌, Bool, true, false, ◌||◌, List, [], ◌∷◌, ◌++◌, length, Option, Some, None, refl, sym, ap, ◌∙◌, subst, suc, arith}
+use Rattle.std.proofs.Common.{◌≡◌, ℕ, ◌+◌, Bool, true, ◌||◌, List, [], ◌∷◌, ◌++◌, length, Some, sym, ap, subst, suc, arith}
 use Rattle.std.proofs.lemmas.List.{length-append}
 use Rattle.gsl_types.specs.declared.ty.Scalar.{Scalar}
 use Rattle.gsl_types.specs.declared.ty.Scalar.TheVariants.{Bool as Boolean}
@@ -24,13 +24,13 @@ use Rattle.gsl_fitting_types.specs.Making.{AreSorted, Comes, GivesValue, Sorts}
 use Rattle.gsl_fitting_operators.specs.Operands.{Suits, SuitsOne, pair_shape}
 use Rattle.gsl_fitting_operators.proofs.Operators.{converted_fits, converted_sorts, unary_fits, unary_sorts}
 use Rattle.gsl_fitting_operators.proofs.Pairs.{binary_fits, binary_sorts, logical_fits, logical_sorts}
-use Rattle.gsl_fitting_flow.specs.Flowing.{EmitStays, Flows, GivesOf, IsTypeFor, IsTypeIn, asked_if}
+use Rattle.gsl_fitting_flow.specs.Flowing.{IsTypeFor, IsTypeIn, asked_if}
 use Rattle.gsl_fitting_flow.proofs.Choice.{choice_flows, choice_stays}
 use Rattle.gsl_fitting_flow.proofs.Following.{same_then, taken_is}
 use Rattle.gsl_fitting_flow.proofs.Holding.{type_on}
 use Rattle.gsl_fitting_flow.proofs.Short.{short_flows, short_stays}
 use Rattle.gsl_fitting_expr.specs.Evaluating.{Evaluates, IsPlain}
-use Rattle.gsl_fitting_expr.proofs.Steps.{behind_one, behind_two, one_evaluates, two_evaluate, value_of}
+use Rattle.gsl_fitting_expr.proofs.Steps.{behind_one, one_evaluates, two_evaluate, value_of}
 
 module _ (whole : Sections) (main : ℕ) (local_size : List ℕ) (rank : ℕ → ℕ) (f : Frame) (sorted : AreSorted whole) where
   abbrev E : Flow → List ℕ → ℕ → Bool → ℕ → Emit ℕ → Type 0

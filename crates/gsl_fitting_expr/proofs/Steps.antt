@@ -1,19 +1,17 @@
 -- A step of the builder behind one value, and behind two.
-use Rattle.std.proofs.Common.{◌≡◌, ℕ, ◌+◌, Bool, true, false, ◌||◌, List, [], ◌∷◌, ◌++◌, length, Some, refl, sym, ap, ◌∙◌, subst, append-nil, arith}
+use Rattle.std.proofs.Common.{◌≡◌, ℕ, ◌+◌, Bool, true, false, ◌||◌, List, [], ◌++◌, length, Some, refl, sym, ap, ◌∙◌, subst, append-nil, arith}
 use Rattle.std.proofs.lemmas.List.{length-append}
 use Rattle.gsl_types.specs.declared.ty.Ty.{Ty}
 use Rattle.gsl_tree.specs.Shapes.{Shape}
 use Rattle.gsl_words.specs.declared.module.Module.{Module}
-use Rattle.gsl_spv.specs.Growing.{Extends}
 use Rattle.gsl_spv.specs.Sections.{Sections}
 use Rattle.gsl_lower_values.specs.Building.{Step}
 use Rattle.gsl_lower_holders.specs.Flow.{Emit, Flow, behind, lift}
 use Rattle.gsl_lower_holders.specs.Waiting.{fetch, hold}
 use Rattle.gsl_fitting.specs.Fits.{Frame}
-use Rattle.gsl_fitting_types.specs.Making.{AreSorted, Comes, GivesValue, IsTypeOf, IsValue, Sorts, made}
+use Rattle.gsl_fitting_types.specs.Making.{AreSorted, Comes, GivesValue, IsValue, Sorts, made}
 use Rattle.gsl_fitting_types.proofs.Knowing.{one_type}
-use Rattle.gsl_fitting_types.proofs.Stepping.{comes_so}
-use Rattle.gsl_fitting_flow.specs.Flowing.{EmitStays, FlowStays, Flows, GivesOf, IsOf, IsTypeFor, SamePlace, Waits, Widens, asked_if, taken_if}
+use Rattle.gsl_fitting_flow.specs.Flowing.{EmitStays, Flows, GivesOf, IsOf, IsTypeFor, SamePlace, Waits, Widens, asked_if, taken_if}
 use Rattle.gsl_fitting_flow.proofs.Following.{emit_then, flows_so, flows_then, lift_flows, lift_stays, same_of, same_then, taken_is}
 use Rattle.gsl_fitting_flow.proofs.Holding.{fetch_flows, fetch_stays, hold_flows, hold_stays, of_later, type_on, waits_later}
 use Rattle.gsl_fitting_expr.specs.Evaluating.{Evaluates, IsPlain}

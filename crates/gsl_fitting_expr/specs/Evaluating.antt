@@ -1,5 +1,5 @@
 -- What it is for an expression's lowering to fit, wherever it stands in the code of a function.
-use Rattle.std.specs.Prelude.{◌≡◌, ℕ, Bool, List, length}
+use Rattle.std.specs.Prelude.{ℕ, Bool, List, length}
 use Rattle.gsl_tree.specs.Shapes.{Shape}
 use Rattle.gsl_spv.specs.Sections.{Sections}
 use Rattle.gsl_lower_holders.specs.Flow.{Emit, Flow}
