@@ -1,14 +1,13 @@
 -- Equality leaf by leaf.
-use Rattle.std.proofs.Common.{◌≡◌, ℕ, List, [], ◌∷◌, ◌++◌, Some, None, refl, sym, ap, ◌∙◌, ◌⊎◌, inl, inr, subst, arith}
+use Rattle.std.proofs.Common.{◌≡◌, ℕ, List, [], ◌∷◌, None, refl, sym, ap, inl, inr, subst}
 use Rattle.gsl_types.specs.declared.ty.Scalar.TheVariants.{Bool as Boolean}
 use Rattle.gsl_values.specs.declared.op.BinaryOp.{BinaryOp}
-use Rattle.gsl_values.specs.declared.op.BinaryOp.TheVariants.{Equal, Unequal}
 use Rattle.gsl_tree.specs.Shapes.{Shape, flag}
 use Rattle.gsl_words.specs.declared.module.Module.{Module}
 use Rattle.gsl_spv.specs.Growing.{Extends}
 use Rattle.gsl_spv.specs.Sections.{Sections}
 use Rattle.gsl_lower_law.specs.Operands.{Fit}
-use Rattle.gsl_lower_values.specs.Building.{Built, Step, behind, given as give}
+use Rattle.gsl_lower_values.specs.Building.{Built, Step, behind}
 use Rattle.gsl_lower_values.specs.Constructors.{operand}
 use Rattle.gsl_lower_values.specs.Operators as operators
 use Rattle.gsl_lower_values.specs.Types as types

@@ -1,6 +1,5 @@
 -- Copies leaf by leaf.
-use Rattle.std.proofs.Common.{◌≡◌, ℕ, List, [], ◌∷◌, ◌++◌, Option, Some, None, refl, sym, ap, ◌∙◌, subst}
-use Rattle.std.specs.List.{AllByRecursion}
+use Rattle.std.proofs.Common.{ℕ, List, [], ◌∷◌, ◌++◌, Option, Some, None, refl, ap, ◌∙◌}
 use Rattle.gsl_instr.specs.Forms.{form_of}
 use Rattle.gsl_instr.specs.declared.op.TheConstants as op
 use Rattle.gsl_instr.specs.declared.enumerant.decoration.TheConstants as decoration
@@ -10,9 +9,8 @@ use Rattle.gsl_words.specs.declared.module.Module.{Module}
 use Rattle.gsl_valid.specs.Kinds.{type_of}
 use Rattle.gsl_valid.specs.MemoryRules.{leads_along}
 use Rattle.gsl_valid.specs.Types.{defined_as}
-use Rattle.gsl_spv.specs.Growing.{Extends}
 use Rattle.gsl_spv.specs.Sections.{Sections}
-use Rattle.gsl_lower_values.specs.Building.{Built, Step, behind, given as give, giving}
+use Rattle.gsl_lower_values.specs.Building.{Built, Step, behind, giving}
 use Rattle.gsl_lower_values.specs.Types as types
 use Rattle.gsl_lower_leaves.specs.Copies.{copied_in, copied_out, each, read_whole, store_whole}
 use Rattle.gsl_lower_leaves.specs.declared.leaf.Leaf.{Leaf}
@@ -26,7 +24,7 @@ use Rattle.gsl_fitting_types.proofs.Knowing.{known_wider, one_type, outside_know
 use Rattle.gsl_fitting_types.proofs.Sorting.{giving_sorts, sorts_then, stays_same}
 use Rattle.gsl_fitting_types.proofs.Stepping.{Wider, comes_then, given_comes}
 use Rattle.gsl_fitting_types.proofs.Types.{type_comes, type_sorts}
-use Rattle.gsl_fitting_places.specs.Leading.{IsPointer, Nothing}
+use Rattle.gsl_fitting_places.specs.Leading.{Nothing}
 use Rattle.gsl_fitting_places.specs.Places.{IsOfShape, IsPartOf, IsPlace, ReadsPlace, StoresPlace}
 use Rattle.gsl_fitting_places.proofs.Chains.{giving_made, leads_later}
 use Rattle.gsl_fitting_places.proofs.Moves.{F, G, V, load_stands, loaded_fits, loaded_sorts, put_fits, put_sorts}

@@ -1,5 +1,5 @@
 -- Where a variable stands among the words of all variables.
-use Rattle.std.specs.Prelude.{ℕ, ◌+◌, List, take}
+use Rattle.std.specs.Prelude.{ℕ, List, take}
 use Rattle.std.specs.List.{sum_by}
 use Rattle.gsl_words.specs.declared.module.Module.{Module}
 use Rattle.gsl_valid.specs.Kinds.{Variable}
