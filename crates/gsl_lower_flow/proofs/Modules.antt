@@ -3,7 +3,6 @@ use Rattle.std.proofs.Common.{◌≡◌, sym, ap, ◌∙◌, ℕ, Bool, Some, sl
 use Rattle.gsl_words.specs.declared.module.Module.{Module}
 use Rattle.gsl_words.specs.declared.target.Target.{Target}
 use Rattle.gsl_tree.specs.declared.program.Program.{Program}
-use Rattle.gsl_spv.specs.Finished.{module_of}
 use Rattle.gsl_spv.specs.Sections.{Sections, empty}
 use Rattle.gsl_spv.specs.declared.refusal.BuildRefusal.{BuildRefusal}
 use Rattle.gsl_spv.specs.declared.refusal.BuildRefusal.TheVariants.{TooManyIds, Memory}

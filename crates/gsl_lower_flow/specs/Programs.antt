@@ -1,6 +1,5 @@
 -- The module that a program is lowered to, for a target (SPIR-V 1.0, 2.4).
 use Rattle.std.specs.Prelude.{◌≡◌, ℕ, Bool, true, false, ◌||◌, ◌==◌, if◌then◌else◌, List, [], ◌∷◌, ◌++◌, Option, Some, None, Result, Ok, Err}
-use Rattle.gsl_types.specs.declared.ty.Ty.{Ty}
 use Rattle.gsl_words.specs.declared.module.Module.{Module}
 use Rattle.gsl_words.specs.declared.target.Target.{Target}
 use Rattle.gsl_tree.specs.declared.expr.StageVar.{StageVar}
@@ -16,7 +15,7 @@ use Rattle.gsl_spv.specs.declared.refusal.BuildRefusal.TheVariants.{TooManyIds, 
 use Rattle.gsl_lower_values.specs.Building as steps
 use Rattle.gsl_lower_values.specs.Building.{Built as Made-or-full, Made, Full, Step}
 use Rattle.gsl_lower_holders.specs.declared.place.FlowPlace.{FlowPlace}
-use Rattle.gsl_lower_holders.specs.Flow.{Emit, Flow, Lowered, Gives, Lacks, behind, ◌>>=◌, flow_of, given, told}
+use Rattle.gsl_lower_holders.specs.Flow.{Emit, Lowered, Gives, Lacks, behind, ◌>>=◌, flow_of, given, told}
 use Rattle.gsl_lower_types.specs.declared.blocks.LaidTypes.{LaidTypes}
 use Rattle.gsl_lower_types.specs.Known.{Known, Put, all, only}
 use Rattle.gsl_lower_types.specs.Values.{program_types, value_type}

@@ -1,4 +1,3 @@
-use Rattle.std.proofs.Common.{arith}
 use Rattle.std.proofs.lemmas.Result.{err_from_is_err_and}
 use Rattle.gsl_lower_holders.specs.Flow.{each, flow_of}
 use Rattle.gsl_lower_holders.proofs.Turns.{ends, goes_on, stops}

@@ -1,4 +1,4 @@
-use Rattle.std.proofs.Common.{◌≡◌, ap, subst, sym}
+use Rattle.std.proofs.Common.{ap, subst, sym}
 use Rattle.gsl_lower_flow.specs.Programs.{Gives-id}
 use Rattle.gsl_lower_flow.specs.Reaching.{head_of}
 use Rattle.gsl_lower_flow.proofs.Found.{lowered_is}

@@ -1,4 +1,4 @@
-use Rattle.std.proofs.Common.{◌≡◌, ◌+◌, [], sym, subst, ap, ◌∙◌, arith, List, ℕ}
+use Rattle.std.proofs.Common.{◌+◌, [], sym, subst, ap, ◌∙◌, arith, List, ℕ}
 use Rattle.std.specs.Prelude.{nat_eq}
 use Rattle.std.proofs.lemmas.Bool.{ne_eqb}
 use Rattle.indexmap.specs.IndexSet.{insert_all}
