@@ -87,7 +87,7 @@ put_one op operands type s named = record {
   };
   anew = λ id low.
       let e : count_of id (all_of (call.put op (type ∷ (s.last + 1) ∷ operands) (record s { last = s.last + 1 }))) ≡ count_of id (all_of s) + one_if ((s.last + 1) == id) =
-          subst (λ o. count_of id (all_of (call.put op (type ∷ (s.last + 1) ∷ operands) (record s { last = s.last + 1 }))) ≡ count_of id (all_of s) + one_if (is_id id o)) named (put_count s (instr op (type ∷ (s.last + 1) ∷ operands)) id) in
+      subst (λ o. count_of id (all_of (call.put op (type ∷ (s.last + 1) ∷ operands) (record s { last = s.last + 1 }))) ≡ count_of id (all_of s) + one_if (is_id id o)) named (put_count s (instr op (type ∷ (s.last + 1) ∷ operands)) id) in
       let z = taken_before id s.last low in
       omega (arith, e, z);
 }
@@ -130,7 +130,7 @@ intern_stays d s may = record { extends = extends_intern d s; sorted = λ h. by 
     new id low (Some there) = refl
     new id low None =
         let e : count_of id (all_of (call.declare d s).sections) ≡ count_of id (all_of s) + one_if ((s.last + 1) == id) =
-            subst (λ o. count_of id (all_of (call.declare d s).sections) ≡ count_of id (all_of s) + one_if (is_id id o)) (may.named (s.last + 1)) (declared_count s (defining d (s.last + 1)) id) in
+        subst (λ o. count_of id (all_of (call.declare d s).sections) ≡ count_of id (all_of s) + one_if (is_id id o)) (may.named (s.last + 1)) (declared_count s (defining d (s.last + 1)) id) in
         let z = taken_before id s.last low in
         omega (arith, e, z)
 

@@ -168,7 +168,8 @@ module _ (m : Module) (input : Input) (whole : Sections) (f : Frame m input whol
       let last = and_parts (is_one (shape_of (type_of e)) && (low a).traits.quiet) (low b).traits.quiet selected in
       let firsts = and_parts (is_one (shape_of (type_of e))) (low a).traits.quiet last.0 in
       let nodes_a = rest_all (IsNode around) test (a ∷ b ∷ []) nodes in
-      let sounds_a = rest_all Sound test (a ∷ b ∷ []) sounds in
-      (quiet_in a (type_of e) is.1 (first_all (IsNode around) a (b ∷ []) nodes_a) (first_all Sound a (b ∷ []) sounds_a) (asks selected).0 firsts.1,
-      quiet_in b (type_of e) is.2 (first_all (IsNode around) b [] (rest_all (IsNode around) a (b ∷ []) nodes_a)) (first_all Sound b [] (rest_all Sound a (b ∷ []) sounds_a)) (asks selected).1 last.1)
+      let sounds_a = rest_all Sound test (a ∷ b ∷ []) sounds in (
+        quiet_in a (type_of e) is.1 (first_all (IsNode around) a (b ∷ []) nodes_a) (first_all Sound a (b ∷ []) sounds_a) (asks selected).0 firsts.1,
+        quiet_in b (type_of e) is.2 (first_all (IsNode around) b [] (rest_all (IsNode around) a (b ∷ []) nodes_a)) (first_all Sound b [] (rest_all Sound a (b ∷ []) sounds_a)) (asks selected).1 last.1,
+      )
   asked e form is nodes sounds asks = asks

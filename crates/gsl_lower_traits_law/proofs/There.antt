@@ -132,9 +132,11 @@ module _ (around : Around) (are : AreStructs around.structs) (setting : Setting)
 
   drawn_there : (op : BinaryOp) (signed : Bool) (a b t : Ty) (v w : Value) → is_sure op ≡ true → IsSound (length around.structs) a → IsSound (length around.structs) b → IsBinary around op a b t → is_value_of around.structs a v ≡ true → is_value_of around.structs b w ≡ true
       → IsThere around t (drawing (binary_value op signed v w))
-  drawn_there op signed a b t v w sure sound_a sound_b is fits_v fits_w s units held =
-      ((binary_value op signed v w s.choices).0, ap (λ c. Got (binary_value op signed v w s.choices).0 (record s { choices = c }) units) (value_left op signed v w s.choices sure),
-      (binary_typed around op signed a b t v w s.choices sound_a sound_b is fits_v fits_w held.choices).typed)
+  drawn_there op signed a b t v w sure sound_a sound_b is fits_v fits_w s units held = (
+    (binary_value op signed v w s.choices).0,
+    ap (λ c. Got (binary_value op signed v w s.choices).0 (record s { choices = c }) units) (value_left op signed v w s.choices sure),
+    (binary_typed around op signed a b t v w s.choices sound_a sound_b is fits_v fits_w held.choices).typed,
+  )
 
   -- ---- in a row
 
