@@ -27,9 +27,9 @@ use Rattle.gsl_lower_law_stmt.specs.Doing.{DoesStatement}
 use Rattle.gsl_lower_law_main.proofs.Ends.{ends}
 use Rattle.gsl_lower_law_functions.specs.Bodies.{AtResult, DoesBody}
 use Rattle.gsl_lower_law_functions.proofs.Ended.{void_body_does}
-use Rattle.gsl_lower_law_whole.proofs.Bodies.{typed_body_does}
-use Rattle.gsl_lower_law_depths.specs.Depths.{AllStand, body_of, call_of, stage_of, statements_of}
-use Rattle.gsl_lower_law_depths.proofs.Ranked.{ranked_do}
+use Rattle.gsl_lower_law_shader.proofs.Bodies.{typed_body_does}
+use Rattle.gsl_lower_law_shader.specs.Depths.{AllStand, body_of, call_of, stage_of, statements_of}
+use Rattle.gsl_lower_law_shader.proofs.Ranked.{ranked_do}
 use Rattle.gsl_lower_law_shader.specs.Alike.{EndsAs, IsMain, around_main, main_begins}
 
 module _ (m : Module) (input : Input) (whole : Sections) (p : Program) (place : FlowPlace) (stages : List (Option Value)) (rank : ℕ → ℕ) (f : Frame m input whole) (tree : Function) (begin : Flow) (valid : Valid m) (written : Written m whole) (all : AllStand m input whole p place stages rank) (main : IsMain m input whole p place stages rank f tree begin) where

@@ -1,1 +1,3 @@
+mod Bodies
+mod Ranked
 mod Ended

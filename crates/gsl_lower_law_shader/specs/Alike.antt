@@ -23,8 +23,8 @@ use Rattle.gsl_lower_follows.specs.Frames.{Frame, Inside}
 use Rattle.gsl_lower_follows.specs.Stretching.{Stretch}
 use Rattle.gsl_lower_law_main.specs.Ending.{HasOutputs}
 use Rattle.gsl_lower_law_evaluated.specs.Evaluating.{IsTyped}
-use Rattle.gsl_lower_law_whole.specs.Typed.{AsksOf, KnowsTypes}
-use Rattle.gsl_lower_law_depths.specs.Depths.{CallsDo, body_of, call_of, stage_of}
+use Rattle.gsl_lower_law_shader.specs.Typed.{AsksOf, KnowsTypes}
+use Rattle.gsl_lower_law_shader.specs.Depths.{CallsDo, body_of, call_of, stage_of}
 
 -- It ends with an output after so many instructions, and so many units are left.
 pub record EndsWith (m : Module) (input : Input) (units : ℕ) (state : State) (output : Output) : Type 0 where

@@ -48,7 +48,7 @@ use Rattle.gsl_lower_law_zeros.proofs.Given.{zeros_given}
 use Rattle.gsl_lower_law_evaluated.specs.Evaluating.{IsTyped, lowered_in, meant_in}
 use Rattle.gsl_lower_law_evaluated.proofs.Facts.{at_place, index_shape, is_false, plain_real, scalar_shape, shaped_real}
 use Rattle.gsl_lower_law_evaluated.proofs.Whole.{expr_evaluates}
-use Rattle.gsl_lower_law_whole.specs.Typed.{AsksOf, AsksThroughout, KnowsTypes}
+use Rattle.gsl_lower_law_shader.specs.Typed.{AsksOf, AsksThroughout, KnowsTypes}
 
 module _ (m : Module) (input : Input) (whole : Sections) (f : Frame m input whole) (p : Program) (params : List (Direction × Ty)) (locals : List Ty) (call : ℕ → List Lower → Ty → Emit ℕ) (stage : StageVar → Value) (calls : Calls) (types : IsTyped p params locals) (knows : KnowsTypes m input whole f p) where
   abbrev around : Around

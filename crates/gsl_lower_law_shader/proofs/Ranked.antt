@@ -34,8 +34,8 @@ use Rattle.gsl_lower_law_functions.proofs.Done.{function_does}
 use Rattle.gsl_lower_law_functions.proofs.Ended.{body_does, void_body_does}
 use Rattle.gsl_lower_law_zeros.proofs.Given.{zeros_given}
 use Rattle.gsl_lower_law_evaluated.proofs.Facts.{plain_real}
-use Rattle.gsl_lower_law_whole.proofs.Bodies.{typed_body_does}
-use Rattle.gsl_lower_law_depths.specs.Depths.{AllStand, CallsDo, DoesAt, Stands, body_of, call_of, globals_of, stage_of, statements_of}
+use Rattle.gsl_lower_law_shader.proofs.Bodies.{typed_body_does}
+use Rattle.gsl_lower_law_shader.specs.Depths.{AllStand, CallsDo, DoesAt, Stands, body_of, call_of, globals_of, stage_of, statements_of}
 
 module _ (m : Module) (input : Input) (whole : Sections) (p : Program) (place : FlowPlace) (stages : List (Option Value)) (rank : ℕ → ℕ) (valid : Valid m) (written : Written m whole) where
   module _ (depth number function : ℕ) (head : Prototype) (named : slice_get p.prototypes number ≡ Some head) (s : Stands m input whole p place stages rank number function head) (lower : (other : ℕ) → rank other < rank number → CallsDo m input whole p place stages depth other) where

@@ -27,7 +27,7 @@ use Rattle.gsl_lower_law_entered.specs.Modules.{IsFrame, IsFunction}
 use Rattle.gsl_lower_law_functions.specs.Bodies.{bodied}
 use Rattle.gsl_lower_law_functions.specs.Functions.{FunctionDoes, IsLowered}
 use Rattle.gsl_lower_law_evaluated.specs.Evaluating.{IsTyped, lowered_in}
-use Rattle.gsl_lower_law_whole.specs.Typed.{AsksOf, KnowsTypes}
+use Rattle.gsl_lower_law_shader.specs.Typed.{AsksOf, KnowsTypes}
 
 -- what calls are lowered to in a program
 abbrev pub call_of : Program → ℕ → List Lower → Ty → Emit ℕ

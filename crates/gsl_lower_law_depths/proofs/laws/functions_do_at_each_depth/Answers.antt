@@ -1,5 +1,0 @@
-use Rattle.gsl_lower_law_depths.proofs.Ranked.{ranked_do}
-use Rattle.gsl_lower_law_depths.proofs.laws.functions_do_at_each_depth.Goals as goal
-
-pub returns : goal.returns
-returns c = ranked_do
