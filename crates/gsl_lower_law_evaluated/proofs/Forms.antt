@@ -201,7 +201,7 @@ module _ (m : Module) (input : Input) (whole : Sections) (f : Frame m input whol
   row_told es of x = subst (λ ks. Tells (of (together ks)) x) (sym (lists_known es))
 
   -- code has labels where that of one of several has
-  row_gives : (es : List Expr) (t : Ty) (value : Emit ℕ) (run : Run Value) → Gives (any_splits (map low es)) t value run → Gives (together (map known_of (map low es))).splits t value run
+  pub row_gives : (es : List Expr) (t : Ty) (value : Emit ℕ) (run : Run Value) → Gives (any_splits (map low es)) t value run → Gives (together (map known_of (map low es))).splits t value run
   row_gives es t value run = subst (λ b. Gives b t value run) (sym (together_splits (traits.valued false false true) (map low es)))
 
   all_give : (es : List Expr) → AllAre es → AllByRecursion (λ (e : Expr). type_of e ≢ ty.Void) es → AllByRecursion (MayBeRead around) es → AllGive Gives (map low es) (map part es)

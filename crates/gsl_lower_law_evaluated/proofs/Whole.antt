@@ -37,7 +37,7 @@ use Rattle.gsl_lower_traits_law.specs.Telling.{Tells}
 use Rattle.gsl_lower_traits_law.proofs.Told.{by_form, literal_word, means_form, part_is}
 use Rattle.gsl_lower_expr.specs.Lowering as lowering
 use Rattle.gsl_lower_expr.specs.Lowering.{lowered_by, lowers}
-use Rattle.gsl_lower_expr.specs.Parts.{Lower, chosen, constant_by, counted, indexed, interface_class, known_of, logical, member, named, shape_or, stage_value, swizzled_by}
+use Rattle.gsl_lower_expr.specs.Parts.{Lower, any_splits, chosen, constant_by, counted, indexed, interface_class, known_of, logical, member, named, shape_or, stage_value, swizzled_by}
 use Rattle.gsl_lower_follows.specs.Frames.{Frame}
 use Rattle.gsl_lower_follows.specs.Giving.{GivesValue}
 use Rattle.gsl_lower_law_expr.specs.Known.{choice_means, logic_means}
@@ -252,7 +252,23 @@ module _ (m : Module) (input : Input) (whole : Sections) (f : Frame m input whol
     all_evaluated _ ThroughoutAll.none sounds asks = tt
     all_evaluated _ (ThroughoutAll.more e es is rest) (ThroughoutAll.more _ _ sound sounds) (ThroughoutAll.more _ _ ask asks) = (evaluated e is sound ask, all_evaluated es rest sounds asks)
 
+  -- a call has its value where what it is lowered to gives that
+  called_value : (e : Expr) (number : ℕ) (args : List Expr) → form_of e ≡ ExprKind-F.Call number args → GivesValue m input whole f p around (any_splits (map low args)) (type_of e) (call number (map low args) (type_of e)) (meaning.calling setting number (map part args))
+      → HasValue m input whole f p params locals call stage calls e
+  unfolding lowers means
+  called_value e number args is gives =
+      subst (λ (l : Lower). GivesValue m input whole f p around l.traits.splits (type_of e) l.value (part e).value) (sym (low_is e ∙ ap (λ form. low_form form (type_of e)) is))
+      (subst (λ (x : Meant). GivesValue m input whole f p around (low_form (ExprKind-F.Call number args) (type_of e)).traits.splits (type_of e) (low_form (ExprKind-F.Call number args) (type_of e)).value x.value) (sym (part_is setting e ∙ ap (λ form. means_form setting form (type_of e)) is))
+      (forms.row_gives m input whole f p params locals call stage calls types vectors args (type_of e) (call number (map low args) (type_of e)) (meaning.calling setting number (map part args)) gives))
+
 pub expr_evaluates : (m : Module) (input : Input) (whole : Sections) (f : Frame m input whole) (p : Program) (params : List (Direction × Ty)) (locals : List Ty) (call : ℕ → List Lower → Ty → Emit ℕ) (stage : StageVar → Value) (calls : Calls) (e : Expr) → IsTyped p params locals → NoVectors m input whole f
     → IsExpr (around_body (program_lists p) params locals) e → Throughout (λ (x : Expr). IsSound (length p.structs) (type_of x)) e → Throughout (Asks m input whole f p params locals call stage calls) e → IsEvaluated m input whole f p params locals call stage calls e
 unfolding lowers means
 expr_evaluates m input whole f p params locals call stage calls e types vectors is sound asks = evaluated m input whole f p params locals call stage calls types vectors e is sound asks
+
+pub call_has_value : (m : Module) (input : Input) (whole : Sections) (f : Frame m input whole) (p : Program) (params : List (Direction × Ty)) (locals : List Ty) (call : ℕ → List Lower → Ty → Emit ℕ) (stage : StageVar → Value) (calls : Calls) (e : Expr) (number : ℕ) (args : List Expr) → IsTyped p params locals → NoVectors m input whole f
+    → form_of e ≡ ExprKind-F.Call number args
+    → GivesValue m input whole f p (around_body (program_lists p) params locals) (any_splits (map (lowers (lowered_in p call)) args)) (type_of e) (call number (map (lowers (lowered_in p call)) args) (type_of e)) (meaning.calling (meant_in p stage calls) number (map (means (meant_in p stage calls)) args))
+    → HasValue m input whole f p params locals call stage calls e
+unfolding lowers means
+call_has_value m input whole f p params locals call stage calls e number args types vectors is gives = called_value m input whole f p params locals call stage calls types vectors e number args is gives

@@ -28,6 +28,7 @@ use Rattle.gsl_lower_law_main.proofs.Ends.{ends}
 use Rattle.gsl_lower_law_functions.specs.Bodies.{AtResult, DoesBody}
 use Rattle.gsl_lower_law_functions.proofs.Ended.{void_body_does}
 use Rattle.gsl_lower_law_shader.proofs.Bodies.{typed_body_does}
+use Rattle.gsl_lower_law_shader.proofs.Called.{body_asked}
 use Rattle.gsl_lower_law_shader.specs.Depths.{AllStand, body_of, call_of, stage_of, statements_of}
 use Rattle.gsl_lower_law_shader.proofs.Ranked.{ranked_do}
 use Rattle.gsl_lower_law_shader.specs.Alike.{EndsAs, IsMain, around_main, main_begins}
@@ -39,7 +40,7 @@ module _ (m : Module) (input : Input) (whole : Sections) (p : Program) (place : 
   statements_do : DoesStatement m input whole f p (around_main p tree) (any_leaves (map (λ (s : LowerStmt). s.leaves) (statements_of p tree))) (in_turn (statements_of p tree)) run
   statements_do =
       typed_body_does m input whole f p [] tree.locals (call_of p) (stage_of p input) (calls p input most_calls) tree.body main.typed main.knows main.body
-      (main.asks (λ other below. ranked_do m input whole p place stages rank most_calls other valid written all below))
+      (body_asked m input whole p place stages rank most_calls most_calls (λ other below. ranked_do m input whole p place stages rank most_calls other valid written all below) f main.of_module [] tree.locals main.typed main.knows f.result tree.body main.body main.asks)
 
   body_does : DoesBody m input whole f p (around_main p tree) begin (body_of p tree f.result) run
   body_does = void_body_does m input whole f p (around_main p tree) (any_leaves (map (λ (s : LowerStmt). s.leaves) (statements_of p tree))) (in_turn (statements_of p tree)) run begin statements_do main.nothing

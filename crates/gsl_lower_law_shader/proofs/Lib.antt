@@ -1,3 +1,5 @@
 mod Bodies
+mod Arguments
+mod Called
 mod Ranked
 mod Ended

@@ -35,6 +35,7 @@ use Rattle.gsl_lower_law_functions.proofs.Ended.{body_does, void_body_does}
 use Rattle.gsl_lower_law_zeros.proofs.Given.{zeros_given}
 use Rattle.gsl_lower_law_evaluated.proofs.Facts.{plain_real}
 use Rattle.gsl_lower_law_shader.proofs.Bodies.{typed_body_does}
+use Rattle.gsl_lower_law_shader.proofs.Called.{body_asked}
 use Rattle.gsl_lower_law_shader.specs.Depths.{AllStand, CallsDo, DoesAt, Stands, body_of, call_of, globals_of, stage_of, statements_of}
 
 module _ (m : Module) (input : Input) (whole : Sections) (p : Program) (place : FlowPlace) (stages : List (Option Value)) (rank : ℕ → ℕ) (valid : Valid m) (written : Written m whole) where
@@ -54,7 +55,8 @@ module _ (m : Module) (input : Input) (whole : Sections) (p : Program) (place : 
         → DoesStatement m input whole g p inner (any_leaves (map (λ (s : LowerStmt). s.leaves) (statements_of p s.tree))) (in_turn (statements_of p s.tree)) run
     statements_do g of_module gives =
         typed_body_does m input whole g p head.params s.tree.locals (call_of p) (stage_of p input) (calls p input depth) s.tree.body s.typed (s.knows g of_module)
-        (subst (λ t. IsBody inner t s.tree.body) (sym gives) s.body) (s.asks depth lower g of_module)
+        (subst (λ t. IsBody inner t s.tree.body) (sym gives) s.body)
+        (body_asked m input whole p place stages rank (rank number) depth lower g of_module head.params s.tree.locals s.typed (s.knows g of_module) head.result s.tree.body s.body (s.asks depth g of_module))
 
     bodies : (g : Frame m input whole) → IsFrame m input whole place stages g → g.before ≡ s.stands.before → g.code ≡ s.stands.code → g.result ≡ head.result → DoesBody m input whole g p inner s.begin (body_of p s.tree head.result) run
     bodies g of_module front same gives = subst (λ t. DoesBody m input whole g p inner s.begin (body_of p s.tree t) run) gives (by s.result)

@@ -1,5 +1,5 @@
 -- How a module ends, and how its shader does (GLSL 4.50, 6.1 and 6.4; SPIR-V 1.0, 2.4).
-use Rattle.std.specs.Prelude.{◌≡◌, ℕ, ◌<◌, List, [], slice_get, Option, Some}
+use Rattle.std.specs.Prelude.{◌≡◌, ℕ, List, [], slice_get, Option, Some}
 use Rattle.gsl_base.specs.declared.input.Input.{Input}
 use Rattle.gsl_base.specs.declared.input.Output.{Output}
 use Rattle.gsl_types.specs.declared.ty.Ty.TheVariants.{Void}
@@ -12,7 +12,7 @@ use Rattle.gsl_tree.specs.WellTyped.{around_body, program_lists}
 use Rattle.gsl_tree.specs.declared.program.Program.{Program}
 use Rattle.gsl_tree.specs.declared.unit.Function.{Function}
 use Rattle.gsl_meaning.specs.Shader as shader
-use Rattle.gsl_meaning.specs.Shader.{Outcome, begins, calls, entered, most_calls}
+use Rattle.gsl_meaning.specs.Shader.{Outcome, begins, entered, most_calls}
 use Rattle.gsl_meaning.specs.State as meaning
 use Rattle.gsl_machine.specs.State.{Ended, State}
 use Rattle.gsl_spv.specs.Sections.{Sections}
@@ -21,10 +21,11 @@ use Rattle.gsl_lower_holders.specs.declared.place.FlowPlace.{FlowPlace}
 use Rattle.gsl_lower_follows.specs.Following.{Faults, Lasts}
 use Rattle.gsl_lower_follows.specs.Frames.{Frame, Inside}
 use Rattle.gsl_lower_follows.specs.Stretching.{Stretch}
+use Rattle.gsl_lower_law_entered.specs.Modules.{IsFrame}
 use Rattle.gsl_lower_law_main.specs.Ending.{HasOutputs}
 use Rattle.gsl_lower_law_evaluated.specs.Evaluating.{IsTyped}
-use Rattle.gsl_lower_law_shader.specs.Typed.{AsksOf, KnowsTypes}
-use Rattle.gsl_lower_law_shader.specs.Depths.{CallsDo, body_of, call_of, stage_of}
+use Rattle.gsl_lower_law_shader.specs.Typed.{KnowsTypes}
+use Rattle.gsl_lower_law_shader.specs.Depths.{AreAskedOf, body_of}
 
 -- It ends with an output after so many instructions, and so many units are left.
 pub record EndsWith (m : Module) (input : Input) (units : ℕ) (state : State) (output : Output) : Type 0 where
@@ -46,10 +47,10 @@ abbrev pub around_main : Program → Function → Around
 around_main p f = around_body (program_lists p) [] f.locals
 
 module _ (m : Module) (input : Input) (whole : Sections) (p : Program) (place : FlowPlace) (stages : List (Option Value)) (rank : ℕ → ℕ) (f : Frame m input whole) where
-  -- Main is well typed and runs in a frame that no other called, where its body stands as it is lowered; the types and the outputs of the module are known, and what is asked of the expressions in it is so, where the functions that it may
-  -- call do what they mean.
+  -- Main is well typed and runs in a frame that no other called, where its body stands as it is lowered; the types and the outputs of the module are known, and what is asked of the expressions in it is so.
   pub record IsMain (tree : Function) (begin : Flow) : Type 0 where
     pub found : slice_get p.functions p.main ≡ Some tree
+    pub of_module : IsFrame m input whole place stages f
     pub alone : f.waiting ≡ []
     pub nothing : f.result ≡ Void
     pub outs : HasOutputs m input whole f p
@@ -59,4 +60,4 @@ module _ (m : Module) (input : Input) (whole : Sections) (p : Program) (place : 
     pub typed : IsTyped p [] tree.locals
     pub body : IsBody (around_main p tree) f.result tree.body
     pub knows : KnowsTypes m input whole f p
-    pub asks : ((other : ℕ) → rank other < most_calls → CallsDo m input whole p place stages most_calls other) → AlongAll (AsksOf m input whole f p [] tree.locals (call_of p) (stage_of p input) (calls p input most_calls)) (with_exits outside tree.body)
+    pub asks : AlongAll (AreAskedOf m input whole p place stages rank most_calls most_calls f [] tree.locals) (with_exits outside tree.body)

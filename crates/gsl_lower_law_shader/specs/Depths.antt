@@ -1,15 +1,22 @@
 -- The functions of a program where they stand in a module, and what their calls do at a depth (GLSL 4.50, 6.1).
 use Rattle.std.specs.Prelude.{◌≡◌, ℕ, ◌<◌, List, [], map, length, slice_get, Option, Some}
+use Rattle.std.specs.List.{AllByRecursion}
 use Rattle.gsl_base.specs.declared.input.Input.{Input}
+use Rattle.gsl_types.specs.Known.{IsSound}
+use Rattle.gsl_types.specs.declared.ty.Direction.{Direction}
 use Rattle.gsl_types.specs.declared.ty.Ty.{Ty}
 use Rattle.gsl_words.specs.declared.module.Module.{Module}
 use Rattle.gsl_values.specs.declared.value.Value.{Value}
 use Rattle.gsl_tree.specs.Around.{Around}
 use Rattle.gsl_tree.specs.Statements.{IsBody}
-use Rattle.gsl_tree.specs.Trees.{AlongAll, outside, with_exits}
+use Rattle.gsl_tree.specs.Trees.{AlongAll, Exits, Throughout, exprs_of, form_of, outside, type_of, with_exits}
 use Rattle.gsl_tree.specs.WellTyped.{IsResult, around_body, program_lists}
+use Rattle.gsl_tree.specs.declared.expr.Expr.{Expr}
+use Rattle.gsl_tree.specs.declared.expr.ExprKind.{ExprKind}
+use Rattle.gsl_tree.specs.declared.expr.ExprKind.TheOpen.{ExprKind-F}
 use Rattle.gsl_tree.specs.declared.expr.StageVar.{StageVar}
 use Rattle.gsl_tree.specs.declared.program.Program.{Program}
+use Rattle.gsl_tree.specs.declared.stmt.Stmt.{Stmt, out-Stmt}
 use Rattle.gsl_tree.specs.declared.unit.Function.{Function}
 use Rattle.gsl_tree.specs.declared.unit.Prototype.{Prototype}
 use Rattle.gsl_meaning.specs.Shader.{calls, function_of}
@@ -26,8 +33,8 @@ use Rattle.gsl_lower_follows.specs.Frames.{Frame}
 use Rattle.gsl_lower_law_entered.specs.Modules.{IsFrame, IsFunction}
 use Rattle.gsl_lower_law_functions.specs.Bodies.{bodied}
 use Rattle.gsl_lower_law_functions.specs.Functions.{FunctionDoes, IsLowered}
-use Rattle.gsl_lower_law_evaluated.specs.Evaluating.{IsTyped, lowered_in}
-use Rattle.gsl_lower_law_shader.specs.Typed.{AsksOf, KnowsTypes}
+use Rattle.gsl_lower_law_evaluated.specs.Evaluating.{AsksFor, IsTyped, lowered_in}
+use Rattle.gsl_lower_law_shader.specs.Typed.{KnowsTypes}
 
 -- what calls are lowered to in a program
 abbrev pub call_of : Program → ℕ → List Lower → Ty → Emit ℕ
@@ -58,8 +65,31 @@ module _ (m : Module) (input : Input) (whole : Sections) (p : Program) (place : 
   abbrev pub CallsDo : ℕ → ℕ → Type 0
   CallsDo depth number = (head : Prototype) (function : ℕ) → slice_get p.prototypes number ≡ Some head → slice_get place.functions number ≡ Some function → DoesAt depth number function head
 
-  -- The function of a head is well typed and stands in the module as it is lowered; in each frame of it the types of the module are known, and what is asked of the expressions in it is so, where
-  -- calls of functions of lower rank do what they mean.
+  -- The module has the function of a head, and it ranks below a number.
+  pub record MayCall (rank : ℕ → ℕ) (below number : ℕ) : Type 0 where
+    pub less : rank number < below
+    pub function : ℕ
+    pub known : slice_get place.functions number ≡ Some function
+
+  module _ (rank : ℕ → ℕ) (below depth : ℕ) (f : Frame m input whole) (params : List (Direction × Ty)) (locals : List Ty) where
+    -- What is asked of an expression: of a call that the module has its function, which ranks lower; of all others what is asked of them anywhere.
+    abbrev pub AsksBelowFor : Expr → ExprKind-F ExprKind Expr → Type 0
+    AsksBelowFor e (ExprKind-F.Call number args) = MayCall rank below number
+    AsksBelowFor e form = AsksFor m input whole f p params locals (call_of p) (stage_of p input) (calls p input depth) e form
+
+    abbrev pub AsksBelow : Expr → Type 0
+    AsksBelow e = AsksBelowFor e (form_of e)
+
+    -- In an expression all types are those of the program, and what is asked of its parts is so.
+    pub record AreAsked (e : Expr) : Type 0 where
+      pub sound : Throughout (λ (part : Expr). IsSound (length p.structs) (type_of part)) e
+      pub asks : Throughout AsksBelow e
+
+    -- so in the expressions of a statement
+    abbrev pub AreAskedOf : Exits → Stmt → Type 0
+    AreAskedOf exits s = AllByRecursion AreAsked (exprs_of (out-Stmt s))
+
+  -- The function of a head is well typed and stands in the module as it is lowered; in each frame of it the types of the module are known, and what is asked of the expressions in it is so.
   pub record Stands (rank : ℕ → ℕ) (number function : ℕ) (head : Prototype) : Type 0 where
     pub tree : Function
     pub found : function_of p.functions number ≡ Some tree
@@ -71,8 +101,7 @@ module _ (m : Module) (input : Input) (whole : Sections) (p : Program) (place : 
     pub typed : IsTyped p head.params tree.locals
     pub body : IsBody (around_body (program_lists p) head.params tree.locals) head.result tree.body
     pub knows : (g : Frame m input whole) → IsFrame m input whole place stages g → KnowsTypes m input whole g p
-    pub asks : (depth : ℕ) → ((other : ℕ) → rank other < rank number → CallsDo depth other) → (g : Frame m input whole) → IsFrame m input whole place stages g
-        → AlongAll (AsksOf m input whole g p head.params tree.locals (call_of p) (stage_of p input) (calls p input depth)) (with_exits outside tree.body)
+    pub asks : (depth : ℕ) (g : Frame m input whole) → IsFrame m input whole place stages g → AlongAll (AreAskedOf rank (rank number) depth g head.params tree.locals) (with_exits outside tree.body)
 
   -- All functions that the module knows do so.
   abbrev pub AllStand : (ℕ → ℕ) → Type 0

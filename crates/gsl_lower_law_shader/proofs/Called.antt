@@ -1,0 +1,76 @@
+-- What is asked of the expressions in a body, where the functions that it may call do what they mean.
+use Rattle.std.proofs.Common.{◌≡◌, refl, ℕ, ◌<◌, List, [], ◌∷◌, Option}
+use Rattle.std.specs.List.{AllByRecursion}
+use Rattle.gsl_base.specs.declared.input.Input.{Input}
+use Rattle.gsl_types.specs.declared.ty.Direction.{Direction}
+use Rattle.gsl_types.specs.declared.ty.Ty.{Ty}
+use Rattle.gsl_words.specs.declared.module.Module.{Module}
+use Rattle.gsl_values.specs.declared.value.Value.{Value}
+use Rattle.gsl_tree.specs.Around.{Around}
+use Rattle.gsl_tree.specs.Expressions.{IsExpr, IsNode}
+use Rattle.gsl_tree.specs.Statements.{IsBody, IsStep}
+use Rattle.gsl_tree.specs.Trees.{Along, AlongAll, Exits, Placed, Throughout, ThroughoutAll, exprs_of, form_of, inner_of, outside, parts_of, with_exits}
+use Rattle.gsl_tree.specs.WellTyped.{around_body, program_lists}
+use Rattle.gsl_tree.specs.declared.expr.Expr.{Expr}
+use Rattle.gsl_tree.specs.declared.expr.ExprKind.{ExprKind}
+use Rattle.gsl_tree.specs.declared.expr.ExprKind.TheOpen.{ExprKind-F}
+use Rattle.gsl_tree.specs.declared.program.Program.{Program}
+use Rattle.gsl_tree.specs.declared.stmt.Stmt.{Stmt, out-Stmt}
+use Rattle.gsl_meaning.specs.Shader.{calls}
+use Rattle.gsl_spv.specs.Sections.{Sections}
+use Rattle.gsl_lower_holders.specs.declared.place.FlowPlace.{FlowPlace}
+use Rattle.gsl_lower_follows.specs.Frames.{Frame}
+use Rattle.gsl_lower_law_entered.specs.Modules.{IsFrame}
+use Rattle.gsl_lower_law_evaluated.specs.Evaluating.{Asks, AsksFor, IsTyped}
+use Rattle.gsl_lower_law_shader.specs.Typed.{AsksOf, AsksThroughout, KnowsTypes}
+use Rattle.gsl_lower_law_shader.specs.Depths.{AreAsked, AreAskedOf, AsksBelow, AsksBelowFor, CallsDo, call_of, globals_of, stage_of}
+use Rattle.gsl_lower_law_shader.proofs.Arguments.{call_evaluates}
+
+module _ (m : Module) (input : Input) (whole : Sections) (p : Program) (place : FlowPlace) (stages : List (Option Value)) (rank : ℕ → ℕ) (below depth : ℕ) (lower : (other : ℕ) → rank other < below → CallsDo m input whole p place stages depth other)
+    (f : Frame m input whole) (of_module : IsFrame m input whole place stages f) (params : List (Direction × Ty)) (locals : List Ty) (types : IsTyped p params locals) (knows : KnowsTypes m input whole f p) where
+  abbrev around : Around
+  around = around_body (program_lists p) params locals
+
+  abbrev Wanted : Expr → Type 0
+  Wanted = Asks m input whole f p params locals (call_of p) (stage_of p input) (calls p input depth)
+
+  abbrev Given : Expr → Type 0
+  Given = AsksBelow m input whole p place stages rank below depth f params locals
+
+  one_asked : (e : Expr) (form : ExprKind-F ExprKind Expr) → form_of e ≡ form → IsNode around e → AsksBelowFor m input whole p place stages rank below depth f params locals e form
+      → AsksFor m input whole f p params locals (call_of p) (stage_of p input) (calls p input depth) e form
+  one_asked e (ExprKind-F.Call number args) is node may = λ xs.
+      call_evaluates m input whole f p params locals (stage_of p input) (calls p input depth) types knows place stages (globals_of p) e number may.function args is node of_module (record { globals = refl; interfaces = refl }) may.known
+      (λ head named. lower number may.less head may.function named may.known) xs
+  one_asked e form is node asks = asks
+
+  mutual
+    asked : (e : Expr) → Throughout (IsNode around) e → Throughout Given e → Throughout Wanted e
+    asked _ (Throughout.whole e node parts) (Throughout.whole _ ask asks) = Throughout.whole e (one_asked e (form_of e) refl node ask) (all_asked (parts_of (form_of e)) parts asks)
+
+    all_asked : (es : List Expr) → ThroughoutAll (IsNode around) es → ThroughoutAll Given es → ThroughoutAll Wanted es
+    all_asked _ ThroughoutAll.none asks = ThroughoutAll.none
+    all_asked _ (ThroughoutAll.more e es is rest) (ThroughoutAll.more _ _ ask asks) = ThroughoutAll.more e es (asked e is ask) (all_asked es rest asks)
+
+  exprs_asked : (es : List Expr) → AllByRecursion (IsExpr around) es → AllByRecursion (AreAsked m input whole p place stages rank below depth f params locals) es
+      → AllByRecursion (AsksThroughout m input whole f p params locals (call_of p) (stage_of p input) (calls p input depth)) es
+  exprs_asked [] are asks = tt
+  exprs_asked (e ∷ es) are asks = (record { sound = asks.0.sound; asks = asked e are.0 asks.0.asks }, exprs_asked es are.1 asks.1)
+
+  module _ (result : Ty) where
+    abbrev Wants : Exits → Stmt → Type 0
+    Wants = AsksOf m input whole f p params locals (call_of p) (stage_of p input) (calls p input depth)
+
+    abbrev Gives : Exits → Stmt → Type 0
+    Gives = AreAskedOf m input whole p place stages rank below depth f params locals
+
+    mutual
+      along : (exits : Exits) (s : Stmt) → Along (IsStep around result) exits s → Along Gives exits s → Along Wants exits s
+      along _ _ (Along.whole exits s step inner) (Along.whole _ _ asks others) = Along.whole exits s (exprs_asked (exprs_of (out-Stmt s)) step.typed asks) (all_along (inner_of exits (out-Stmt s)) inner others)
+
+      all_along : (placed : List Placed) → AlongAll (IsStep around result) placed → AlongAll Gives placed → AlongAll Wants placed
+      all_along _ AlongAll.none others = AlongAll.none
+      all_along _ (AlongAll.more one rest first later) (AlongAll.more _ _ ask asks) = AlongAll.more one rest (along one.0 one.1 first ask) (all_along rest later asks)
+
+    pub body_asked : (ss : List Stmt) → IsBody around result ss → AlongAll Gives (with_exits outside ss) → AlongAll Wants (with_exits outside ss)
+    body_asked ss is asks = all_along (with_exits outside ss) is asks
