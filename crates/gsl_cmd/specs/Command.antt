@@ -19,9 +19,7 @@ use Rattle.gsl_exec.specs.Texts.{host_text}
 use Rattle.gsl_cmd.specs.declared.converting.Conversion.{Conversion}
 use Rattle.gsl_cmd.specs.Converting.{Made, too_long}
 use Rattle.gsl_cmd.specs.declared.compiling.TheConstants.{MAX_SOURCE_BYTES}
-use Rattle.gsl_cmd.specs.Lowering.{module_of}
 use Rattle.gsl_cmd.specs.Verdict.{Accepts, Compiles, FirstFault, fault_in}
-use Rattle.gsl_form.specs.declared.program.Program.{Program}
 use Rattle.gsl_valid.specs.Valid.{Valid}
 use Rattle.gsl_words.specs.declared.module.Module.{Module}
 use Rattle.gsl_base.specs.declared.fault.Fault.{Fault}
@@ -219,7 +217,7 @@ Unreads names stop.Memory end = end ≡ unlisted.Memory
 
 -- What making the module of sources comes to.
 abbrev pub MakesModule : Stage → List (List ℕ) → List Name → Result Module Unlisted → Type 0
-MakesModule stage sources names (Ok m) = (p : Program) × Accepts stage sources p × (m ≡ module_of p)
+MakesModule stage sources names (Ok m) = Accepts stage sources m
 MakesModule stage sources names (Err (unlisted.Told status text)) = (fault : Fault) × FirstFault stage sources fault × (status ≡ 1) × (text ≡ told_fault names fault)
 MakesModule stage sources names (Err unlisted.Memory) = Unit {0}
 MakesModule stage sources names (Err unlisted.Host) = ⊥

@@ -11,12 +11,11 @@ use Rattle.gsl_host.specs.declared.target.Stream.TheVariants as stream
 use Rattle.gsl_host.specs.declared.target.Target.TheVariants.{Reading, Writing, Printing}
 use Rattle.gsl_host.specs.Outside.{Files}
 use Rattle.gsl_words.specs.Bytes.{bytes_of}
+use Rattle.gsl_words.specs.declared.module.Module.{Module}
 use Rattle.gsl_cmd.specs.declared.compiling.TheConstants.{MAX_SOURCE_BYTES}
-use Rattle.gsl_form.specs.declared.program.Program.{Program}
 use Rattle.gsl_form.specs.Form.{Name}
 use Rattle.gsl_given.specs.declared.given.TheConstants.{MAX_MANIFEST_BYTES}
 use Rattle.gsl_given.specs.Texts.{long_text}
-use Rattle.gsl_cmd.specs.Lowering.{module_of}
 use Rattle.gsl_plan.specs.Plan.{Plan}
 use Rattle.gsl_cmd.specs.declared.converting.Conversion.{Conversion}
 use Rattle.gsl_cmd.specs.declared.converting.Conversion.TheVariants.{Disassemble, Assemble}
@@ -80,16 +79,15 @@ refused names targets fault =
     record { status = 1; out = []; err = fault_text (slice_index_or names fault.place.unit []) fault; effect = Keeps; targets = targets }
 
 -- the job where the sources are judged so
-abbrev pub compiled : Name → List Name → List Target → Checked Program → Job
-compiled out names targets (Ok p) =
-    record { status = 0; out = []; err = []; effect = Writes out (bytes_of (module_of p)); targets = targets ++ Writing out ∷ [] }
+abbrev pub compiled : Name → List Name → List Target → Checked Module → Job
+compiled out names targets (Ok m) = record { status = 0; out = []; err = []; effect = Writes out (bytes_of m); targets = targets ++ Writing out ∷ [] }
 compiled out names targets (Err fault) = refused names targets fault
 
 abbrev pub IsCompileJob : Stage → Name → List Name → List Target → Job → Gathered → Type 0
 IsCompileJob stage out names targets job Absent = job ≡ failed targets
 IsCompileJob stage out names targets job (TooLong unit) = job ≡ refused names targets (fault_in unit E0900)
 IsCompileJob stage out names targets job (Sources sources) =
-    (verdict : Checked Program) × Judges stage sources verdict × (job ≡ compiled out names targets verdict)
+    (verdict : Checked Module) × Judges stage sources verdict × (job ≡ compiled out names targets verdict)
 
 -- the job where a module or its text is refused, and this line says why
 abbrev pub rejected : List ℕ → Name → Job
@@ -126,13 +124,13 @@ job_of owed = record { status = owed.status; out = owed.out; err = owed.err; eff
 abbrev pub IsExecJob : Name → Name → Files → Job → Type 0
 IsExecJob file inputs files job = (owed : Owed) × IsOwed file inputs files owed × (job ≡ job_of owed)
 
--- the job of the module of the program that the sources make, or of their first fault, which comes before what is wrong with the manifest
-abbrev pub IsModuleJob : Files → List Name → List ℕ → List Target → Job → Checked Program → Type 0
-IsModuleJob files names text targets job (Ok p) = (owed : Owed) × IsTaken files text targets owed (Ok (module_of p)) None × (job ≡ job_of owed)
+-- the job of the module of the sources, or of their first fault, which comes before what is wrong with the manifest
+abbrev pub IsModuleJob : Files → List Name → List ℕ → List Target → Job → Checked Module → Type 0
+IsModuleJob files names text targets job (Ok m) = (owed : Owed) × IsTaken files text targets owed (Ok m) None × (job ≡ job_of owed)
 IsModuleJob files names text targets job (Err fault) = job ≡ refused names targets fault
 
 abbrev pub IsTextJob : Files → Stage → List Name → List (List ℕ) → List ℕ → List Target → Job → Type 0
-IsTextJob files stage names sources text targets job = (verdict : Checked Program) × Judges stage sources verdict × IsModuleJob files names text targets job verdict
+IsTextJob files stage names sources text targets job = (verdict : Checked Module) × Judges stage sources verdict × IsModuleJob files names text targets job verdict
 
 -- the manifest's file, which is read behind the sources and before they are compiled
 abbrev pub IsInputsJob : Files → Stage → List Name → List (List ℕ) → List Target → Job → Read → Type 0

@@ -1,5 +1,5 @@
--- What the rules say of the sources of a stage: they give one program, or they have one first fault.
-use Rattle.std.specs.Prelude.{◌≡◌, ℕ, ◌+◌, List, [], ◌∷◌, ◌++◌, length, Option, Some, None, Result, Ok, Err, nat_lt, if◌then◌else◌}
+-- What the rules say of the sources of a stage: they give one module, or they have one first fault.
+use Rattle.std.specs.Prelude.{◌≡◌, ◌⊎◌, ℕ, ◌+◌, List, [], ◌∷◌, ◌++◌, length, Option, Some, None, Result, Ok, Err, nat_lt, if◌then◌else◌}
 use Rattle.gsl_base.specs.declared.stage.Stage.{Stage}
 use Rattle.gsl_base.specs.declared.stage.Stage.TheVariants.{Compute}
 use Rattle.gsl_base.specs.declared.fault.Code.{Code}
@@ -18,7 +18,9 @@ use Rattle.gsl_tree.specs.declared.unit.TypedUnit.{TypedUnit}
 use Rattle.gsl_tree.specs.declared.program.Program.{Program as Linked}
 use Rattle.gsl_tree.specs.WellTyped.{program_lists}
 use Rattle.gsl_link.specs.Joined.{joined}
+use Rattle.gsl_lowered.specs.Lowered.{IsLowered}
 use Rattle.gsl_words.specs.declared.module.Module.{Module}
+use Rattle.gsl_words.specs.declared.target.Target.TheVariants.{V10}
 use Rattle.gsl_words.specs.Bytes.{bytes_of}
 use Rattle.gsl_cmd.specs.declared.compiling.TheConstants.{MAX_SOURCE_BYTES}
 use Rattle.gsl_form.specs.declared.program.Program.{Program}
@@ -27,6 +29,7 @@ use Rattle.gsl_cmd.specs.Lowering.{module_of}
 use Rattle.gsl_cmd.specs.Carries.{Carries}
 use Rattle.gsl_cmd.specs.Weight.{IsSmall}
 use Rattle.gsl_valid.specs.Portable.{Portable}
+use Rattle.gsl_valid.specs.Valid.{Valid}
 
 -- the tree of a unit
 abbrev pub Tree : Type 0
@@ -78,48 +81,77 @@ linked_behind stage units = units >>= joined stage
 abbrev pub linked_of : Stage → List (List ℕ) → Checked Linked
 linked_of stage sources = linked_behind stage (units_of stage sources)
 
--- A linked program is of the form that is built so far: it spells this one.
+-- A linked program is of the form of which all is proved so far: it spells this one.
 pub record IsOfForm (stage : Stage) (linked : Linked) (p : Program) : Type 0 where
   pub stage_is : stage ≡ Compute
   pub spelled : Spells (program_lists linked) p
 
--- The sources give this program.
-pub record Accepts (stage : Stage) (sources : List (List ℕ)) (p : Program) : Type 0 where
+-- The module is the one that carries the program that a linked one spells.
+abbrev pub IsCarried : Stage → Linked → Module → Type 0
+IsCarried stage linked m = (p : Program) × IsOfForm stage linked p × (m ≡ module_of p)
+
+-- A linked program that is not of the form is lowered to this module, which is valid.
+abbrev pub IsOther : Stage → Linked → Module → Type 0
+IsOther stage linked m = ((p : Program) → IsOfForm stage linked p → ⊥) × IsLowered V10 linked m
+
+-- A linked program has this module.
+abbrev pub HasModule : Stage → Linked → Module → Type 0
+HasModule stage linked m = IsCarried stage linked m ⊎ IsOther stage linked m
+
+-- The sources give this module.
+pub record Accepts (stage : Stage) (sources : List (List ℕ)) (m : Module) : Type 0 where
+  pub linked : Linked
+  pub read : linked_of stage sources ≡ Ok linked
+  pub has : HasModule stage linked m
+
+-- The sources give this program of the form.
+pub record AreOfForm (stage : Stage) (sources : List (List ℕ)) (p : Program) : Type 0 where
   pub linked : Linked
   pub read : linked_of stage sources ≡ Ok linked
   pub formed : IsOfForm stage linked p
 
--- The fault is the first one of the sources; where they have none, their program is not of the form.
+-- The fault is the first one of the sources; where they have none, their program has no module.
 abbrev pub FaultWhere : Stage → Fault → Checked Linked → Type 0
 FaultWhere stage fault (Err first) = fault ≡ first
-FaultWhere stage fault (Ok linked) = (fault ≡ fault_in 0 E0001) × ((p : Program) → IsOfForm stage linked p → ⊥)
+FaultWhere stage fault (Ok linked) = (fault ≡ fault_in 0 E0001) × ((m : Module) → HasModule stage linked m → ⊥)
 
 -- The sources have this first fault.
 abbrev pub FirstFault : Stage → List (List ℕ) → Fault → Type 0
 FirstFault stage sources fault = FaultWhere stage fault (linked_of stage sources)
 
--- The rules give this program, or this first fault.
-abbrev pub Judges : Stage → List (List ℕ) → Checked Program → Type 0
-Judges stage sources (Ok p) = Accepts stage sources p
+-- The rules give this module, or this first fault.
+abbrev pub Judges : Stage → List (List ℕ) → Checked Module → Type 0
+Judges stage sources (Ok m) = Accepts stage sources m
 Judges stage sources (Err fault) = FirstFault stage sources fault
 
--- What making the module of a linked program answers: that of its program, or that it is not of the form.
+-- What making the module of a linked program answers: the module, or that it has none.
 abbrev pub MakesLinked : Stage → Linked → Result Module Refusal → Type 0
-MakesLinked stage linked (Ok m) = (p : Program) × IsOfForm stage linked p × (m ≡ module_of p)
+MakesLinked stage linked (Ok m) = HasModule stage linked m
 MakesLinked stage linked (Err (refusal.Source fault)) = FaultWhere stage fault (Ok linked)
 MakesLinked stage linked (Err refusal.Memory) = Unit {0}
 
--- What making the module of the sources answers: that of their program, or their first fault.
+-- What making the module of one that is not of the form answers.
+abbrev pub MakesOther : Linked → Result Module Refusal → Type 0
+MakesOther linked (Ok m) = IsLowered V10 linked m
+MakesOther linked (Err (refusal.Source fault)) = (fault ≡ fault_in 0 E0001) × ((m : Module) → IsLowered V10 linked m → ⊥)
+MakesOther linked (Err refusal.Memory) = Unit {0}
+
+-- What making the module of the sources answers: the module, or their first fault.
 abbrev pub Makes : Stage → List (List ℕ) → Result Module Refusal → Type 0
-Makes stage sources (Ok m) = (p : Program) × Accepts stage sources p × (m ≡ module_of p)
+Makes stage sources (Ok m) = Accepts stage sources m
 Makes stage sources (Err (refusal.Source fault)) = FirstFault stage sources fault
 Makes stage sources (Err refusal.Memory) = Unit {0}
 
--- What compiling the sources answers: the file of the program's module, which carries the program, is small for it and is one that other
--- consumers take; or the sources' first fault.
+-- What is promised of the module of sources: it is valid; and where they give a program of the form it carries the program, is small for it
+-- and is one that other consumers take.
+pub record IsPromised (stage : Stage) (sources : List (List ℕ)) (m : Module) : Type 0 where
+  pub valid : Valid m
+  pub carries : (p : Program) → AreOfForm stage sources p → Carries m p
+  pub small : (p : Program) → AreOfForm stage sources p → IsSmall m p
+  pub portable : (p : Program) → AreOfForm stage sources p → Portable m
+
+-- What compiling the sources answers: the file of their module, which is as is promised; or their first fault.
 abbrev pub Compiles : Stage → List (List ℕ) → Result (List ℕ) Refusal → Type 0
-Compiles stage sources (Ok bytes) =
-    (p : Program) × Accepts stage sources p × (bytes ≡ bytes_of (module_of p)) × Carries (module_of p) p × IsSmall (module_of p) p
-    × Portable (module_of p)
+Compiles stage sources (Ok bytes) = (m : Module) × Accepts stage sources m × (bytes ≡ bytes_of m) × IsPromised stage sources m
 Compiles stage sources (Err (refusal.Source fault)) = FirstFault stage sources fault
 Compiles stage sources (Err refusal.Memory) = Unit {0}

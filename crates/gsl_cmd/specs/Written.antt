@@ -9,24 +9,18 @@ use Rattle.gsl_words.specs.Instructions.{HasFile}
 use Rattle.gsl_asm.specs.Shown.{shown}
 use Rattle.gsl_asm.specs.Texts.{IsTextOf}
 use Rattle.gsl_words.specs.declared.module.Module.{Module}
-use Rattle.gsl_form.specs.declared.program.Program.{Program}
 use Rattle.gsl_cmd.specs.Job.{gather, Sources}
-use Rattle.gsl_cmd.specs.Carries.{Carries}
-use Rattle.gsl_cmd.specs.Lowering.{module_of}
 use Rattle.gsl_plan.specs.Plan.{Plan}
-use Rattle.gsl_cmd.specs.Verdict.{Accepts}
-use Rattle.gsl_cmd.specs.Weight.{IsSmall}
-use Rattle.gsl_valid.specs.Portable.{Portable}
+use Rattle.gsl_cmd.specs.Verdict.{Accepts, IsPromised}
 use Rattle.gsl_valid.specs.Valid.{Valid}
 
--- For `compile`: the sources that the plan names give a program, and OUT is now the file of a module that carries it, is
--- small for it and is one that other consumers take. For `dis`: OUT is now the text that shows the module of FILE; for `asm`: the file of the module that FILE is a text of.
--- For `check`: FILE is that of a valid module. For `exec`: MODULE is that of a valid module, whose run on the input of the manifest has ended. For `run`: the sources give a program,
--- and the run of its module, which carries it and is small for it, on the input of the manifest has ended. All other files are as before.
+-- For `compile`: the sources that the plan names give a module, which is as is promised, and OUT is now its file. For `dis`: OUT is now the text that shows the module of FILE; for `asm`: the file of the module that FILE is a text of.
+-- For `check`: FILE is that of a valid module. For `exec`: MODULE is that of a valid module, whose run on the input of the manifest has ended. For `run`: the sources give a module, which is
+-- as is promised, and its run on the input of the manifest has ended. All other files are as before.
 abbrev pub Written : Plan → Files → Option Files → Type 0
 Written (Plan.Compile stage out names) before after =
-    (sources : List (List ℕ)) × (p : Program) × (m : Module) × (gather before 0 names ≡ Sources sources) × Accepts stage sources p
-    × (after ≡ Some (insert before out (bytes_of m))) × Carries m p × IsSmall m p × Portable m
+    (sources : List (List ℕ)) × (m : Module) × (gather before 0 names ≡ Sources sources) × Accepts stage sources m
+    × (after ≡ Some (insert before out (bytes_of m))) × IsPromised stage sources m
 Written (Plan.Disassemble file out) before after =
     (bytes : List ℕ) × (m : Module) × (get before file ≡ Some bytes) × HasFile m × (bytes ≡ bytes_of m) × (after ≡ Some (insert before out (shown m)))
 Written (Plan.Assemble file out) before after =
@@ -36,5 +30,5 @@ Written (Plan.Check file) before after =
 Written (Plan.Exec file inputs) before after =
     (bytes : List ℕ) × (m : Module) × (output : Output) × (get before file ≡ Some bytes) × Valid m × (bytes ≡ bytes_of m) × HasEnded before inputs m output × (after ≡ Some before)
 Written (Plan.Run stage inputs names) before after =
-    (sources : List (List ℕ)) × (p : Program) × (output : Output) × (gather before 0 names ≡ Sources sources) × Accepts stage sources p
-    × Carries (module_of p) p × IsSmall (module_of p) p × HasEnded before inputs (module_of p) output × (after ≡ Some before)
+    (sources : List (List ℕ)) × (m : Module) × (output : Output) × (gather before 0 names ≡ Sources sources) × Accepts stage sources m
+    × IsPromised stage sources m × HasEnded before inputs m output × (after ≡ Some before)

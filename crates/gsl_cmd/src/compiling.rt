@@ -10,7 +10,8 @@ ghost use Rattle.gsl_cmd.specs.Lowering.{module_of};
 ghost use Rattle.gsl_link.specs.Joined.{IsLinked};
 ghost use Rattle.gsl_parse.specs.Fed.{unit_fed};
 ghost use Rattle.gsl_pp.specs.Unit.{unit_of as given_out};
-ghost use Rattle.gsl_cmd.specs.Verdict.{Compiles, IsOfForm, Makes, MakesLinked, linked_behind, linked_of, too_long_from, tree_of, typed_from, typed_of, fault_in as first_line};
+ghost use Rattle.gsl_tree.specs.WellTyped.{IsProgram as IsTyped};
+ghost use Rattle.gsl_cmd.specs.Verdict.{Compiles, IsOfForm, Makes, MakesLinked, MakesOther, linked_behind, linked_of, too_long_from, tree_of, typed_from, typed_of, fault_in as first_line};
 
 use crate::lowering::lower;
 use gsl_base::{Bytes, Code, Fault, Memory, Place, Raws, Refusal, Sources, Stage};
@@ -18,12 +19,13 @@ use gsl_check::check;
 use gsl_form::{Program, read_linked};
 use gsl_lex::lex;
 use gsl_link::link;
+use gsl_lowered::lowered;
 use gsl_parse::parse_feed;
 use gsl_pp::Feed;
 use gsl_syntax::Unit;
 use gsl_tree::{Program as Linked, TypedUnit, TypedUnits};
 use gsl_validate::Valid;
-use gsl_words::{Module, encode};
+use gsl_words::{Module, Target, encode};
 use std::alloc::Global;
 
 /// The most bytes of a source file.
@@ -34,12 +36,13 @@ pub const MAX_SOURCES: usize = 64;
 
 /// The bytes of the module that the sources of a stage compile to, or their first fault.
 ///
-/// The module keeps the rules V1 to V18, has the buffer, its members and their names where
-/// `specs/Places.antt` says, and is no larger than `specs/Weight.antt` says.
+/// The module keeps the rules V1 to V18. Where the program is of the form of which all is proved so far (`gsl_form`), it does what the program does
+/// (`specs/Carries.antt`), has the buffer, its members and their names where `specs/Places.antt` says, and is no larger than `specs/Weight.antt` says; any other
+/// program's is the one that it is lowered to (`gsl_lowered`).
 ///
 /// `Refusal::Source` comes exactly where the sources have a fault: `E0900` of the first that is longer than `MAX_SOURCE_BYTES`, else that of
 /// the first source in their order that the lexer, the preprocessor, the limit on nesting, the parser or the checker refuses, else that of
-/// linking them, else `E0001` where the program that they make is not of the form that `docs/LANGUAGE.md` describes.
+/// linking them, else `E0001` where the program that they make is lowered to no valid module.
 pub fn compile(alloc: Global, stage: Stage, sources: &Sources) -> Result<Bytes, Refusal>
     requires { length sources.now ≤ MAX_SOURCES }
     ensures { Compiles stage sources.now result }
@@ -146,13 +149,25 @@ fn tree_from(alloc: Global, number: u32, raws: Raws) -> Result<Unit, Refusal>
     parse_feed(alloc, feed)
 }
 
-/// The module of a linked program, or `E0001` where it is not of the form.
+/// The module of a linked program, or `E0001` where it has none.
 fn module_linked(alloc: Global, stage: Stage, linked: &Linked) -> Result<Valid, Refusal>
+    requires { IsTyped linked.now }
     ensures { MakesLinked stage linked.now result }
 {
     match accepted(alloc, stage, linked)? {
-        None => Err(Refusal::Source(fault_in(0, Code::E0001))),
+        None => module_lowered(alloc, linked),
         Some(program) => Ok(valid_of(alloc, &program)?),
+    }
+}
+
+/// The valid module that a linked program is lowered to, or `E0001` where there is none.
+fn module_lowered(alloc: Global, linked: &Linked) -> Result<Valid, Refusal>
+    requires { IsTyped linked.now }
+    ensures { MakesOther linked.now result }
+{
+    match lowered(alloc, Target::V10, linked)? {
+        Some(valid) => Ok(valid),
+        None => Err(Refusal::Source(fault_in(0, Code::E0001))),
     }
 }
 

@@ -10,7 +10,7 @@ ghost use Rattle.gsl_form.specs.Form.{IsProgram};
 ghost use Rattle.gsl_cmd.specs.Lowering.{module_of};
 ghost use Rattle.gsl_cmd.specs.Carries.{Runs, EndAlike};
 ghost use Rattle.gsl_cmd.specs.Places.{Places};
-ghost use Rattle.gsl_cmd.specs.Verdict.{Accepts, Compiles};
+ghost use Rattle.gsl_cmd.specs.Verdict.{Accepts, AreOfForm, Compiles};
 
 /// The module of each program does what the program does.
 pub fn module_runs()
@@ -18,11 +18,12 @@ pub fn module_runs()
 {}
 
 /// From every fitting input on which the shader indexes in bounds, the module ends with given outputs
-/// exactly when the shader does: for every module that does what a program does, for the program's own,
-/// and for the one whose bytes compiling gives, which is valid and placed besides.
+/// exactly when the shader does: for every module that does what a program does, for that of a program of the form,
+/// and for the one whose bytes compiling gives where the sources make such a program, which is placed besides. It is valid in any case.
 pub fn headline()
     ensures carried { (m : Module) (p : Program) → Runs m p → EndAlike m p }
     ensures own { (p : Program) → IsProgram p → EndAlike (module_of p) p }
     ensures compiled { (stage : Stage) (sources : List (List ℕ)) (bytes : List ℕ) → Compiles stage sources (Ok bytes) →
-        (p : Program) × (m : Module) × Accepts stage sources p × (bytes ≡ bytes_of m) × Valid m × Places m p × EndAlike m p }
+        (m : Module) × Accepts stage sources m × (bytes ≡ bytes_of m) × Valid m
+        × ((p : Program) → AreOfForm stage sources p → Places m p × EndAlike m p) }
 {}
