@@ -47,8 +47,8 @@ use Rattle.gsl_lower_reaching.specs.Reaching.{AtVariable, GivesPlace, HasReached
 use Rattle.gsl_lower_reaching.specs.Reaching.Begins.{variable}
 use Rattle.gsl_lower_reaching.specs.Trails.{IsInside, IsOutside, Trail}
 use Rattle.gsl_lower_reaching.proofs.Moving.{numbers_so, picks_so, trail_after}
-use Rattle.gsl_lower_held.specs.Waiting.{IsKept}
-use Rattle.gsl_lower_held.proofs.Holds.{adds_fetched, adds_held, is_fetched, is_held}
+use Rattle.gsl_lower_reads.specs.Waiting.{IsKept}
+use Rattle.gsl_lower_reads.proofs.Holds.{adds_fetched, adds_held, is_fetched, is_held}
 use Rattle.gsl_lower_reads.proofs.Adding.{adds_reads}
 use Rattle.gsl_lower_reads.proofs.Found.{read_typed}
 use Rattle.gsl_lower_reads.proofs.Straying.{read_strays}
