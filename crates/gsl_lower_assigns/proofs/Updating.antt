@@ -57,8 +57,8 @@ use Rattle.gsl_lower_writes.proofs.Adding.{adds_stores, always_pointed}
 use Rattle.gsl_lower_writes.proofs.Outside.{pointed_strays}
 use Rattle.gsl_lower_writes.proofs.Pointed.{IsServed, ServesPlace, place_pointed}
 use Rattle.gsl_lower_writes.proofs.Stored.{at_variable, trail_stored}
-use Rattle.gsl_lower_updates.specs.Updating.{Updates, update_means}
-use Rattle.gsl_lower_updates.proofs.Finishing.{Has, Keeping, finishes, from_before, serving_keeps, serving_reads, still_serving}
+use Rattle.gsl_lower_assigns.specs.Updating.{Updates, update_means}
+use Rattle.gsl_lower_assigns.proofs.Finishing.{Has, Keeping, finishes, from_before, serving_keeps, serving_reads, still_serving}
 
 -- what a part of lowering gives
 abbrev carrier : {B C A : Type 0} → (B → C → Emit A) → Type 0
