@@ -30,8 +30,8 @@ use Rattle.gsl_lower_law_expr.proofs.Short.{behind_assoc}
 use Rattle.gsl_lower_reaching.specs.Reaching.{GivesPlace, HasReached, HasStrayed, IsTrail}
 use Rattle.gsl_lower_reaching.specs.Trails.{IsInside, IsOutside, Trail}
 use Rattle.gsl_lower_reaching.proofs.Moving.{trail_after}
-use Rattle.gsl_lower_held.specs.Waiting.{IsKept}
-use Rattle.gsl_lower_held.proofs.Holds.{adds_fetched, adds_held, is_fetched, is_held}
+use Rattle.gsl_lower_reads.specs.Waiting.{IsKept}
+use Rattle.gsl_lower_reads.proofs.Holds.{adds_fetched, adds_held, is_fetched, is_held}
 use Rattle.gsl_lower_indexes.specs.Computed.{Comes}
 use Rattle.gsl_lower_writes.specs.Written.{IsWritten}
 use Rattle.gsl_lower_writes.proofs.Adding.{adds_stores}

@@ -1,3 +1,6 @@
 pub mod First
 pub mod Probing
 pub mod Assigned
+pub mod Finishing
+pub mod Stepping
+pub mod Updating

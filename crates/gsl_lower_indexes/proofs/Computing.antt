@@ -37,8 +37,8 @@ use Rattle.gsl_lower_elements.specs.Indexes.{Indexes, indexed_means}
 use Rattle.gsl_lower_reaching.specs.Reaching.{GivesPlace, HasReached, HasStrayed, IsTrail}
 use Rattle.gsl_lower_reaching.specs.Trails.{IsInside, IsOutside, Trail}
 use Rattle.gsl_lower_elements.proofs.Rebased.{GoesOn, place_then}
-use Rattle.gsl_lower_held.specs.Waiting.{IsKept}
-use Rattle.gsl_lower_held.proofs.Holds.{adds_held, is_held}
+use Rattle.gsl_lower_reads.specs.Waiting.{IsKept}
+use Rattle.gsl_lower_reads.proofs.Holds.{adds_held, is_held}
 use Rattle.gsl_lower_reads.proofs.Adding.{adds_reads}
 use Rattle.gsl_lower_reads.proofs.Straying.{read_strays}
 use Rattle.gsl_lower_indexes.specs.Computed.{IsComputed}

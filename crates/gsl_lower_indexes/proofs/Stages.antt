@@ -42,8 +42,8 @@ use Rattle.gsl_lower_reaching.specs.Trails.{IsInside, IsOutside, Trail}
 use Rattle.gsl_lower_elements.proofs.Indexing.{MayIndex, step_in, step_out}
 use Rattle.gsl_lower_reaching.proofs.Moving.{trail_after}
 use Rattle.gsl_lower_elements.proofs.Rebased.{does_both}
-use Rattle.gsl_lower_held.specs.Waiting.{IsKept}
-use Rattle.gsl_lower_held.proofs.Holds.{adds_fetched, is_fetched}
+use Rattle.gsl_lower_reads.specs.Waiting.{IsKept}
+use Rattle.gsl_lower_reads.proofs.Holds.{adds_fetched, is_fetched}
 use Rattle.gsl_lower_indexes.specs.Computed.{Comes, IsComputed}
 use Rattle.gsl_lower_indexes.proofs.Always.{always_step}
 

@@ -99,9 +99,9 @@ use Rattle.gsl_lower_elements.proofs.Literal.{literal_place}
 use Rattle.gsl_lower_indexes.proofs.Computing.{computed_place}
 use Rattle.gsl_lower_assigns.specs.Assigning.{assign_means}
 use Rattle.gsl_lower_assigns.proofs.Assigned.{place_assigned}
-use Rattle.gsl_lower_updates.specs.Updating.{step_means, update_means}
-use Rattle.gsl_lower_updates.proofs.Stepping.{place_stepped}
-use Rattle.gsl_lower_updates.proofs.Updating.{place_updated}
+use Rattle.gsl_lower_assigns.specs.Updating.{step_means, update_means}
+use Rattle.gsl_lower_assigns.proofs.Stepping.{place_stepped}
+use Rattle.gsl_lower_assigns.proofs.Updating.{place_updated}
 use Rattle.gsl_lower_law_evaluated.specs.Evaluating.{Evaluates, IsTyped, NoVectors, lowered_in, meant_in}
 use Rattle.gsl_lower_law_evaluated.proofs.Evaluated.{value_evaluates}
 use Rattle.gsl_lower_law_evaluated.proofs.Facts.{at_place, conversion_of, element_real, index_shape, is_false, plain_real, scalar_shape, shaped_read, shaped_real, struct_real, value_read, value_real}

@@ -39,9 +39,9 @@ use Rattle.gsl_lower_law_expr.proofs.Operands.{given_value}
 use Rattle.gsl_lower_law_expr.proofs.Shapes.{value_shape}
 use Rattle.gsl_lower_law_expr.proofs.Short.{behind_assoc}
 use Rattle.gsl_lower_law_expr.proofs.Steps.{always_converted}
-use Rattle.gsl_lower_law_called.proofs.Passing.{Passed}
-use Rattle.gsl_lower_held.specs.Waiting.{IsKept}
-use Rattle.gsl_lower_held.proofs.Holds.{adds_fetched, is_fetched}
+use Rattle.gsl_lower_law_functions.proofs.Passing.{Passed}
+use Rattle.gsl_lower_reads.specs.Waiting.{IsKept}
+use Rattle.gsl_lower_reads.proofs.Holds.{adds_fetched, is_fetched}
 use Rattle.gsl_lower_writes.specs.Written.{IsWritten}
 use Rattle.gsl_lower_writes.proofs.Adding.{adds_stores}
 use Rattle.gsl_lower_writes.proofs.Stored.{trail_stored}

@@ -20,7 +20,7 @@ use Rattle.gsl_lower_expr.specs.Parts.{Lower, any_splits}
 use Rattle.gsl_lower_follows.specs.Frames.{Frame}
 use Rattle.gsl_lower_follows.specs.Giving.{After, Grown}
 use Rattle.gsl_lower_law_entered.specs.Entering.{Argument, IsHeld, ids_of, values_of}
-use Rattle.gsl_lower_law_called.proofs.Passing.{Passed}
+use Rattle.gsl_lower_law_functions.proofs.Passing.{Passed}
 use Rattle.gsl_lower_law_passed.specs.Arguments.{ComesBack}
 use Rattle.gsl_lower_reaching.specs.Reaching.{IsTrail}
 use Rattle.gsl_lower_reaching.specs.Trails.{IsInside, Trail}

@@ -38,12 +38,12 @@ use Rattle.gsl_lower_follows.proofs.Fetching.{adds_keep}
 use Rattle.gsl_lower_follows.proofs.Growing.{adds_given, adds_then, grown_then}
 use Rattle.gsl_lower_follows.proofs.Holding.{NowWaits, after_any, after_same, after_then, does_keep, does_so}
 use Rattle.gsl_lower_law_expr.proofs.Operands.{after_less, given_value}
-use Rattle.gsl_lower_law_called.proofs.Passing.{Passed, still_held}
+use Rattle.gsl_lower_law_functions.proofs.Passing.{Passed, still_held}
 use Rattle.gsl_lower_reaching.specs.Reaching.{HasReached, HasStrayed, IsTrail}
 use Rattle.gsl_lower_reaching.specs.Trails.{IsInside, IsOutside, Trail}
 use Rattle.gsl_lower_reaching.proofs.Moving.{trail_after}
-use Rattle.gsl_lower_held.specs.Waiting.{IsKept}
-use Rattle.gsl_lower_held.proofs.Holds.{adds_held, is_held}
+use Rattle.gsl_lower_reads.specs.Waiting.{IsKept}
+use Rattle.gsl_lower_reads.proofs.Holds.{adds_held, is_held}
 use Rattle.gsl_lower_reads.proofs.Adding.{adds_reads}
 use Rattle.gsl_lower_reads.proofs.Straying.{read_strays}
 use Rattle.gsl_lower_reads.proofs.Taking.{taken}

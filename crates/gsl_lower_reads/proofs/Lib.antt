@@ -4,3 +4,5 @@ pub mod Grounds
 pub mod Taking
 pub mod Straying
 pub mod Accessed
+pub mod Moves
+pub mod Holds

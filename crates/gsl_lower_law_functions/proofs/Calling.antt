@@ -50,8 +50,8 @@ use Rattle.gsl_lower_law_returns.specs.Calling.{AreAlike}
 use Rattle.gsl_lower_law_entered.specs.Modules.{IsFrame}
 use Rattle.gsl_lower_law_entered.specs.Entering.{Argument, AreHeld, values_of}
 use Rattle.gsl_lower_law_functions.specs.Functions.{FunctionDoes, HasReturned}
-use Rattle.gsl_lower_law_called.specs.Passing.{AreOf, ins}
-use Rattle.gsl_lower_law_called.proofs.Passing.{AllGo, ArePassed, GoTo, Passed, adds_passing, all_go, going, going_all, meant, none_back, nothing_back, passing_does, pointers_are, still_held, values_are}
+use Rattle.gsl_lower_law_functions.specs.Passing.{AreOf, ins}
+use Rattle.gsl_lower_law_functions.proofs.Passing.{AllGo, ArePassed, GoTo, Passed, adds_passing, all_go, going, going_all, meant, none_back, nothing_back, passing_does, pointers_are, still_held, values_are}
 
 module _ (m : Module) (input : Input) (whole : Sections) (f : Frame m input whole) (p : Program) (around : Around) where
   -- ---- the type of the result

@@ -1,5 +1,5 @@
-use Rattle.gsl_lower_updates.proofs.Stepping.{place_stepped}
-use Rattle.gsl_lower_updates.proofs.laws.places_are_stepped.Goals as goal
+use Rattle.gsl_lower_assigns.proofs.Stepping.{place_stepped}
+use Rattle.gsl_lower_assigns.proofs.laws.places_are_stepped.Goals as goal
 
 pub returns : goal.returns
 returns c = λ m input sections f p around loose splits which a left known leads. place_stepped m input sections f p around loose a which known splits left leads

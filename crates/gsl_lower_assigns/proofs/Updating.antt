@@ -47,8 +47,8 @@ use Rattle.gsl_lower_reaching.specs.Reaching.{AtVariable, GivesPlace, HasReached
 use Rattle.gsl_lower_reaching.specs.Reaching.Begins.{variable}
 use Rattle.gsl_lower_reaching.specs.Trails.{IsInside, IsOutside, Trail}
 use Rattle.gsl_lower_reaching.proofs.Moving.{numbers_so, picks_so, trail_after}
-use Rattle.gsl_lower_held.specs.Waiting.{IsKept}
-use Rattle.gsl_lower_held.proofs.Holds.{adds_fetched, adds_held, is_fetched, is_held}
+use Rattle.gsl_lower_reads.specs.Waiting.{IsKept}
+use Rattle.gsl_lower_reads.proofs.Holds.{adds_fetched, adds_held, is_fetched, is_held}
 use Rattle.gsl_lower_reads.proofs.Adding.{adds_reads}
 use Rattle.gsl_lower_reads.proofs.Found.{read_typed}
 use Rattle.gsl_lower_reads.proofs.Straying.{read_strays}
@@ -57,8 +57,8 @@ use Rattle.gsl_lower_writes.proofs.Adding.{adds_stores, always_pointed}
 use Rattle.gsl_lower_writes.proofs.Outside.{pointed_strays}
 use Rattle.gsl_lower_writes.proofs.Pointed.{IsServed, ServesPlace, place_pointed}
 use Rattle.gsl_lower_writes.proofs.Stored.{at_variable, trail_stored}
-use Rattle.gsl_lower_updates.specs.Updating.{Updates, update_means}
-use Rattle.gsl_lower_updates.proofs.Finishing.{Has, Keeping, finishes, from_before, serving_keeps, serving_reads, still_serving}
+use Rattle.gsl_lower_assigns.specs.Updating.{Updates, update_means}
+use Rattle.gsl_lower_assigns.proofs.Finishing.{Has, Keeping, finishes, from_before, serving_keeps, serving_reads, still_serving}
 
 -- what a part of lowering gives
 abbrev carrier : {B C A : Type 0} → (B → C → Emit A) → Type 0

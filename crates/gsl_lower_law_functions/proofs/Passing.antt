@@ -33,7 +33,7 @@ use Rattle.gsl_lower_follows.proofs.Holding.{NowWaits, after_same, after_then, d
 use Rattle.gsl_lower_law_expr.specs.Known.{AllGive}
 use Rattle.gsl_lower_law_expr.proofs.Operands.{given_value}
 use Rattle.gsl_lower_law_entered.specs.Entering.{Argument, AreHeld, IsHeld, ids_of, values_of}
-use Rattle.gsl_lower_law_called.specs.Passing.{AreOf, ins}
+use Rattle.gsl_lower_law_functions.specs.Passing.{AreOf, ins}
 
 -- ---- how arguments go
 

@@ -32,8 +32,8 @@ use Rattle.gsl_lower_law_expr.proofs.Short.{does_change}
 use Rattle.gsl_lower_reaching.specs.Reaching.{Begins, IsTrail, NumberBy}
 use Rattle.gsl_lower_reaching.specs.Reaching.Begins.{variable, value, holder}
 use Rattle.gsl_lower_reaching.specs.Trails.{Trail}
-use Rattle.gsl_lower_held.specs.Waiting.{IsKept}
-use Rattle.gsl_lower_held.proofs.Moves.{IsPart, Made, Makes, adds_reached, made_here, made_then, moves_reached}
+use Rattle.gsl_lower_reads.specs.Waiting.{IsKept}
+use Rattle.gsl_lower_reads.proofs.Moves.{IsPart, Made, Makes, adds_reached, made_here, made_then, moves_reached}
 
 -- ---- what only adds
 

@@ -1,5 +1,5 @@
-use Rattle.gsl_lower_updates.proofs.Updating.{place_updated}
-use Rattle.gsl_lower_updates.proofs.laws.places_are_updated.Goals as goal
+use Rattle.gsl_lower_assigns.proofs.Updating.{place_updated}
+use Rattle.gsl_lower_assigns.proofs.laws.places_are_updated.Goals as goal
 
 pub returns : goal.returns
 returns c = λ m input sections f p around loose splits which a b left right known leads gives. place_updated m input sections f p around loose splits which a b known left right leads gives

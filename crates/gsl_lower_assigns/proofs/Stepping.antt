@@ -43,8 +43,8 @@ use Rattle.gsl_lower_writes.proofs.Adding.{adds_stores, always_pointed}
 use Rattle.gsl_lower_writes.proofs.Outside.{pointed_strays}
 use Rattle.gsl_lower_writes.proofs.Pointed.{IsServed, ServesPlace, place_pointed}
 use Rattle.gsl_lower_writes.proofs.Stored.{at_variable}
-use Rattle.gsl_lower_updates.specs.Updating.{IsStepped, step_means}
-use Rattle.gsl_lower_updates.proofs.Finishing.{Has, from_before, serving_keeps, serving_reads, still_serving, stores_here}
+use Rattle.gsl_lower_assigns.specs.Updating.{IsStepped, step_means}
+use Rattle.gsl_lower_assigns.proofs.Finishing.{Has, from_before, serving_keeps, serving_reads, still_serving, stores_here}
 
 module _ (m : Module) (input : Input) (sections : Sections) (f : Frame m input sections) (p : Program) (around : Around) (loose : Bool) (a : Lower) (which : StepOp) (known : IsStepped p a.ty which) where
   abbrev t : Ty
