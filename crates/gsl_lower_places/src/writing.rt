@@ -8,7 +8,7 @@ use crate::pointers::pointer;
 use crate::reached::{Base, Part, Picked, Reached, count_of, stored_shape};
 use crate::reading::{operand, with_part};
 use gsl_instr::op;
-use gsl_lower_values::{Shape, converted, give, replaced, type_of};
+use gsl_lower_values::{Operand, Shape, converted, picked, type_of};
 use gsl_spv::{BuildRefusal, Builder};
 use std::alloc::Global;
 
@@ -45,48 +45,48 @@ pub fn put_at(
     b.put(op::STORE, &[to, word])
 }
 
-/// Several components are stored: those of the vector that are not picked keep their words.
-#[tactic(auto, unfolding(crate::specs::Writing::merged_at))]
-fn merged_at(
+/// The components of a value, from the one of a number on, are stored at positions of a vector, each by a pointer of its own.
+#[tactic(auto, unfolding(crate::specs::Writing::each_from))]
+fn each_from(
     alloc: Global,
     b: &mut Builder,
     id: u32,
     class: u32,
-    shape: Shape,
-    positions: &[u32],
     parts: &[Part],
-    v: u32,
-) -> Result<(), BuildRefusal>
-    ensures { Does result b.new (spec.merged_at id class shape positions.now parts.now v b.old) }
-{
-    let stored = stored_shape(class, shape);
-    let new = in_class(alloc, b, class, (shape.0, count_of(positions)?), v)?;
-    let ty = type_of(b, stored)?;
-    let to = pointer(alloc, b, id, class, ty, parts)?;
-    let old = give(alloc, b, op::LOAD, &[to], ty)?;
-    let word = replaced(alloc, b, operand(stored, old), positions, new)?;
-    b.put(op::STORE, &[to, word])
-}
-
-fn put_vector(
-    alloc: Global,
-    b: &mut Builder,
-    id: u32,
-    class: u32,
-    shape: Shape,
+    v: Operand,
+    number: u32,
     positions: &[u32],
-    parts: &[Part],
-    v: u32,
 ) -> Result<(), BuildRefusal>
-    ensures { Does result b.new (spec.put_vector id class shape positions.now parts.now v b.old) }
+    requires { number + length positions.now < 2 ^ 32 }
+    ensures { Does result b.new (spec.each_from id class parts.now v number positions.now b.old) }
 {
     match positions {
-        [position] => {
+        [] => Ok(()),
+        [position, rest @ ..] => {
+            let word = picked(alloc, b, v, &[number])?;
             let all = with_part(alloc, parts, Part::Fixed(*position))?;
-            put_at(alloc, b, id, class, (shape.0, 1), all.as_slice(), v)
+            put_at(alloc, b, id, class, (v.shape.0, 1), all.as_slice(), word)?;
+            each_from(alloc, b, id, class, parts, v, number + 1, rest)
         }
-        _ => merged_at(alloc, b, id, class, shape, positions, parts, v),
     }
+}
+
+/// The components at positions of a vector are stored, in their order: the vector is not read, and its other components are not touched.
+#[tactic(auto, unfolding(crate::specs::Writing::each_at))]
+fn each_at(
+    alloc: Global,
+    b: &mut Builder,
+    id: u32,
+    class: u32,
+    shape: Shape,
+    positions: &[u32],
+    parts: &[Part],
+    v: u32,
+) -> Result<(), BuildRefusal>
+    ensures { Does result b.new (spec.each_at id class shape positions.now parts.now v b.old) }
+{
+    let of = operand((shape.0, count_of(positions)?), v);
+    each_from(alloc, b, id, class, parts, of, 0, positions)
 }
 
 /// What is picked of what parts of a variable lead to is stored.
@@ -106,7 +106,7 @@ fn put_picked(
         return put_at(alloc, b, id, class, p.shape, parts, v);
     }
     match p.by {
-        None => put_vector(
+        None => each_at(
             alloc,
             b,
             id,
