@@ -25,14 +25,17 @@ unfoldable pub put_at : ℕ → ℕ → Shape → List Part → ℕ → Step (Un
 put_at id class shape parts v =
     in_class class shape v >>= (λ word. type_of (stored_shape class shape) >>= (λ type. pointer id class type parts >>= (λ to. putting op.STORE (to ∷ word ∷ []))))
 
--- the components of a value, from the one of a number on, are stored at positions of a vector, each by a pointer of its own
+-- the component of a number of a value is stored at a position of a vector, by a pointer of its own
+unfoldable pub one_at : ℕ → ℕ → List Part → Operand → ℕ → ℕ → Step (Unit {0})
+one_at id class parts v number position = picked v (number ∷ []) >>= put_at id class (v.shape.0, 1) (parts ++ Fixed position ∷ [])
+
+-- so are its components from a number on, at positions in their order
 unfoldable pub each_from : ℕ → ℕ → List Part → Operand → ℕ → List ℕ → Step (Unit {0})
 each_from id class parts v number [] = given tt
-each_from id class parts v number (position ∷ positions) =
-    picked v (number ∷ []) >>= (λ word. put_at id class (v.shape.0, 1) (parts ++ Fixed position ∷ []) word >>= (λ done. each_from id class parts v (number + 1) positions))
+each_from id class parts v number (position ∷ positions) = one_at id class parts v number position >>= (λ done. each_from id class parts v (number + 1) positions)
 
--- the components at positions of a vector, in their order: the vector is not read, and its other components are not touched
-unfoldable pub each_at : ℕ → ℕ → Shape → List ℕ → List Part → ℕ → Step (Unit {0})
+-- Several components of a vector are stored one by one: the vector is not read, which may not be allowed, and its others are not touched.
+abbrev pub each_at : ℕ → ℕ → Shape → List ℕ → List Part → ℕ → Step (Unit {0})
 each_at id class shape positions parts v = each_from id class parts (operand (shape.0, length positions) v) 0 positions
 
 abbrev pub put_by : ℕ → ℕ → Shape → Option Part → List ℕ → List Part → ℕ → Step (Unit {0})

@@ -1,6 +1,6 @@
 //! What is stored.
 
-ghost use Rattle.std.specs.Prelude.{◌≡◌, ◌∷◌, ◌++◌, [], IfOk, length};
+ghost use Rattle.std.specs.Prelude.{◌≡◌, ◌<◌, Some, length, slice_get};
 ghost use Rattle.gsl_lower_values.specs.Building.{Does};
 ghost use Rattle.gsl_lower_places.specs.Writing as spec;
 
@@ -45,9 +45,9 @@ pub fn put_at(
     b.put(op::STORE, &[to, word])
 }
 
-/// The components of a value, from the one of a number on, are stored at positions of a vector, each by a pointer of its own.
-#[tactic(auto, unfolding(crate::specs::Writing::each_from))]
-fn each_from(
+/// The component of a number of a value is stored at a position of a vector, by a pointer of its own.
+#[tactic(auto, unfolding(crate::specs::Writing::one_at))]
+fn one_at(
     alloc: Global,
     b: &mut Builder,
     id: u32,
@@ -55,24 +55,24 @@ fn each_from(
     parts: &[Part],
     v: Operand,
     number: u32,
-    positions: &[u32],
+    position: u32,
 ) -> Result<(), BuildRefusal>
-    requires { number + length positions.now < 2 ^ 32 }
-    ensures { Does result b.new (spec.each_from id class parts.now v number positions.now b.old) }
+    ensures { Does result b.new (spec.one_at id class parts.now v number position b.old) }
 {
-    match positions {
-        [] => Ok(()),
-        [position, rest @ ..] => {
-            let word = picked(alloc, b, v, &[number])?;
-            let all = with_part(alloc, parts, Part::Fixed(*position))?;
-            put_at(alloc, b, id, class, (v.shape.0, 1), all.as_slice(), word)?;
-            each_from(alloc, b, id, class, parts, v, number + 1, rest)
-        }
-    }
+    let word = picked(alloc, b, v, &[number])?;
+    let all = with_part(alloc, parts, Part::Fixed(position))?;
+    put_at(alloc, b, id, class, (v.shape.0, 1), all.as_slice(), word)
 }
 
-/// The components at positions of a vector are stored, in their order: the vector is not read, and its other components are not touched.
-#[tactic(auto, unfolding(crate::specs::Writing::each_at))]
+/// A position by its place.
+fn position_by_place(positions: &[u32], place: u32) -> u32
+    requires { place < length positions.now }
+    ensures { slice_get positions.now place ≡ Some result }
+{
+    positions[place as usize]
+}
+
+/// Several components of a vector are stored one by one: the vector is not read, which may not be allowed, and its others are not touched.
 fn each_at(
     alloc: Global,
     b: &mut Builder,
@@ -85,8 +85,21 @@ fn each_at(
 ) -> Result<(), BuildRefusal>
     ensures { Does result b.new (spec.each_at id class shape positions.now parts.now v b.old) }
 {
-    let of = operand((shape.0, count_of(positions)?), v);
-    each_from(alloc, b, id, class, parts, of, 0, positions)
+    let count = count_of(positions)?;
+    let of = operand((shape.0, count), v);
+    for k in 0..count {
+        one_at(
+            alloc,
+            b,
+            id,
+            class,
+            parts,
+            of,
+            k,
+            position_by_place(positions, k),
+        )?;
+    }
+    Ok(())
 }
 
 /// What is picked of what parts of a variable lead to is stored.
