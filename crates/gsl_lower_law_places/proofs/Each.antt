@@ -23,7 +23,7 @@ use Rattle.gsl_lower_places.specs.declared.reached.Part.TheVariants.{Fixed}
 use Rattle.gsl_lower_law.specs.Computing.{Acts, Grows, drawing}
 use Rattle.gsl_lower_law.specs.Operands.{converted_value}
 use Rattle.gsl_lower_law.specs.Values.{AreWords, IsOf, Stands}
-use Rattle.gsl_lower_law.proofs.Joining.{acts_then, given_does, grows_then}
+use Rattle.gsl_lower_law.proofs.Joining.{acts_then, grows_then}
 use Rattle.gsl_lower_law.proofs.Picking.{picked_computes}
 use Rattle.gsl_lower_law.proofs.Typed.{typed_grows}
 use Rattle.gsl_lower_law_constructors.proofs.Shares.{words_in}

@@ -24,7 +24,6 @@ use Rattle.gsl_lower_places.specs.Reached.{is_block_class, stored_scalar, stored
 use Rattle.gsl_lower_places.specs.Writing.{each_from, one_at, put_at, put_by, put_picked, stored}
 use Rattle.gsl_lower_places.specs.declared.reached.Base.TheVariants as base
 use Rattle.gsl_lower_places.specs.declared.reached.Part.{Part}
-use Rattle.gsl_lower_places.specs.declared.reached.Part.TheVariants.{Fixed}
 use Rattle.gsl_lower_places.specs.declared.reached.Picked.{Picked}
 use Rattle.gsl_lower_law.specs.Computing.{Acts, Left}
 use Rattle.gsl_lower_law.specs.Operands.{converted_value}
