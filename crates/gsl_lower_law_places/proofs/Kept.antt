@@ -112,7 +112,7 @@ set_fits s (w ∷ ws) zero x fits is = (is, fits.1)
 set_fits s (w ∷ ws) (suc k) x fits is = (fits.0, set_fits s ws k x fits.1 is)
 
 -- what stands in front of the rest of a list
-front_is : (l : List ℕ) (k x : ℕ) (rest : List ℕ) → drop k l ≡ x ∷ rest → (slice_index l k ≡ x) × (drop (k + 1) l ≡ rest) × (k < length l)
+pub front_is : (l : List ℕ) (k x : ℕ) (rest : List ℕ) → drop k l ≡ x ∷ rest → (slice_index l k ≡ x) × (drop (k + 1) l ≡ rest) × (k < length l)
 front_is [] zero x rest e = absurd (let long : 0 ≡ suc (length rest) = ap length e in omega (arith, long))
 front_is [] (suc k) x rest e = absurd (let long : 0 ≡ suc (length rest) = ap length e in omega (arith, long))
 front_is (y ∷ l) zero x rest e = (ap (λ l. slice_index l 0) e, ap (drop 1) e, omega arith)
