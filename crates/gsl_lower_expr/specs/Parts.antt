@@ -34,7 +34,7 @@ use Rattle.gsl_lower_places.specs.declared.reached.Reached.{Reached}
 use Rattle.gsl_lower_places.specs.Reached.{component_at, is_block_class, loose, part_of, swizzled, whole}
 use Rattle.gsl_lower_places.specs.Reading.{extracted, pointer, read}
 use Rattle.gsl_lower_places.specs.Writing.{stored}
-use Rattle.gsl_lower_places.specs.Pointed.{pointed}
+use Rattle.gsl_lower_places.specs.Pointed.{pointed, to_renew}
 use Rattle.gsl_lower_leaves.specs.Leaves.{leaves_of}
 use Rattle.gsl_lower_leaves.specs.Copies.{compared_whole, read_whole, store_whole}
 use Rattle.gsl_lower_leaves.specs.declared.leaf.Leaf.{Leaf}
@@ -284,10 +284,10 @@ after_assign structs t b kept y = fetch_reached b.splits kept >>= (λ to. stores
 abbrev pub assigned : List StructType → Lower → Lower → Emit ℕ
 assigned structs a b = a.reach >>= before_assign structs a.ty b.traits >>= (λ kept. b.value >>= after_assign structs a.ty b.traits kept)
 
--- where nothing has to wait, one pointer serves to read and to store
+-- where nothing has to wait, one pointer serves to read and to store, but for several components
 abbrev pub pointed_if : Bool → Shape → Reached → steps.Step Reached
 pointed_if false shape r = steps.given r
-pointed_if true shape r = pointed shape r
+pointed_if true shape r = to_renew shape r
 
 -- `op=` reads the old value before the right side
 unfoldable pub before_update : List StructType → Ty → Traits → Reached → Emit Kept

@@ -17,7 +17,7 @@ use gsl_instr::op;
 use gsl_lower_holders::{FlowPlace, holder, keep, type_id};
 use gsl_lower_leaves::{Leaf, Leaves, leaves_of, read_whole, store_whole};
 use gsl_lower_places::{
-    Base, Part, Picked, Reached, extracted, is_block_class, pointed, pointer, read, stored,
+    Base, Part, Picked, Reached, extracted, is_block_class, pointed, pointer, read, stored, to_renew,
 };
 use gsl_lower_values::{Operand, Shape, give};
 use gsl_spv::{BuildRefusal, Builder};
@@ -357,7 +357,7 @@ impl<'a> Lowerer<'a> {
         }
     }
 
-    /// Where nothing has to wait, one pointer serves to read and to store.
+    /// Where nothing has to wait, one pointer serves to read and to store, but for several components.
     pub(crate) fn pointed_if(
         &self,
         b: &mut Builder,
@@ -370,7 +370,7 @@ impl<'a> Lowerer<'a> {
         if !points {
             return Ok(r);
         }
-        pointed(self.alloc, b, shape, r)
+        to_renew(self.alloc, b, shape, r)
     }
 
     /// The value of what was found.

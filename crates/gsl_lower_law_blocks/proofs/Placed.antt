@@ -22,7 +22,7 @@ use Rattle.gsl_lower_law_leaves.specs.Equal.{HasLeaves, leaf_in}
 use Rattle.gsl_lower_law_places.proofs.Merged.{converted_of}
 use Rattle.gsl_lower_law_views.proofs.Stored.{all_seen}
 use Rattle.gsl_lower_law_copies.specs.Copying.{Place, numbers_of, put_leaves}
-use Rattle.gsl_lower_law_copies.proofs.Lists.{words_length}
+use Rattle.gsl_lower_law_places.proofs.Lists.{words_length}
 use Rattle.gsl_lower_law_blocks.specs.Placing.{ArePlaced, with_leaves}
 
 word_small : (s : Scalar) (w : ℕ) → is_word_of s w ≡ true → w < 2 ^ 32

@@ -1,3 +1,2 @@
-pub mod Puts
 pub mod Parted
 pub mod Served

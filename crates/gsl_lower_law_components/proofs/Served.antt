@@ -1,11 +1,11 @@
 -- One pointer into a block for what is stored there.
-use Rattle.std.proofs.Common.{◌≡◌, sym, ◌∙◌, subst, ℕ, ◌+◌, ◌*◌, ◌<◌, ◌≤◌, List, [], ◌∷◌, length, Option, Some, None, arith}
+use Rattle.std.proofs.Common.{◌≡◌, sym, ◌∙◌, subst, ℕ, ◌+◌, ◌*◌, ◌<◌, ◌≤◌, false, List, [], ◌∷◌, length, Option, Some, None, arith}
 use Rattle.gsl_base.specs.declared.input.Input.{Input}
 use Rattle.gsl_words.specs.declared.module.Module.{Module}
 use Rattle.gsl_values.specs.declared.value.Value.{Value}
 use Rattle.gsl_tree.specs.Shapes.{Shape}
 use Rattle.gsl_tree.specs.Values.{components_in}
-use Rattle.gsl_machine.specs.Memory.{bytes_of}
+use Rattle.gsl_machine.specs.Memory.{bytes_of, is_push}
 use Rattle.gsl_machine.specs.State.{Ids, InBlock, Pointer, Points, State}
 use Rattle.gsl_spv.specs.Sections.{Sections}
 use Rattle.gsl_lower_places.specs.Pointed.{pointed}
@@ -35,10 +35,10 @@ some_pointer : (a b : Pointer) → Some a ≡ Some b → a ≡ b
 some_pointer a b e = cc
 
 module _ (m : Module) (input : Input) (whole : Sections) (id class : ℕ) (parts : List Part) (p : Picked) (by : Option ℕ) (words : List ℕ) (from : Pointer) (variable offset pointee component : ℕ) (bytes : List ℕ) (v : Value) (state : State) (before : Sections)
-    (stands : state.ids id ≡ Some (Points from)) (each : NumberEach state.ids parts words) (leads : LeadsTo m input state from words (InBlock variable offset pointee)) (there : bytes_of m input state variable ≡ Some bytes) (vector : 2 ≤ p.shape.1 → IsVectorType m pointee component p.shape.1)
+    (stands : state.ids id ≡ Some (Points from)) (each : NumberEach state.ids parts words) (leads : LeadsTo m input state from words (InBlock variable offset pointee)) (no_push : is_push m variable ≡ false) (there : bytes_of m input state variable ≡ Some bytes) (vector : 2 ≤ p.shape.1 → IsVectorType m pointee component p.shape.1)
     (holds : HoldsComponents m input state (InBlock variable offset pointee) v) (is : IsOf (stored_shape class p.shape) v) (picks : Picks state.ids p by) (fits : AreStored by p.positions) (few : length p.positions ≤ p.shape.1) where
   abbrev Served : Reached → Ids → Type 0
-  Served = Puts m input whole class p by variable offset pointee
+  Served = Puts m input whole class p by variable offset
 
   abbrev lying : ℕ → Value → List ℕ
   lying n w = components_in (converted_value (stored_shape class (p.shape.0, n)).0 w)
@@ -57,7 +57,7 @@ module _ (m : Module) (input : Input) (whole : Sections) (id class : ℕ) (parts
   -- one component, to which the pointer leads
   at_one : (r : Reached) (ids : Ids) (k kind : ℕ) → length p.positions ≡ 1 → goes_to by p.positions ≡ k ∷ [] → IsAt class (InBlock variable (offset + 4 * k) kind) None r ids → Served r ids
   at_one r ids k kind single goes at = record {
-    puts = λ later before bytes w value keeps there small lies is_new new.
+    puts = λ later before bytes w value keeps there is_new new.
         subst (λ r. Left_by later (goes_to by p.positions) (lying (length p.positions) w) bytes before (length p.positions) r value) (sym at.is)
         (subst (λ n. Left_by later (goes_to by p.positions) (lying n w) bytes before n (record { base = base.Variable at.id class; path = []; picked = None }) value) (sym single)
         (subst (λ positions. Left_by later positions (lying 1 w) bytes before 1 (record { base = base.Variable at.id class; path = []; picked = None }) value) (sym goes)
@@ -76,9 +76,9 @@ module _ (m : Module) (input : Input) (whole : Sections) (id class : ℕ) (parts
 
   several_at : (r : Reached) (ids : Ids) → 2 ≤ p.shape.1 → IsAt class (InBlock variable offset pointee) (Some p) r ids → p.by ≡ None → by ≡ None → Served r ids
   several_at r ids many at none nothing = record {
-    puts = λ later before bytes w value keeps there small lies is_new new.
+    puts = λ later before bytes w value keeps there is_new new.
         subst (λ r. Left_by later (goes_to by p.positions) (lying (length p.positions) w) bytes before (length p.positions) r value) (sym at.is)
-        (blocks_stored m input whole at.id class [] p [] (InBlock variable offset pointee) variable offset pointee component bytes w value later before many (keeps.same at.id _ at.points) tt (leads_nowhere m input whole later (InBlock variable offset pointee)) there small (vector many) lies is_new new
+        (blocks_stored m input whole at.id class [] p [] (InBlock variable offset pointee) variable offset pointee component bytes w value later before many (keeps.same at.id _ at.points) tt (leads_nowhere m input whole later (InBlock variable offset pointee)) no_push there (vector many) is_new new
         (p.shape.0, length p.positions) by (record { by_word = no_word later.ids p.by by none nothing; some = picks.some; within = picks.within }) fits few);
   }
     where

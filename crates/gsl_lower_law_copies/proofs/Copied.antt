@@ -15,13 +15,13 @@ use Rattle.gsl_views.specs.Buffers.{put_words}
 use Rattle.gsl_machine.specs.Memory.{bytes_if, bytes_of, is_push, with_bytes_if, with_variable, words_at}
 use Rattle.gsl_machine.specs.State.{Ids, InBlock, InVariable, Pointer, Points, State, on}
 use Rattle.gsl_spv.specs.Sections.{Sections}
-use Rattle.gsl_lower_values.specs.Building.{Step, given, giving, putting, ◌>>=◌}
+use Rattle.gsl_lower_values.specs.Building.{Step, given, giving, ◌>>=◌}
 use Rattle.gsl_lower_values.specs.Constructors.{operand}
 use Rattle.gsl_lower_values.specs.Operators.{converted}
 use Rattle.gsl_lower_values.specs.Types.{type_of}
 use Rattle.gsl_lower_places.specs.Reached.{stored_shape}
 use Rattle.gsl_lower_places.specs.Reading.{extracted, loaded, number_in, pointer}
-use Rattle.gsl_lower_places.specs.Writing.{in_class, put_at}
+use Rattle.gsl_lower_places.specs.Writing.{put_at}
 use Rattle.gsl_lower_places.specs.declared.reached.Part.{Part}
 use Rattle.gsl_lower_places.specs.declared.reached.Part.TheVariants.{Fixed, By}
 use Rattle.gsl_lower_leaves.specs.Copies.{copied_in, copied_out, each, read_whole, store_whole}
@@ -31,7 +31,6 @@ use Rattle.gsl_lower_law.specs.Operands.{converted_value}
 use Rattle.gsl_lower_law.specs.Straying.{Strays}
 use Rattle.gsl_lower_law.specs.Values.{IsOf, Stands}
 use Rattle.gsl_spv.proofs.Extending.{extends_same}
-use Rattle.gsl_lower_law.proofs.Adding.{extends_put}
 use Rattle.gsl_lower_law.proofs.Giving.{giving_does, giving_grows}
 use Rattle.gsl_lower_law.proofs.Joining.{acts_then, given_does, grows_then}
 use Rattle.gsl_lower_law.proofs.Plain.{IsType, type_does}
@@ -46,11 +45,11 @@ use Rattle.gsl_lower_law_places.proofs.Kept.{lies_same}
 use Rattle.gsl_lower_law_places.proofs.Loads.{extracted_does, extracted_grows, loaded_computes, loads}
 use Rattle.gsl_lower_law_places.proofs.Outside.{loaded_strays, put_strays}
 use Rattle.gsl_lower_law_places.proofs.Reading.{converted_is, numbers_on}
-use Rattle.gsl_lower_law_places.proofs.Stored.{put_acts}
+use Rattle.gsl_lower_law_places.proofs.Stored.{put_acts, put_grows}
 use Rattle.gsl_lower_law_picks.specs.Outside.{HasPart}
 use Rattle.gsl_lower_law_picks.proofs.Along.{stray_on, words_lead}
 use Rattle.gsl_lower_law_copies.specs.Copying.{AreFixed, Fits, LieEach, Lies, Place, ShowEach, filled, numbers_of, put_leaves, with_leaf}
-use Rattle.gsl_lower_law_copies.proofs.Lists.{bytes_put, bytes_same, bytes_twice, get_put, put_same, put_twice, words_length}
+use Rattle.gsl_lower_law_places.proofs.Lists.{bytes_put, bytes_same, bytes_twice, get_put, put_same, put_twice, words_length}
 
 -- known numbers are their own words
 fixed_number : (ids : Ids) (parts : List Part) → AreFixed parts → NumberEach ids parts (map number_in parts)
@@ -69,26 +68,18 @@ module _ (m : Module) (input : Input) (whole : Sections) where
       (λ from later. grows_then m input whole later (giving op.LOAD (from ∷ []) type later) (λ v. converted shape.0 (operand (stored_shape class shape) v)) (giving_grows m input whole op.LOAD (from ∷ []) type later)
       (λ v last. converted_grows m input whole shape.0 (operand (stored_shape class shape) v) state last)))
 
-  put_grows : (id class : ℕ) (shape : Shape) (parts : List Part) (value : ℕ) (state : State) (before : Sections) → Grows before (put_at id class shape parts value before)
-  unfolding put_at in_class
-  put_grows id class shape parts value state before =
-      grows_then m input whole before (in_class class shape value before) (λ word. type_of (stored_shape class shape) >>= (λ type. pointer id class type parts >>= (λ to. putting op.STORE (to ∷ word ∷ [])))) (converted_grows m input whole (stored_shape class shape).0 (operand shape value) state before)
-      (λ word between. grows_then m input whole between (type_of (stored_shape class shape) between) (λ type. pointer id class type parts >>= (λ to. putting op.STORE (to ∷ word ∷ []))) (type_does m input whole (stored_shape class shape) state between).grows
-      (λ type later. grows_then m input whole later (pointer id class type parts later) (λ to. putting op.STORE (to ∷ word ∷ [])) (pointer_grows m input whole id class type parts state later)
-      (λ to last. extends_put op.STORE (to ∷ word ∷ []) last)))
-
   out_grows : (block class : ℕ) (parts : List Part) (holder : ℕ) (one : Leaf) (state : State) (before : Sections) → Grows before (copied_out block class parts holder one before)
   unfolding copied_out
   out_grows block class parts holder one state before =
       grows_then m input whole before (loaded block class one.shape (parts ++ one.path) before) (λ v. put_at holder storage_class.FUNCTION one.shape one.path v) (loaded_grows block class one.shape (parts ++ one.path) state before)
-      (λ v between. put_grows holder storage_class.FUNCTION one.shape one.path v state between)
+      (λ v between. put_grows m input whole holder storage_class.FUNCTION one.shape one.path v state between)
 
   in_grows : (block class : ℕ) (parts : List Part) (value : ℕ) (one : Leaf) (state : State) (before : Sections) → Grows before (copied_in block class parts value one before)
   unfolding copied_in
   in_grows block class parts value one state before =
       grows_then m input whole before (type_of one.shape before) (λ type. extracted value type one.path >>= (λ v. put_at block class one.shape (parts ++ one.path) v)) (type_does m input whole one.shape state before).grows
       (λ type between. grows_then m input whole between (extracted value type one.path between) (λ v. put_at block class one.shape (parts ++ one.path) v) (extracted_grows m input whole value type one.path state between)
-      (λ v later. put_grows block class one.shape (parts ++ one.path) v state later))
+      (λ v later. put_grows m input whole block class one.shape (parts ++ one.path) v state later))
 
   each_grows : (step : Leaf → Step (Unit {0})) → ((one : Leaf) (before : Sections) → Grows before (step one before)) → (leaves : List Leaf) (before : Sections) → Grows before (each step leaves before)
   unfolding each
@@ -115,7 +106,7 @@ module _ (m : Module) (input : Input) (whole : Sections) where
         (loaded_computes m input whole block class one.shape (parts ++ one.path) (words ++ numbers_of one) from (InBlock variable place.offset place.pointee) (leaf_in v one) state before points
         (numbers_on state.ids parts one.path words (numbers_of one) each (fixed_number state.ids one.path lies.fixed)) (lies.leads state bytes there refl)
         (subst (HoldsValue m input state (InBlock variable place.offset place.pointee)) (sym shows) (held_value m input state variable place.offset place.pointee bytes there)) is)
-        (λ w between. put_grows holder storage_class.FUNCTION one.shape one.path w state between)
+        (λ w between. put_grows m input whole holder storage_class.FUNCTION one.shape one.path w state between)
         (λ w between ids stands keeps.
         subst (λ x. Acts m input whole Done (Filling state (with_value_at old (numbers_of one) x)) (record state { ids = ids }) between (put_at holder storage_class.FUNCTION one.shape one.path w))
         (lies_same storage_class.FUNCTION one.shape (converted_value one.shape.0 (leaf_in v one)) refl (converted_is class one.shape (leaf_in v one) is))
@@ -172,11 +163,11 @@ module _ (m : Module) (input : Input) (whole : Sections) where
     leaf_into one place bytes state before points each there lies stands is =
         acts_then m input whole (IsType m input whole one.shape) Done (drawing state state.choices) (Putting state put) state before (type_of one.shape) behind_type
         (type_does m input whole one.shape state before)
-        (λ type between. grows_then m input whole between (extracted value type one.path between) behind_part (extracted_grows m input whole value type one.path state between) (λ w later. put_grows block class one.shape (parts ++ one.path) w state later))
+        (λ type between. grows_then m input whole between (extracted value type one.path between) behind_part (extracted_grows m input whole value type one.path state between) (λ w later. put_grows m input whole block class one.shape (parts ++ one.path) w state later))
         (λ type between ids typed keeps.
         acts_then m input whole (λ id ids. Stands ids id (leaf_in v one)) Done (drawing (record state { ids = ids }) state.choices) (Putting state put) (record state { ids = ids }) between (extracted value type one.path) behind_part
         (extracted_does m input whole value type one.path v (record state { ids = ids }) between (keeps.same value _ stands))
-        (λ w later. put_grows block class one.shape (parts ++ one.path) w state later)
+        (λ w later. put_grows m input whole block class one.shape (parts ++ one.path) w state later)
         (λ w later now there_now kept.
         put_acts m input whole block class one.shape (parts ++ one.path) w (words ++ numbers_of one) from (InBlock variable place.offset place.pointee) (leaf_in v one) state.variables (buffers_with m state variable put) (record state { ids = now }) later
         (kept.same block _ (keeps.same block _ points)) (numbers_on now parts one.path words (numbers_of one) (still_number ids now kept parts words (still_number state.ids ids keeps parts words each)) (fixed_number now one.path lies.fixed))
@@ -260,7 +251,7 @@ module _ (m : Module) (input : Input) (whole : Sections) where
         (strays_before m input whole state before (loaded block class one.shape (parts ++ one.path)) (λ w. put_at holder storage_class.FUNCTION one.shape one.path w)
         (loaded_strays m input whole block class one.shape (parts ++ one.path) (words ++ numbers_of one) from state before points
         (numbers_on state.ids parts one.path words (numbers_of one) number_each (fixed_number state.ids one.path lie.0.fixed)) (stray_on m input state from words (numbers_of one) out))
-        (λ w between. put_grows holder storage_class.FUNCTION one.shape one.path w state between))
+        (λ w between. put_grows m input whole holder storage_class.FUNCTION one.shape one.path w state between))
         (λ done between. each_grows (copied_out block class parts holder) (λ one before. out_grows block class parts holder one state before) more between))
         (λ done between. giving_grows m input whole op.LOAD (holder ∷ []) type between)
 
@@ -272,11 +263,11 @@ module _ (m : Module) (input : Input) (whole : Sections) where
         strays_before m input whole state before (copied_in block class parts value one) (λ done. each (copied_in block class parts value) more)
         (strays_then m input whole (IsType m input whole one.shape) (drawing state state.choices) state before (type_of one.shape) behind_type
         (type_does m input whole one.shape state before)
-        (λ type between. grows_then m input whole between (extracted value type one.path between) behind_part (extracted_grows m input whole value type one.path state between) (λ w later. put_grows block class one.shape (parts ++ one.path) w state later))
+        (λ type between. grows_then m input whole between (extracted value type one.path between) behind_part (extracted_grows m input whole value type one.path state between) (λ w later. put_grows m input whole block class one.shape (parts ++ one.path) w state later))
         (λ type between ids typed keeps.
         strays_then m input whole (λ id ids. Stands ids id (leaf_in v one)) (drawing (record state { ids = ids }) state.choices) (record state { ids = ids }) between (extracted value type one.path) behind_part
         (extracted_does m input whole value type one.path v (record state { ids = ids }) between (keeps.same value _ stands))
-        (λ w later. put_grows block class one.shape (parts ++ one.path) w state later)
+        (λ w later. put_grows m input whole block class one.shape (parts ++ one.path) w state later)
         (λ w later now there kept.
         put_strays m input whole block class one.shape (parts ++ one.path) w (words ++ numbers_of one) from (leaf_in v one) (record state { ids = now }) later (kept.same block _ (keeps.same block _ points))
         (numbers_on now parts one.path words (numbers_of one) (still_number ids now kept parts words (still_number state.ids ids keeps parts words number_each)) (fixed_number now one.path lie.0.fixed))

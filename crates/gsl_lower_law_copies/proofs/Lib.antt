@@ -1,4 +1,3 @@
-pub mod Lists
 pub mod Copied
 pub mod Told
 pub mod ToldStructs

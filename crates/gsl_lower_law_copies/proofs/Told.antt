@@ -26,7 +26,7 @@ use Rattle.gsl_lower_law_places.proofs.Variables.{parts_are}
 use Rattle.gsl_lower_law_picks.specs.Outside.{HasPart}
 use Rattle.gsl_lower_law_copies.specs.Copying.{Fits, filled, numbers_of, with_leaf}
 use Rattle.gsl_lower_law_copies.specs.Worded.{words_meaning}
-use Rattle.gsl_lower_law_copies.proofs.Lists.{get_put, put_same, put_twice}
+use Rattle.gsl_lower_law_places.proofs.Lists.{get_put, put_same, put_twice}
 
 -- What passes a test is filled with the leaves of what has words, and is then what those tell.
 abbrev pub Tells : (Value → Bool) → (Value → Bool) → (Value → Value) → List Leaf → Type 0

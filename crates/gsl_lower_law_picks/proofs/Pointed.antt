@@ -26,7 +26,7 @@ use Rattle.gsl_lower_places.specs.declared.reached.Part.TheVariants.{Fixed}
 use Rattle.gsl_lower_places.specs.declared.reached.Picked.{Picked}
 use Rattle.gsl_lower_places.specs.declared.reached.Reached.{Reached}
 use Rattle.gsl_lower_law.specs.Computing.{Acts, Computes, Does, Grows, drawing}
-use Rattle.gsl_lower_law.specs.Operands.{converted_value, replaced_value}
+use Rattle.gsl_lower_law.specs.Operands.{converted_value}
 use Rattle.gsl_lower_law.specs.Straying.{Strays}
 use Rattle.gsl_lower_law.specs.Values.{IsOf, Keeps, Stands}
 use Rattle.gsl_lower_law.proofs.Joining.{does_then, given_does, grows_then}
@@ -36,7 +36,7 @@ use Rattle.gsl_lower_law.proofs.Straying.{strays_before, strays_then}
 use Rattle.gsl_lower_law_constructors.proofs.Shares.{words_in}
 use Rattle.gsl_lower_law_places.specs.Components.{AreWithin, Chooses, HoldsComponents, Picks, chosen, picks_of}
 use Rattle.gsl_lower_law_places.specs.Leading.{HoldsValue, LeadsTo, NumberEach, Numbers, StraysFrom}
-use Rattle.gsl_lower_law_places.specs.Storing.{AreStored, Stores, goes_to}
+use Rattle.gsl_lower_law_places.specs.Storing.{AreStored, Stores, goes_to, with_components}
 use Rattle.gsl_lower_law_places.proofs.Chains.{pointer_does, pointer_grows, still_number}
 use Rattle.gsl_lower_law_places.proofs.Kept.{component_new, lies_same, one_position, put_on, scalar_new, variables_stored}
 use Rattle.gsl_lower_law_places.proofs.Loads.{loaded_computes}
@@ -132,7 +132,7 @@ module _ (m : Module) (input : Input) (whole : Sections) where
           subst (λ r. Computes m input whole (picks_of (converted_value p.shape.0 v) by p.positions, later.choices) later before (read (p.shape.0, length p.positions) r)) (sym at.is)
           (variables_read m input whole at.id class [] p [] to to v later before (keeps.same at.id _ at.points) tt (leads_nowhere later to) holds is (p.shape.0, length p.positions) by (still later keeps));
       stores = λ later before number path old v w value keeps plain is_to there value_there is is_new new.
-          subst (λ r. Acts m input whole (λ given now. Unit {0}) (record { choices = later.choices; variables = set later.variables number (with_value_at old path (replaced_value v (goes_to by p.positions) w)); buffers = later.buffers }) later before (stored (p.shape.0, length p.positions) r value)) (sym at.is)
+          subst (λ r. Acts m input whole (λ given now. Unit {0}) (record { choices = later.choices; variables = set later.variables number (with_value_at old path (with_components v (goes_to by p.positions) w)); buffers = later.buffers }) later before (stored (p.shape.0, length p.positions) r value)) (sym at.is)
           (variables_stored m input whole at.id class [] p [] (InVariable number path) number path old v w value later before plain (keeps.same at.id _ at.points ∙ ap (λ t. Some (Points t)) is_to) tt (leads_nowhere later (InVariable number path)) there value_there is is_new new (p.shape.0, length p.positions) by
           (still later keeps) fits few);
     }
@@ -156,9 +156,9 @@ module _ (m : Module) (input : Input) (whole : Sections) where
           (whole_read class (p.shape.0, length p.positions) at.id later before to v (keeps.same at.id _ at.points) holds.all now));
       stores = λ later before number path old v w value keeps plain is_to there value_there is is_new new.
           let alone : IsOf (p.shape.0, 1) w = subst (λ n. IsOf (p.shape.0, n) w) single is_new in
-          subst (λ r. Acts m input whole (λ given now. Unit {0}) (record { choices = later.choices; variables = set later.variables number (with_value_at old path (replaced_value v (goes_to by p.positions) w)); buffers = later.buffers }) later before (stored (p.shape.0, length p.positions) r value)) (sym at.is)
+          subst (λ r. Acts m input whole (λ given now. Unit {0}) (record { choices = later.choices; variables = set later.variables number (with_value_at old path (with_components v (goes_to by p.positions) w)); buffers = later.buffers }) later before (stored (p.shape.0, length p.positions) r value)) (sym at.is)
           (subst (λ x. Acts m input whole (λ given now. Unit {0}) (record { choices = later.choices; variables = set later.variables number (with_value_at old path x); buffers = later.buffers }) later before (stored (p.shape.0, length p.positions) (record { base = base.Variable at.id class; path = []; picked = None }) value))
-          (lies_same class (p.shape.0, length p.positions) w plain is_new ∙ scalar_new p.shape v w is one alone ∙ ap (λ ps. replaced_value v ps w) (sym (one_position by p.positions single within)))
+          (lies_same class (p.shape.0, length p.positions) w plain is_new ∙ scalar_new p.shape v w is one alone ∙ ap (λ ps. with_components v ps w) (sym (one_position by p.positions single within)))
           (whole_stored class (p.shape.0, length p.positions) at.id later before number path old w value (keeps.same at.id _ at.points ∙ ap (λ t. Some (Points t)) is_to) there is_new new));
     }
       where
@@ -180,12 +180,12 @@ module _ (m : Module) (input : Input) (whole : Sections) where
           (subst (λ s. IsOf s (Word (slice_index (components_in v) k))) (sym (stored_one class p.shape)) (one_is (stored_shape class p.shape) v k is (omega (arith, less, stored_count class p.shape)))))));
       stores = λ later before number path old v w value keeps plain is_to there value_there is is_new new.
           let alone : IsOf (p.shape.0, 1) w = subst (λ n. IsOf (p.shape.0, n) w) single is_new in
-          subst (λ r. Acts m input whole (λ given now. Unit {0}) (record { choices = later.choices; variables = set later.variables number (with_value_at old path (replaced_value v (goes_to by p.positions) w)); buffers = later.buffers }) later before (stored (p.shape.0, length p.positions) r value)) (sym at.is)
-          (subst (λ n. Acts m input whole (λ given now. Unit {0}) (record { choices = later.choices; variables = set later.variables number (with_value_at old path (replaced_value v (goes_to by p.positions) w)); buffers = later.buffers }) later before
+          subst (λ r. Acts m input whole (λ given now. Unit {0}) (record { choices = later.choices; variables = set later.variables number (with_value_at old path (with_components v (goes_to by p.positions) w)); buffers = later.buffers }) later before (stored (p.shape.0, length p.positions) r value)) (sym at.is)
+          (subst (λ n. Acts m input whole (λ given now. Unit {0}) (record { choices = later.choices; variables = set later.variables number (with_value_at old path (with_components v (goes_to by p.positions) w)); buffers = later.buffers }) later before
           (stored (p.shape.0, n) (record { base = base.Variable at.id class; path = []; picked = None }) value)) (sym single)
           (subst (λ x. Acts m input whole (λ given now. Unit {0}) (record { choices = later.choices; variables = set later.variables number x; buffers = later.buffers }) later before (stored (p.shape.0, 1) (record { base = base.Variable at.id class; path = []; picked = None }) value))
           (ap (with_value_at old (path ++ k ∷ [])) (lies_same class (p.shape.0, 1) w plain alone) ∙ put_on old path k w ∙ ap (λ x. with_value_at old path (Many (set (parts_in x) k w))) value_there
-          ∙ ap (with_value_at old path) (component_new p.shape v w k is alone many less) ∙ ap (λ ps. with_value_at old path (replaced_value v ps w)) (sym goes))
+          ∙ ap (with_value_at old path) (component_new p.shape v w k is alone many) ∙ ap (λ ps. with_value_at old path (with_components v ps w)) (sym goes))
           (whole_stored class (p.shape.0, 1) at.id later before number (path ++ k ∷ []) old w value (keeps.same at.id _ at.points ∙ ap (λ t. Some (Points t)) (in_variable number path is_to)) there alone new)));
     }
       where

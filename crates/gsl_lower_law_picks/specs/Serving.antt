@@ -13,10 +13,10 @@ use Rattle.gsl_lower_places.specs.declared.reached.Base.TheVariants as base
 use Rattle.gsl_lower_places.specs.declared.reached.Picked.{Picked}
 use Rattle.gsl_lower_places.specs.declared.reached.Reached.{Reached}
 use Rattle.gsl_lower_law.specs.Computing.{Acts, Computes}
-use Rattle.gsl_lower_law.specs.Operands.{converted_value, replaced_value}
+use Rattle.gsl_lower_law.specs.Operands.{converted_value}
 use Rattle.gsl_lower_law.specs.Values.{IsOf, Keeps, Stands}
 use Rattle.gsl_lower_law_places.specs.Components.{HoldsComponents, picks_of}
-use Rattle.gsl_lower_law_places.specs.Storing.{goes_to}
+use Rattle.gsl_lower_law_places.specs.Storing.{goes_to, with_components}
 
 -- What was given is that to which the pointer leads for which an id stands, or these components of it.
 pub record IsAt (class : ℕ) (to : Pointer) (picked : Option Picked) (r : Reached) (ids : Ids) : Type 0 where
@@ -31,5 +31,5 @@ pub record Serves (m : Module) (input : Input) (whole : Sections) (class : ℕ) 
       → Computes m input whole (picks_of (converted_value p.shape.0 v) by p.positions, later.choices) later before (read (p.shape.0, length p.positions) r)
   pub stores : (later : State) (before : Sections) (number : ℕ) (path : List ℕ) (old v w : Value) (value : ℕ) → Keeps ids later.ids → is_block_class class ≡ false → to ≡ InVariable number path → slice_get later.variables number ≡ Some old → value_at old path ≡ v
       → IsOf p.shape v → IsOf (p.shape.0, length p.positions) w → Stands later.ids value w
-      → Acts m input whole (λ given now. Unit {0}) (record { choices = later.choices; variables = set later.variables number (with_value_at old path (replaced_value v (goes_to by p.positions) w)); buffers = later.buffers }) later before
+      → Acts m input whole (λ given now. Unit {0}) (record { choices = later.choices; variables = set later.variables number (with_value_at old path (with_components v (goes_to by p.positions) w)); buffers = later.buffers }) later before
       (stored (p.shape.0, length p.positions) r value)

@@ -1,10 +1,12 @@
 pub mod Chains
+pub mod Lists
 pub mod Loads
 pub mod Picked
 pub mod Reading
 pub mod Stored
 pub mod Variables
-pub mod Merged
+pub mod Again
+pub mod Each
 pub mod Kept
 pub mod Blocks
 pub mod Outside

@@ -106,7 +106,7 @@ converted_is class shape v is = record {
   fits = words_stay (stored_shape class shape).0 shape.0 (components_in v) (subst (AreWords (stored_shape class shape).0) (sym (words_in v is)) is.fits);
 }
 
-word_at_fits : (s : Scalar) (ws : List ℕ) (k : ℕ) → AreWords s ws → k < length ws → is_word_of s (slice_index ws k) ≡ true
+pub word_at_fits : (s : Scalar) (ws : List ℕ) (k : ℕ) → AreWords s ws → k < length ws → is_word_of s (slice_index ws k) ≡ true
 word_at_fits s [] k fits less = absurd (let z : k < 0 = less in omega (arith, z))
 word_at_fits s (w ∷ ws) zero fits less = fits.0
 word_at_fits s (w ∷ ws) (suc k) fits less = word_at_fits s ws k fits.1 (let z : suc k < suc (length ws) = less in omega (arith, z))

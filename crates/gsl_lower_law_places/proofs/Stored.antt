@@ -24,6 +24,7 @@ use Rattle.gsl_lower_law.proofs.Adding.{extends_put}
 use Rattle.gsl_lower_law.proofs.Joining.{acts_then, grows_then}
 use Rattle.gsl_lower_law.proofs.Plain.{IsType, type_does}
 use Rattle.gsl_lower_law.proofs.Putting.{putting_acts}
+use Rattle.gsl_lower_law_constructors.proofs.Shares.{converted_grows}
 use Rattle.gsl_lower_law_operators.proofs.Conversions.{converted_computes}
 use Rattle.gsl_lower_law_places.specs.Leading.{LeadsTo, NumberEach}
 use Rattle.gsl_lower_law_places.specs.Storing.{Stores}
@@ -51,6 +52,23 @@ module _ (m : Module) (input : Input) (whole : Sections) where
   pub in_class_computes : (class : ℕ) (shape : Shape) (id : ℕ) (v : Value) (state : State) (before : Sections) → IsOf shape v → Stands state.ids id v → Computes m input whole (converted_value (stored_shape class shape).0 v, state.choices) state before (in_class class shape id)
   unfolding in_class
   in_class_computes class shape id v state before is stands = converted_computes m input whole (operand shape id) v is (stored_shape class shape).0 state before stands
+
+  pub put_grows : (id class : ℕ) (shape : Shape) (parts : List Part) (value : ℕ) (state : State) (before : Sections) → Grows before (put_at id class shape parts value before)
+  unfolding put_at in_class
+  put_grows id class shape parts value state before =
+      grows_then m input whole before (in_class class shape value before) behind_word (converted_grows m input whole (stored_shape class shape).0 (operand shape value) state before)
+      (λ word between. grows_then m input whole between (type_of (stored_shape class shape) between) (behind_type word) (type_does m input whole (stored_shape class shape) state between).grows
+      (λ type later. grows_then m input whole later (pointer id class type parts later) (behind_pointer word) (pointer_grows m input whole id class type parts state later)
+      (λ to last. extends_put op.STORE (to ∷ word ∷ []) last)))
+    where
+      behind_pointer : ℕ → ℕ → Step (Unit {0})
+      behind_pointer word to = putting op.STORE (to ∷ word ∷ [])
+
+      behind_type : ℕ → ℕ → Step (Unit {0})
+      behind_type word type = pointer id class type parts >>= behind_pointer word
+
+      behind_word : ℕ → Step (Unit {0})
+      behind_word word = type_of (stored_shape class shape) >>= behind_type word
 
   pub put_acts : (id class : ℕ) (shape : Shape) (parts : List Part) (value : ℕ) (words : List ℕ) (from to : Pointer) (v : Value) (variables : List Value) (buffers : List Buffer) (state : State) (before : Sections) → state.ids id ≡ Some (Points from) → NumberEach state.ids parts words
       → LeadsTo m input state from words to → IsOf shape v → Stands state.ids value v → Stores m input state to (converted_value (stored_shape class shape).0 v) variables buffers

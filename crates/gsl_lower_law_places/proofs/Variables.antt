@@ -27,7 +27,7 @@ parts_are [] many = absurd (let z : 2 ≤ 0 = many in omega (arith, z))
 parts_are (w ∷ []) many = absurd (let z : 2 ≤ 1 = many in omega (arith, z))
 parts_are (w ∷ next ∷ ws) many = ap parts_layer (outs-Many (map Word (w ∷ next ∷ ws)))
 
-words_long : (ws : List ℕ) → length (map Word ws) ≡ length ws
+pub words_long : (ws : List ℕ) → length (map Word ws) ≡ length ws
 words_long [] = refl
 words_long (w ∷ ws) = ap suc (words_long ws)
 

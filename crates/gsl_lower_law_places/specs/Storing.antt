@@ -1,9 +1,10 @@
 -- What a store leaves where a pointer leads (SPIR-V 1.0, 3.32.8).
-use Rattle.std.specs.Prelude.{◌≡◌, ℕ, List, [], ◌∷◌, length, Option, Some, None}
+use Rattle.std.specs.Prelude.{◌≡◌, ℕ, List, [], ◌∷◌, length, set, Option, Some, None}
 use Rattle.gsl_base.specs.declared.input.Buffer.{Buffer}
 use Rattle.gsl_base.specs.declared.input.Input.{Input}
 use Rattle.gsl_words.specs.declared.module.Module.{Module}
 use Rattle.gsl_values.specs.declared.value.Value.{Value}
+use Rattle.gsl_tree.specs.Values.{components_in, of_components}
 use Rattle.gsl_instr.specs.declared.enumerant.decoration.TheConstants as decoration
 use Rattle.gsl_valid.specs.Decorations.{number_on}
 use Rattle.gsl_valid.specs.Kinds.{OfVector, shape_of}
@@ -26,6 +27,15 @@ goes_to (Some number) positions = number ∷ []
 abbrev pub AreStored : Option ℕ → List ℕ → Type 0
 AreStored None positions = Unit {0}
 AreStored (Some number) positions = length positions ≡ 1
+
+-- words with others at some positions, one after the other: where a position stands several times, the last word stays
+abbrev pub set_each : List ℕ → List ℕ → List ℕ → List ℕ
+set_each (position ∷ positions) (word ∷ words) old = set_each positions words (set old position word)
+set_each _ _ old = old
+
+-- a scalar or vector with the components of another at some positions
+abbrev pub with_components : Value → List ℕ → Value → Value
+with_components v positions new = of_components (set_each positions (components_in new) (components_in v))
 
 -- ---- blocks
 

@@ -19,12 +19,12 @@ ghost use Rattle.gsl_lower_places.specs.declared.reached.Base.TheVariants as bas
 ghost use Rattle.gsl_lower_places.specs.declared.reached.Part.{Part};
 ghost use Rattle.gsl_lower_places.specs.declared.reached.Picked.{Picked};
 ghost use Rattle.gsl_lower_law.specs.Computing.{Acts, Computes, Does};
-ghost use Rattle.gsl_lower_law.specs.Operands.{converted_value, replaced_value};
+ghost use Rattle.gsl_lower_law.specs.Operands.{converted_value};
 ghost use Rattle.gsl_lower_law.specs.Straying.{Strays};
 ghost use Rattle.gsl_lower_law.specs.Values.{IsOf, Stands};
 ghost use Rattle.gsl_lower_law_places.specs.Components.{HoldsComponents, Picks, picks_of};
 ghost use Rattle.gsl_lower_law_places.specs.Leading.{HoldsValue, LeadsTo, NumberEach, StraysFrom};
-ghost use Rattle.gsl_lower_law_places.specs.Storing.{AreStored, IsVectorType, Stores, buffers_with, goes_to};
+ghost use Rattle.gsl_lower_law_places.specs.Storing.{AreStored, IsVectorType, Stores, buffers_with, goes_to, with_components};
 
 /// Where the parts of a variable are in bounds, the id that is given stands for a pointer to where they lead.
 pub fn pointers_lead()
@@ -63,7 +63,7 @@ pub fn variables_hold_components()
 
 /// In a variable that holds a value the components that are picked are stored, by positions or by a word that is in bounds, and the others stay.
 pub fn variables_are_stored()
-    ensures { (m : Module) (input : Input) (whole : Sections) (id class : ℕ) (shape : Shape) (parts : List Part) (p : Picked) (by : Option ℕ) (words : List ℕ) (from : Pointer) (number : ℕ) (path : List ℕ) (old v w : Value) (value : ℕ) (state : State) (before : Sections) → is_block_class class ≡ false → state.ids id ≡ Some (Points from) → NumberEach state.ids parts words → LeadsTo m input state from words (InVariable number path) → slice_get state.variables number ≡ Some old → value_at old path ≡ v → IsOf p.shape v → IsOf (p.shape.0, length p.positions) w → Stands state.ids value w → Picks state.ids p by → AreStored by p.positions → length p.positions ≤ p.shape.1 → Acts m input whole (λ given ids. Unit {0}) (record { choices = state.choices; variables = set state.variables number (with_value_at old path (replaced_value v (goes_to by p.positions) w)); buffers = state.buffers }) state before (stored shape (record { base = base.Variable id class; path = parts; picked = Some p }) value) }
+    ensures { (m : Module) (input : Input) (whole : Sections) (id class : ℕ) (shape : Shape) (parts : List Part) (p : Picked) (by : Option ℕ) (words : List ℕ) (from : Pointer) (number : ℕ) (path : List ℕ) (old v w : Value) (value : ℕ) (state : State) (before : Sections) → is_block_class class ≡ false → state.ids id ≡ Some (Points from) → NumberEach state.ids parts words → LeadsTo m input state from words (InVariable number path) → slice_get state.variables number ≡ Some old → value_at old path ≡ v → IsOf p.shape v → IsOf (p.shape.0, length p.positions) w → Stands state.ids value w → Picks state.ids p by → AreStored by p.positions → length p.positions ≤ p.shape.1 → Acts m input whole (λ given ids. Unit {0}) (record { choices = state.choices; variables = set state.variables number (with_value_at old path (with_components v (goes_to by p.positions) w)); buffers = state.buffers }) state before (stored shape (record { base = base.Variable id class; path = parts; picked = Some p }) value) }
 {}
 
 /// A pointer into the bytes of a block leads to the scalar or vector that lies there, and to each component of a vector.

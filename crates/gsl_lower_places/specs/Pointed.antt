@@ -1,5 +1,5 @@
 -- One pointer for what is read and then stored.
-use Rattle.std.specs.Prelude.{ℕ, ◌==◌, if◌then◌else◌, List, [], ◌∷◌, ◌++◌, Option, Some, None}
+use Rattle.std.specs.Prelude.{ℕ, Bool, true, false, ◌==◌, if◌then◌else◌, List, [], ◌∷◌, ◌++◌, Option, Some, None}
 use Rattle.gsl_tree.specs.Shapes.{Shape}
 use Rattle.gsl_lower_values.specs.Building.{Step, ◌>>=◌, given}
 use Rattle.gsl_lower_values.specs.Types.{type_of}
@@ -37,7 +37,23 @@ abbrev pub pointed_from : Reached → Shape → Base → Step Reached
 pointed_from r shape (Variable id class) = pointed_if id class r.path shape r.picked
 pointed_from r shape (Value id type) = given r
 
--- What an expression leads to that may be stored to, of a scalar or vector of this shape, by one pointer to it: a component of a vector by a
--- pointer to that component, several components by one to their vector.
+-- What an expression leads to, of a scalar or vector of this shape, by one pointer to it: a component of a vector by a pointer to that
+-- component, several components by one to their vector.
 unfoldable pub pointed : Shape → Reached → Step Reached
 pointed shape r = pointed_from r shape r.base
+
+-- ---- what is read and then stored
+
+abbrev pub several_by : Option Part → List ℕ → Bool
+several_by None (position ∷ []) = false
+several_by None positions = true
+several_by (Some by) positions = false
+
+-- whether several components of a vector are picked, or none
+abbrev pub picks_several : Option Picked → Bool
+picks_several None = false
+picks_several (Some p) = if p.shape.1 == 1 then false else several_by p.by p.positions
+
+-- One pointer serves to read and to store. Several components have none, since each is stored by its own, and a chain begins at no chain: they stay as they are.
+unfoldable pub to_renew : Shape → Reached → Step Reached
+to_renew shape r = if picks_several r.picked then given r else pointed shape r

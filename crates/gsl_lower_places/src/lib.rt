@@ -12,7 +12,7 @@ mod reading;
 mod writing;
 
 pub use pointers::{index, pointer};
-pub use pointing::pointed;
+pub use pointing::{pointed, to_renew};
 pub use reached::{Base, Part, Parts, Picked, Positions, Reached, is_block_class, stored_scalar};
 pub use reading::{extracted, loaded, read};
 pub use writing::{put_at, stored};

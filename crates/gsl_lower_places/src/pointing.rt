@@ -1,5 +1,6 @@
 //! One pointer for what is read and then stored.
 
+ghost use Rattle.std.specs.Prelude.{◌≡◌};
 ghost use Rattle.gsl_lower_values.specs.Building.{Does};
 ghost use Rattle.gsl_lower_places.specs.Pointed as spec;
 
@@ -91,8 +92,8 @@ fn pointed_if(
     }
 }
 
-/// What an expression leads to that may be stored to, of a scalar or vector of a shape, by one pointer to it: a component of a vector by a
-/// pointer to that component, several components by one to their vector.
+/// What an expression leads to, of a scalar or vector of a shape, by one pointer to it: a component of a vector by a pointer to that
+/// component, several components by one to their vector.
 #[tactic(auto, unfolding(crate::specs::Pointed::pointed))]
 pub fn pointed(
     alloc: Global,
@@ -109,4 +110,45 @@ pub fn pointed(
         }
         Base::Value(_, _) => Ok(Reached { base, path, picked }),
     }
+}
+
+fn several_by(by: Option<Part>, positions: &[u32]) -> bool
+    ensures { result ≡ spec.several_by by positions.now }
+{
+    match by {
+        None => positions.len() != 1,
+        Some(_) => false,
+    }
+}
+
+/// Whether several components of a vector are picked, or none.
+fn picks_several(picked: &Option<Picked>) -> bool
+    ensures { result ≡ spec.picks_several picked.now }
+{
+    match picked {
+        None => false,
+        Some(p) => {
+            if p.shape.1 == 1 {
+                return false;
+            }
+            several_by(p.by, p.positions.as_slice())
+        }
+    }
+}
+
+/// What an expression leads to, of a scalar or vector of a shape, to be read and then stored to: by one pointer, but for several
+/// components, which stay as they are, since each is stored by a pointer of its own and a chain begins at no chain.
+#[tactic(auto, unfolding(crate::specs::Pointed::to_renew))]
+pub fn to_renew(
+    alloc: Global,
+    b: &mut Builder,
+    shape: Shape,
+    reached: Reached,
+) -> Result<Reached, BuildRefusal>
+    ensures { Does result b.new (spec.to_renew shape reached b.old) }
+{
+    if picks_several(&reached.picked) {
+        return Ok(reached);
+    }
+    pointed(alloc, b, shape, reached)
 }

@@ -1,6 +1,6 @@
 //! What is stored.
 
-ghost use Rattle.std.specs.Prelude.{◌≡◌, ◌∷◌, ◌++◌, [], IfOk, length};
+ghost use Rattle.std.specs.Prelude.{◌≡◌, ◌<◌, Some, length, slice_get};
 ghost use Rattle.gsl_lower_values.specs.Building.{Does};
 ghost use Rattle.gsl_lower_places.specs.Writing as spec;
 
@@ -8,7 +8,7 @@ use crate::pointers::pointer;
 use crate::reached::{Base, Part, Picked, Reached, count_of, stored_shape};
 use crate::reading::{operand, with_part};
 use gsl_instr::op;
-use gsl_lower_values::{Shape, converted, give, replaced, type_of};
+use gsl_lower_values::{Operand, Shape, converted, picked, type_of};
 use gsl_spv::{BuildRefusal, Builder};
 use std::alloc::Global;
 
@@ -45,30 +45,35 @@ pub fn put_at(
     b.put(op::STORE, &[to, word])
 }
 
-/// Several components are stored: those of the vector that are not picked keep their words.
-#[tactic(auto, unfolding(crate::specs::Writing::merged_at))]
-fn merged_at(
+/// The component of a number of a value is stored at a position of a vector, by a pointer of its own.
+#[tactic(auto, unfolding(crate::specs::Writing::one_at))]
+fn one_at(
     alloc: Global,
     b: &mut Builder,
     id: u32,
     class: u32,
-    shape: Shape,
-    positions: &[u32],
     parts: &[Part],
-    v: u32,
+    v: Operand,
+    number: u32,
+    position: u32,
 ) -> Result<(), BuildRefusal>
-    ensures { Does result b.new (spec.merged_at id class shape positions.now parts.now v b.old) }
+    ensures { Does result b.new (spec.one_at id class parts.now v number position b.old) }
 {
-    let stored = stored_shape(class, shape);
-    let new = in_class(alloc, b, class, (shape.0, count_of(positions)?), v)?;
-    let ty = type_of(b, stored)?;
-    let to = pointer(alloc, b, id, class, ty, parts)?;
-    let old = give(alloc, b, op::LOAD, &[to], ty)?;
-    let word = replaced(alloc, b, operand(stored, old), positions, new)?;
-    b.put(op::STORE, &[to, word])
+    let word = picked(alloc, b, v, &[number])?;
+    let all = with_part(alloc, parts, Part::Fixed(position))?;
+    put_at(alloc, b, id, class, (v.shape.0, 1), all.as_slice(), word)
 }
 
-fn put_vector(
+/// A position by its place.
+fn position_by_place(positions: &[u32], place: u32) -> u32
+    requires { place < length positions.now }
+    ensures { slice_get positions.now place ≡ Some result }
+{
+    positions[place as usize]
+}
+
+/// Several components of a vector are stored one by one: the vector is not read, which may not be allowed, and its others are not touched.
+fn each_at(
     alloc: Global,
     b: &mut Builder,
     id: u32,
@@ -78,15 +83,23 @@ fn put_vector(
     parts: &[Part],
     v: u32,
 ) -> Result<(), BuildRefusal>
-    ensures { Does result b.new (spec.put_vector id class shape positions.now parts.now v b.old) }
+    ensures { Does result b.new (spec.each_at id class shape positions.now parts.now v b.old) }
 {
-    match positions {
-        [position] => {
-            let all = with_part(alloc, parts, Part::Fixed(*position))?;
-            put_at(alloc, b, id, class, (shape.0, 1), all.as_slice(), v)
-        }
-        _ => merged_at(alloc, b, id, class, shape, positions, parts, v),
+    let count = count_of(positions)?;
+    let of = operand((shape.0, count), v);
+    for k in 0..count {
+        one_at(
+            alloc,
+            b,
+            id,
+            class,
+            parts,
+            of,
+            k,
+            position_by_place(positions, k),
+        )?;
     }
+    Ok(())
 }
 
 /// What is picked of what parts of a variable lead to is stored.
@@ -106,7 +119,7 @@ fn put_picked(
         return put_at(alloc, b, id, class, p.shape, parts, v);
     }
     match p.by {
-        None => put_vector(
+        None => each_at(
             alloc,
             b,
             id,
