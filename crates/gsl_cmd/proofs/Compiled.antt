@@ -1,5 +1,5 @@
 -- What compiling sources answers, from what its parts answered.
-use Rattle.std.proofs.Common.{◌≡◌, ◌<◌, ◌^◌, ℕ, length, arith, ap, ◌∙◌, List, Result, Ok, Err, Option, Some, None, IfOk, IfSome, IfNone, refl, sym, subst}
+use Rattle.std.proofs.Common.{◌≡◌, ◌<◌, ◌^◌, ◌⊎◌, inl, inr, ℕ, length, arith, ap, ◌∙◌, List, Result, Ok, Err, Option, Some, None, IfOk, IfSome, IfNone, refl, sym, subst}
 use Rattle.gsl_base.specs.Checked.{Refuses}
 use Rattle.gsl_base.specs.declared.fault.Refusal.{Refusal}
 use Rattle.gsl_base.specs.declared.fault.Refusal.TheVariants as refusal
@@ -10,16 +10,24 @@ use Rattle.gsl_form.specs.declared.program.Program.{Program}
 use Rattle.gsl_form.specs.Trees.{Spells}
 use Rattle.gsl_tree.specs.declared.program.Program.{Program as Linked}
 use Rattle.gsl_tree.specs.WellTyped.{program_lists}
+use Rattle.gsl_lowered.specs.Lowered.{IsLowered}
 use Rattle.gsl_words.specs.Bytes.{bytes_of}
+use Rattle.gsl_words.specs.declared.target.Target.TheVariants.{V10}
 use Rattle.gsl_words.specs.declared.module.Module.{Module}
 use Rattle.gsl_valid.specs.Placed.{count_of_words}
 use Rattle.gsl_form.specs.Form.{IsProgram}
 use Rattle.gsl_cmd.specs.Lowering.{module_of}
-use Rattle.gsl_cmd.specs.Verdict.{Compiles, FaultWhere, IsOfForm, Makes, MakesLinked, linked_of}
+use Rattle.gsl_valid.specs.Portable.{Portable}
+use Rattle.gsl_valid.specs.Valid.{Valid}
+use Rattle.gsl_cmd.specs.Carries.{Carries}
+use Rattle.gsl_cmd.specs.Verdict.{Accepts, AreOfForm, Compiles, FaultWhere, HasModule, IsCarried, IsOfForm, IsOther, IsPromised, Makes, MakesLinked, MakesOther, linked_of}
+use Rattle.gsl_cmd.specs.Weight.{IsSmall}
 use Rattle.gsl_cmd.proofs.Counts.{statements_light}
 use Rattle.gsl_cmd.proofs.Carried.{program_carries}
 use Rattle.gsl_cmd.proofs.Sizes.{module_small}
 use Rattle.gsl_cmd.proofs.PortableModule.{module_portable}
+use Rattle.gsl_cmd.proofs.Unique.{one_formed, same_linked}
+use Rattle.gsl_cmd.proofs.ValidModule.{module_valid}
 
 module _ (stage : Stage) (sources : List (List ℕ)) where
   -- the sources have a fault
@@ -29,19 +37,54 @@ module _ (stage : Stage) (sources : List (List ℕ)) where
 
   -- they make this program
   pub made : (linked : Linked) (result : Result Module Refusal) → linked_of stage sources ≡ Ok linked → MakesLinked stage linked result → Makes stage sources result
-  made linked (Ok m) is (p, formed, same) = (p, record { linked = linked; read = is; formed = formed }, same)
+  made linked (Ok m) is has = record { linked = linked; read = is; has = has }
   made linked (Err (refusal.Source fault)) is none = subst (FaultWhere stage fault) (sym is) none
   made linked (Err refusal.Memory) is met = tt
 
-  -- the file of its module is this
+  -- their module is valid
+  has_valid : (linked : Linked) (m : Module) → HasModule stage linked m → Valid m
+  has_valid linked m (inl (p, formed, same)) = subst Valid (sym same) (module_valid p formed.spelled.fits)
+  has_valid linked m (inr (none, lowered)) = lowered.sound.valid
+
+  -- where they give a program of the form it is this program's
+  has_own : (linked : Linked) (m : Module) (p : Program) → IsOfForm stage linked p → HasModule stage linked m → m ≡ module_of p
+  has_own linked m p formed (inl (q, other, same)) = same ∙ ap module_of (one_formed stage linked q p other formed)
+  has_own linked m p formed (inr (none, lowered)) = absurd (none p formed)
+
+  its_own : (m : Module) → Accepts stage sources m → (p : Program) → AreOfForm stage sources p → m ≡ module_of p
+  its_own m accepts p own = has_own accepts.linked m p (subst (λ linked. IsOfForm stage linked p) (same_linked (sym own.read ∙ accepts.read)) own.formed) accepts.has
+
+  -- it is as is promised
+  pub promised : (m : Module) → Accepts stage sources m → IsPromised stage sources m
+  promised m accepts = record {
+    valid = has_valid accepts.linked m accepts.has;
+    carries = λ p own. subst (λ (x : Module). Carries x p) (sym (its_own m accepts p own)) (program_carries p own.formed.spelled.fits);
+    small = λ p own. subst (λ (x : Module). IsSmall x p) (sym (its_own m accepts p own)) (module_small p own.formed.spelled.fits);
+    portable = λ p own. subst Portable (sym (its_own m accepts p own)) (module_portable p own.formed.spelled.fits);
+  }
+
+  -- the file of their module is this
   pub compiled : (m : Module) (bytes : List ℕ) → Makes stage sources (Ok m) → bytes ≡ bytes_of m → Compiles stage sources (Ok bytes)
-  compiled m bytes (p, accepts, same) file =
-      let fits = accepts.formed.spelled.fits in
-      (p, accepts, file ∙ ap bytes_of same, program_carries p fits, module_small p fits, module_portable p fits)
+  compiled m bytes accepts file = (m, accepts, file, promised m accepts)
 
   pub uncompiled : (why : Refusal) → Makes stage sources (Err why) → Compiles stage sources (Err why)
   uncompiled (refusal.Source fault) made = made
   uncompiled refusal.Memory made = tt
+
+-- a program that is neither of the form nor lowered to a valid module has none
+pub other_not : (stage : Stage) (linked : Linked) → ((p : Program) → IsOfForm stage linked p → ⊥) → ((m : Module) → IsLowered V10 linked m → ⊥) → (m : Module) → HasModule stage linked m → ⊥
+other_not stage linked none never m (inl (p, formed, same)) = none p formed
+other_not stage linked none never m (inr (others, lowered)) = never m lowered
+
+-- a program that is not of the form has the module that it is lowered to, and no other
+pub other : (stage : Stage) (linked : Linked) (result : Result Module Refusal) → ((p : Program) → IsOfForm stage linked p → ⊥) → MakesOther linked result → MakesLinked stage linked result
+other stage linked (Ok m) none lowered = inr (none, lowered)
+other stage linked (Err (refusal.Source fault)) none (is, never) = (is, other_not stage linked none never)
+other stage linked (Err refusal.Memory) none made = tt
+
+-- one that is has its own
+pub own : (stage : Stage) (linked : Linked) (p : Program) (m : Module) → IsOfForm stage linked p → m ≡ module_of p → HasModule stage linked m
+own stage linked p m formed same = inl (p, formed, same)
 
 -- a program's module has few words
 pub words_fit : (p : Program) → IsProgram p → count_of_words (module_of p) < 2 ^ 32

@@ -16,12 +16,18 @@ use Rattle.gsl_cmd.specs.declared.compiling.TheConstants.{MAX_SOURCE_BYTES}
 use Rattle.gsl_cmd.specs.declared.stop.Stop.{Stop}
 use Rattle.gsl_cmd.specs.declared.stop.Stop.TheVariants as stop
 use Rattle.gsl_form.specs.declared.program.Program.{Program}
+use Rattle.gsl_lowered.proofs.Deciding.{lowered_or_not}
+use Rattle.gsl_lowered.specs.Lowered.{IsLowered}
+use Rattle.gsl_words.specs.declared.module.Module.{Module}
+use Rattle.gsl_words.specs.declared.target.Target.TheVariants.{V10}
 use Rattle.gsl_form.specs.Form.{Name}
 use Rattle.gsl_tree.specs.declared.program.Program.{Program as Linked}
 use Rattle.gsl_tree.specs.WellTyped.{program_lists}
 use Rattle.gsl_form.specs.Reading.{program_of}
 use Rattle.gsl_form.proofs.Units.{program_is, program_gives}
-use Rattle.gsl_cmd.specs.Verdict.{IsOfForm, Accepts, FaultWhere, Judges, fault_in, linked_of}
+use Rattle.gsl_cmd.specs.Lowering.{module_of}
+use Rattle.gsl_cmd.specs.Verdict.{Accepts, FaultWhere, HasModule, IsOfForm, Judges, fault_in, linked_of}
+use Rattle.gsl_cmd.proofs.Compiled.{other_not}
 use Rattle.gsl_plan.specs.Plan.{Plan}
 use Rattle.gsl_cmd.specs.Texts.{told_fault}
 use Rattle.gsl_cmd.specs.Job.{Job, Effect, IsCompileJob, Gathered, Sources, Absent, TooLong, gather, gather_one, is_source, reads, with_source, failed, refused, compiled}
@@ -47,15 +53,27 @@ formed stage linked =
           ] refl
     ]
 
-judged : (stage : Stage) (sources : List (List ℕ)) (read : Checked Linked) → linked_of stage sources ≡ read → (verdict : Checked Program) × Judges stage sources verdict
+-- it has a module, or none
+module_or_not : (stage : Stage) (linked : Linked) → ((m : Module) × HasModule stage linked m) ⊎ ((m : Module) → HasModule stage linked m → ⊥)
+module_or_not stage linked =
+    elim (formed stage linked) [
+      | inl (p, formed) ↦ inl (module_of p, inl (p, formed, refl))
+      | inr none ↦
+          elim (lowered_or_not V10 linked) [
+            | inl (m, lowered) ↦ inl (m, inr (none, lowered))
+            | inr never ↦ inr (other_not stage linked none never)
+          ]
+    ]
+
+judged : (stage : Stage) (sources : List (List ℕ)) (read : Checked Linked) → linked_of stage sources ≡ read → (verdict : Checked Module) × Judges stage sources verdict
 judged stage sources (Err first) is = (Err first, subst (FaultWhere stage first) (sym is) refl)
 judged stage sources (Ok linked) is =
-    elim (formed stage linked) [
-      | inl (p, formed) ↦ (Ok p, record { linked = linked; read = is; formed = formed })
+    elim (module_or_not stage linked) [
+      | inl (m, has) ↦ (Ok m, record { linked = linked; read = is; has = has })
       | inr none ↦ (Err (fault_in 0 E0001), subst (FaultWhere stage (fault_in 0 E0001)) (sym is) (refl, none))
     ]
 
-pub some_verdict : (stage : Stage) (sources : List (List ℕ)) → (verdict : Checked Program) × Judges stage sources verdict
+pub some_verdict : (stage : Stage) (sources : List (List ℕ)) → (verdict : Checked Module) × Judges stage sources verdict
 some_verdict stage sources = judged stage sources (linked_of stage sources) refl
 
 -- There is a job of `compile` over all files.
@@ -174,7 +192,7 @@ module _ (stage : Stage) (out : Name) (names : List Name) (files : Files) where
   reads_in_targets : (target : Target) → Contains its_reads target → (gathered : Gathered) (job : Job) → IsIts job gathered → Contains job.targets target
   reads_in_targets target at Absent job is = subst (λ (j : Job). Contains j.targets target) (sym is) at
   reads_in_targets target at (TooLong unit) job is = subst (λ (j : Job). Contains j.targets target) (sym is) at
-  reads_in_targets target at (Sources sources) job (Ok p, right, is) =
+  reads_in_targets target at (Sources sources) job (Ok m, right, is) =
       subst (λ (j : Job). Contains j.targets target) (sym is) (contains_front target its_reads (Writing out ∷ []) at)
   reads_in_targets target at (Sources sources) job (Err fault, right, is) = subst (λ (j : Job). Contains j.targets target) (sym is) at
 
@@ -232,23 +250,23 @@ module _ (stage : Stage) (out : Name) (names : List Name) (files : Files) where
           kept = same;
         }
 
-    wrote : (sources : List (List ℕ)) (p : Program) (end : Result (Unit {0}) Stop) → gather files 0 names ≡ Sources sources → Accepts stage sources p → KeepsOthers (Some files) after out
-        → Did names (compiled out names its_reads (Ok p)) files after faults faults' end → Came end
-    wrote sources p end read accepts others did =
-        let job = compiled out names its_reads (Ok p) in
-        record { job = job; is_job = subst (IsIts job) (sym read) (Ok p, accepts, refl); out = λ told. refl; did = did; kept = others }
+    wrote : (sources : List (List ℕ)) (m : Module) (end : Result (Unit {0}) Stop) → gather files 0 names ≡ Sources sources → Accepts stage sources m → KeepsOthers (Some files) after out
+        → Did names (compiled out names its_reads (Ok m)) files after faults faults' end → Came end
+    wrote sources m end read accepts others did =
+        let job = compiled out names its_reads (Ok m) in
+        record { job = job; is_job = subst (IsIts job) (sym read) (Ok m, accepts, refl); out = λ told. refl; did = did; kept = others }
 
     pub ended_write : (sources : List (List ℕ)) (bytes : List ℕ) (end : Result (Unit {0}) Stop) → gather files 0 names ≡ Sources sources → CompilesSources stage sources (Ok bytes) →
         OnOk end (Sets (Some files) after out bytes) → KeepsOthers (Some files) after out → (end ≡ Err stop.Host → Rose faults faults' (Writing out)) →
         ((fault : Fault) → end ≡ Err (stop.Fault fault) → ⊥) → ((text : List ℕ) → end ≡ Err (stop.Rejected text) → ⊥) → Came end
-    ended_write sources bytes (Ok done) read (p, accepts, is, carries, small, portable) sets others rose sound quiet =
-        wrote sources p (Ok done) read accepts others (refl, refl, sets ∙ ap (λ b. Some (insert files out b)) is)
-    ended_write sources bytes (Err stop.Host) read (p, accepts, is, carries, small, portable) sets others rose sound quiet =
-        wrote sources p (Err stop.Host) read accepts others (Writing out, contains_last (Writing out) its_reads, rose refl)
-    ended_write sources bytes (Err stop.Memory) read (p, accepts, is, carries, small, portable) sets others rose sound quiet =
-        wrote sources p (Err stop.Memory) read accepts others tt
-    ended_write sources bytes (Err (stop.Fault fault)) read (p, accepts, is, carries, small, portable) sets others rose sound quiet = absurd (sound fault refl)
-    ended_write sources bytes (Err (stop.Rejected text)) read (p, accepts, is, carries, small, portable) sets others rose sound quiet = absurd (quiet text refl)
+    ended_write sources bytes (Ok done) read (m, accepts, is, promised) sets others rose sound quiet =
+        wrote sources m (Ok done) read accepts others (refl, refl, sets ∙ ap (λ b. Some (insert files out b)) is)
+    ended_write sources bytes (Err stop.Host) read (m, accepts, is, promised) sets others rose sound quiet =
+        wrote sources m (Err stop.Host) read accepts others (Writing out, contains_last (Writing out) its_reads, rose refl)
+    ended_write sources bytes (Err stop.Memory) read (m, accepts, is, promised) sets others rose sound quiet =
+        wrote sources m (Err stop.Memory) read accepts others tt
+    ended_write sources bytes (Err (stop.Fault fault)) read (m, accepts, is, promised) sets others rose sound quiet = absurd (sound fault refl)
+    ended_write sources bytes (Err (stop.Rejected text)) read (m, accepts, is, promised) sets others rose sound quiet = absurd (quiet text refl)
 
 -- what the command reaches for
 

@@ -10,7 +10,6 @@ use Rattle.gsl_host.specs.declared.target.Stream.TheVariants as stream
 use Rattle.gsl_host.specs.declared.target.Target.{Target}
 use Rattle.gsl_host.specs.declared.target.Target.TheVariants.{Reading, Printing}
 use Rattle.gsl_host.specs.Outside.{Files, NeverFall, Rose}
-use Rattle.gsl_form.specs.declared.program.Program.{Program}
 use Rattle.gsl_form.specs.Form.{Name}
 use Rattle.gsl_given.specs.declared.given.TheConstants.{MAX_MANIFEST_BYTES}
 use Rattle.gsl_given.specs.declared.stop.Stop.{Stop as Ungiven}
@@ -31,19 +30,16 @@ use Rattle.gsl_cmd.specs.declared.stop.Stop.{Stop as Unread}
 use Rattle.gsl_cmd.specs.declared.stop.Stop.TheVariants as unread
 use Rattle.gsl_cmd.specs.Command.{Comes, Ends, Finished, HasOwn, IsOwn, MakesModule, OneTaken, Reaches, ReadsGathered, SomeTaken, Unreads, behind_sources}
 use Rattle.gsl_cmd.specs.Job.{Job, Effect, Gathered, Sources, Absent, TooLong, IsJob, IsInputsJob, IsModuleJob, IsRunJob, IsTextJob, failed, gather, is_source, job_of, reads, refused}
-use Rattle.gsl_cmd.specs.Lowering.{module_of}
 use Rattle.gsl_cmd.specs.Performs.{effect_on}
 use Rattle.gsl_cmd.specs.Targets.{MayReach, targets_of}
 use Rattle.gsl_cmd.specs.Texts.{told_fault}
 use Rattle.gsl_cmd.specs.Verdict.{FirstFault, Judges, fault_in}
 use Rattle.gsl_cmd.specs.Written.{Written}
-use Rattle.gsl_cmd.proofs.Carried.{program_carries}
+use Rattle.gsl_cmd.proofs.Compiled.{promised}
 use Rattle.gsl_cmd.proofs.ExecJobs.{job_comes, own_status}
 use Rattle.gsl_cmd.proofs.Finished.{host_failed}
 use Rattle.gsl_cmd.proofs.Jobs.{behind_no_sources, contains_front, some_verdict}
-use Rattle.gsl_cmd.proofs.Sizes.{module_small}
 use Rattle.gsl_cmd.proofs.Streams.{earlier_rise, later_rise}
-use Rattle.gsl_cmd.proofs.ValidModule.{module_valid}
 use Rattle.gsl_cmd.proofs.Unique.{one_judged}
 
 -- ---- there is a job, and one
@@ -53,10 +49,10 @@ abbrev pub Kept : (Job → Type 0) → List Target → Type 0
 Kept IsIts targets = (job : Job) × IsIts job × (job.effect ≡ Effect.Keeps) × ((target : Target) → Contains targets target → Contains job.targets target)
 
 module _ (some : SomeTaken) (files : Files) (stage : Stage) (names : List Name) where
-  some_module : (sources : List (List ℕ)) (text : List ℕ) (targets : List Target) (verdict : Checked Program) → Judges stage sources verdict
+  some_module : (sources : List (List ℕ)) (text : List ℕ) (targets : List Target) (verdict : Checked Module) → Judges stage sources verdict
       → Kept (λ job. IsModuleJob files names text targets job verdict) targets
-  some_module sources text targets (Ok p) right =
-      let its = some (module_of p) (module_valid p right.formed.spelled.fits) files text targets in (job_of its.0, (its.0, its.1, refl), refl, its.2)
+  some_module sources text targets (Ok m) right =
+      let its = some m (promised stage sources m right).valid files text targets in (job_of its.0, (its.0, its.1, refl), refl, its.2)
   some_module sources text targets (Err fault) right = (refused names targets fault, refl, refl, λ target at. at)
 
   pub some_text : (sources : List (List ℕ)) (text : List ℕ) (targets : List Target) → Kept (IsTextJob files stage names sources text targets) targets
@@ -81,8 +77,8 @@ pub run_job : SomeTaken → (stage : Stage) (inputs : Name) (names : List Name) 
 run_job some stage inputs names files = let its = some_run some files stage names inputs (reads files names) (gather files 0 names) in (its.0, its.1)
 
 module _ (one : OneTaken) (files : Files) (stage : Stage) (names : List Name) (j k : Job) where
-  one_module : (text : List ℕ) (targets : List Target) (verdict : Checked Program) → IsModuleJob files names text targets j verdict → IsModuleJob files names text targets k verdict → j ≡ k
-  one_module text targets (Ok p) (a, is, js) (b, also, ks) = js ∙ ap job_of (one (module_of p) files text targets a b is also) ∙ sym ks
+  one_module : (text : List ℕ) (targets : List Target) (verdict : Checked Module) → IsModuleJob files names text targets j verdict → IsModuleJob files names text targets k verdict → j ≡ k
+  one_module text targets (Ok m) (a, is, js) (b, also, ks) = js ∙ ap job_of (one m files text targets a b is also) ∙ sym ks
   one_module text targets (Err fault) js ks = js ∙ sym ks
 
   one_inputs : (sources : List (List ℕ)) (targets : List Target) (found : Read) → IsInputsJob files stage names sources targets j found → IsInputsJob files stage names sources targets k found → j ≡ k
@@ -161,9 +157,9 @@ module _ (some : SomeTaken) (files : Files) (stage : Stage) (names : List Name) 
   -- the module of the program was run
   pub by_valid : (sources : List (List ℕ)) (text : List ℕ) (targets : List Target) (faults faults' : Target → ℕ) (m : Module) (end : Result (List ℕ) Stop) → MakesModule stage sources names (Ok m)
       → run.Ends (λ one. IsTaken files text targets one (Ok m) None) faults faults' end → Ends (IsTextJob files stage names sources text targets) faults faults' end
-  by_valid sources text targets faults faults' m end (p, accepts, same) (owed, is, comes) = (
+  by_valid sources text targets faults faults' m end accepts (owed, is, comes) = (
     job_of owed,
-    (Ok p, accepts, (owed, subst (λ (x : Module). IsTaken files text targets owed (Ok x) None) same is, refl)),
+    (Ok m, accepts, (owed, is, refl)),
     job_comes faults faults' owed end comes,
   )
 
@@ -270,9 +266,9 @@ module _ (stage : Stage) (inputs : Name) (names : List Name) where
     all_within : Within (reads files names ++ Reading inputs ∷ [])
     all_within = reached.both May (inl out) (reads files names) (Reading inputs ∷ []) sources_within (reached.one_more May (inl out) (Reading inputs) [] (inl second) (reached.none May (inl out)))
 
-    module_within : (text : List ℕ) (targets : List Target) (verdict : Checked Program) → get files inputs ≡ Some text → Within targets → IsModuleJob files names text targets job verdict → Within job.targets
-    module_within text targets (Ok p) read within (owed, is, same) =
-        by (job_of owed) same (reached.taken May (inl out) owed files inputs (λ target named. inr named) text targets (module_of p) read within is)
+    module_within : (text : List ℕ) (targets : List Target) (verdict : Checked Module) → get files inputs ≡ Some text → Within targets → IsModuleJob files names text targets job verdict → Within job.targets
+    module_within text targets (Ok m) read within (owed, is, same) =
+        by (job_of owed) same (reached.taken May (inl out) owed files inputs (λ target named. inr named) text targets m read within is)
     module_within text targets (Err fault) read within is = by (refused names targets fault) is within
 
     inputs_within : (sources : List (List ℕ)) (targets : List Target) (found : Read) → read_of MAX_MANIFEST_BYTES (get files inputs) ≡ found → Within targets
@@ -322,17 +318,16 @@ module _ (stage : Stage) (inputs : Name) (names : List Name) (files : Files) (af
   status : {k : ℕ} (its : Job) → job ≡ its → its.status ≡ k → k ≡ 0
   status its is e = sym e ∙ sym (ap (λ (x : Job). x.status) is) ∙ well
 
-  by_module : (sources : List (List ℕ)) (text : List ℕ) (targets : List Target) (verdict : Checked Program) → gather files 0 names ≡ Sources sources → get files inputs ≡ Some text → Judges stage sources verdict
+  by_module : (sources : List (List ℕ)) (text : List ℕ) (targets : List Target) (verdict : Checked Module) → gather files 0 names ≡ Sources sources → get files inputs ≡ Some text → Judges stage sources verdict
       → IsModuleJob files names text targets job verdict → Written (Plan.Run stage inputs names) files after
-  by_module sources text targets (Ok p) gathered read right (owed, is, same) =
-      let ran = done.taken owed (sym (ap (λ (j : Job). j.status) same) ∙ well) files inputs text read (module_of p) targets is in (
+  by_module sources text targets (Ok m) gathered read right (owed, is, same) =
+      let ran = done.taken owed (sym (ap (λ (j : Job). j.status) same) ∙ well) files inputs text read m targets is in (
         sources,
-        p,
+        m,
         ran.0,
         gathered,
         right,
-        program_carries p right.formed.spelled.fits,
-        module_small p right.formed.spelled.fits,
+        promised stage sources m right,
         ran.1,
         left ∙ ap (λ (j : Job). Some (effect_on j.effect files)) same,
       )

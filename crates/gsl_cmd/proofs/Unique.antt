@@ -1,5 +1,5 @@
 -- Sources have one verdict, and `compile` one job.
-use Rattle.std.proofs.Common.{◌≡◌, ℕ, List, Ok, Err, ap, sym, subst, ◌∙◌}
+use Rattle.std.proofs.Common.{◌≡◌, ◌⊎◌, inl, inr, ℕ, List, Ok, Err, ap, sym, subst, ◌∙◌}
 use Rattle.gsl_base.specs.declared.stage.Stage.{Stage}
 use Rattle.gsl_base.specs.declared.fault.Fault.{Fault}
 use Rattle.gsl_base.specs.Checked.{Checked}
@@ -10,26 +10,36 @@ use Rattle.gsl_tree.specs.declared.program.Program.{Program as Linked}
 use Rattle.gsl_tree.specs.WellTyped.{program_lists}
 use Rattle.gsl_form.proofs.Units.{one_program}
 use Rattle.gsl_cmd.specs.Job.{Job, IsCompileJob, Gathered, Sources, Absent, TooLong, compiled}
-use Rattle.gsl_cmd.specs.Verdict.{IsOfForm, Accepts, FirstFault, FaultWhere, Judges, linked_of}
+use Rattle.gsl_lowered.proofs.Judged.{one_lowered}
+use Rattle.gsl_words.specs.declared.module.Module.{Module}
+use Rattle.gsl_words.specs.declared.target.Target.TheVariants.{V10}
+use Rattle.gsl_cmd.specs.Lowering.{module_of}
+use Rattle.gsl_cmd.specs.Verdict.{Accepts, FaultWhere, FirstFault, HasModule, IsOfForm, Judges, linked_of}
 
-one_formed : (stage : Stage) (linked : Linked) (p q : Program) → IsOfForm stage linked p → IsOfForm stage linked q → p ≡ q
+pub one_formed : (stage : Stage) (linked : Linked) (p q : Program) → IsOfForm stage linked p → IsOfForm stage linked q → p ≡ q
 one_formed stage linked p q ps qs = one_program (program_lists linked) p q ps.spelled qs.spelled
 
-same_linked : {x y : Linked} → ◌≡◌ {A = Checked Linked} (Ok x) (Ok y) → x ≡ y
+pub same_linked : {x y : Linked} → ◌≡◌ {A = Checked Linked} (Ok x) (Ok y) → x ≡ y
 same_linked e = cc
 
-one_accepted : (stage : Stage) (sources : List (List ℕ)) (p q : Program) → Accepts stage sources p → Accepts stage sources q → p ≡ q
-one_accepted stage sources p q ps qs =
-    one_formed stage ps.linked p q ps.formed (subst (λ linked. IsOfForm stage linked q) (same_linked (sym qs.read ∙ ps.read)) qs.formed)
+one_module : (stage : Stage) (linked : Linked) (m n : Module) → HasModule stage linked m → HasModule stage linked n → m ≡ n
+one_module stage linked m n (inl (p, ps, is)) (inl (q, qs, also)) = is ∙ ap module_of (one_formed stage linked p q ps qs) ∙ sym also
+one_module stage linked m n (inl (p, ps, is)) (inr (none, low)) = absurd (none p ps)
+one_module stage linked m n (inr (none, low)) (inl (q, qs, also)) = absurd (none q qs)
+one_module stage linked m n (inr (none, low)) (inr (others, also)) = one_lowered V10 linked m n low also
+
+one_accepted : (stage : Stage) (sources : List (List ℕ)) (m n : Module) → Accepts stage sources m → Accepts stage sources n → m ≡ n
+one_accepted stage sources m n ms ns =
+    one_module stage ms.linked m n ms.has (subst (λ linked. HasModule stage linked n) (same_linked (sym ns.read ∙ ms.read)) ns.has)
 
 one_where : (stage : Stage) (f g : Fault) (read : Checked Linked) → FaultWhere stage f read → FaultWhere stage g read → f ≡ g
 one_where stage f g (Err first) fs gs = fs ∙ sym gs
 one_where stage f g (Ok linked) fs gs = fs.0 ∙ sym gs.0
 
-never_both : (stage : Stage) (sources : List (List ℕ)) (p : Program) (f : Fault) → Accepts stage sources p → FirstFault stage sources f → ⊥
-never_both stage sources p f ps fs = (subst (FaultWhere stage f) ps.read fs).1 p ps.formed
+never_both : (stage : Stage) (sources : List (List ℕ)) (m : Module) (f : Fault) → Accepts stage sources m → FirstFault stage sources f → ⊥
+never_both stage sources m f ms fs = (subst (FaultWhere stage f) ms.read fs).1 m ms.has
 
-pub one_judged : (stage : Stage) (sources : List (List ℕ)) (v w : Checked Program) → Judges stage sources v → Judges stage sources w → v ≡ w
+pub one_judged : (stage : Stage) (sources : List (List ℕ)) (v w : Checked Module) → Judges stage sources v → Judges stage sources w → v ≡ w
 one_judged stage sources (Ok p) (Ok q) ps qs = ap Ok (one_accepted stage sources p q ps qs)
 one_judged stage sources (Ok p) (Err f) ps fs = absurd (never_both stage sources p f ps fs)
 one_judged stage sources (Err f) (Ok p) fs ps = absurd (never_both stage sources p f ps fs)

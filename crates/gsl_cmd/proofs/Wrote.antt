@@ -5,7 +5,6 @@ use Rattle.gsl_host.specs.declared.target.Stream.{Stream}
 use Rattle.gsl_host.specs.declared.target.Target.{Target}
 use Rattle.gsl_form.specs.Form.{Name}
 use Rattle.gsl_cmd.specs.Job.{Job, IsJob, IsCompileJob, Gathered, Sources, Absent, TooLong, gather, reads}
-use Rattle.gsl_cmd.specs.Lowering.{module_of}
 use Rattle.gsl_cmd.specs.Performs.{Performs, effect_on}
 use Rattle.gsl_plan.specs.Plan.{Plan}
 use Rattle.gsl_cmd.specs.Written.{Written}
@@ -14,9 +13,7 @@ use Rattle.gsl_cmd.proofs.Converted.{shown_written, assembled_written}
 use Rattle.gsl_cmd.proofs.CheckJobs.{check_written}
 use Rattle.gsl_cmd.proofs.ExecJobs.{exec_written}
 use Rattle.gsl_cmd.proofs.RunJobs.{run_written}
-use Rattle.gsl_cmd.proofs.Carried.{program_carries}
-use Rattle.gsl_cmd.proofs.Sizes.{module_small}
-use Rattle.gsl_cmd.proofs.PortableModule.{module_portable}
+use Rattle.gsl_cmd.proofs.Compiled.{promised}
 
 module _ (stage : Stage) (out : Name) (names : List Name) (before : Files) (after : Option Files) (job : Job)
     (zero : job.status ≡ 0) (files : after ≡ Some (effect_on job.effect before)) where
@@ -25,16 +22,13 @@ module _ (stage : Stage) (out : Name) (names : List Name) (before : Files) (afte
   by_gathered Absent e is = absurd (let no : 3 ≡ 0 = sym (ap (λ (j : Job). j.status) is) ∙ zero in cc)
   by_gathered (TooLong unit) e is = absurd (let no : 1 ≡ 0 = sym (ap (λ (j : Job). j.status) is) ∙ zero in cc)
   by_gathered (Sources sources) e (Err fault, right, is) = absurd (let no : 1 ≡ 0 = sym (ap (λ (j : Job). j.status) is) ∙ zero in cc)
-  by_gathered (Sources sources) e (Ok p, right, is) = (
+  by_gathered (Sources sources) e (Ok m, right, is) = (
     sources,
-    p,
-    module_of p,
+    m,
     e,
     right,
     files ∙ ap Some (ap (λ (j : Job). effect_on j.effect before) is),
-    program_carries p right.formed.spelled.fits,
-    module_small p right.formed.spelled.fits,
-    module_portable p right.formed.spelled.fits,
+    promised stage sources m right,
   )
 
 pub job_written : (plan : Plan) (before : Files) (after : Option Files) (job : Job) → IsJob plan before job → job.status ≡ 0 →

@@ -23,4 +23,4 @@ all_fit (i ∷ code) = fits i.op i.args && all_fit code
 
 -- whether a module has a file of fewer than 2^32 words
 abbrev pub is_writable : Module → Bool
-is_writable m = is_some (target_of m.version) && (all_fit m.instrs && nat_lt (count_of_words m) (2 ^ 32))
+is_writable m = is_some (target_of m.version) && (nat_lt (count_of_words m) (2 ^ 32) && all_fit m.instrs)

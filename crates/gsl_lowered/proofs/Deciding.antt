@@ -1,0 +1,79 @@
+-- A program is lowered to a valid module, or to none.
+use Rattle.std.proofs.Common.{◌≡◌, ◌≢◌, ◌⊎◌, inl, inr, ℕ, ◌<◌, ◌≤◌, ◌^◌, Bool, true, false, List, [], ◌∷◌, Option, Some, None, refl, ap, sym, subst, ◌∙◌, arith}
+use Rattle.std.specs.List.{AllByRecursion}
+use Rattle.std.proofs.lemmas.Bool.{cases_Bool, cases_lt}
+use Rattle.gsl_base.specs.Ranges.{AreWords}
+use Rattle.gsl_lower_flow.specs.Programs.{module_for}
+use Rattle.gsl_tree.specs.declared.program.Program.{Program}
+use Rattle.gsl_valid.specs.Valid.{Valid, broken}
+use Rattle.gsl_words.specs.declared.module.Instr.{Instr}
+use Rattle.gsl_words.specs.declared.module.Module.{Module}
+use Rattle.gsl_words.specs.declared.target.Target.{Target}
+use Rattle.gsl_words.specs.Faults.{FitsInstr, FitsTypes}
+use Rattle.gsl_lowered.specs.Lowered.{IsLowered, IsSound}
+use Rattle.gsl_lowered.specs.Writable.{is_writable}
+use Rattle.gsl_lowered.proofs.Judged.{breaks, unwritable}
+use Rattle.gsl_lowered.proofs.Writable.{writable_is}
+
+abbrev Either : Type 0 → Type 0
+Either A = A ⊎ (A → ⊥)
+
+below : (n most : ℕ) → Either (n < most)
+below n most = elim (cases_lt n most) [ inl yes ↦ inl yes | inr no ↦ inr (λ yes. omega (arith, no, yes)) ]
+
+both : {A B : Type 0} → Either A → Either B → Either (A × B)
+both (inl a) (inl b) = inl (a, b)
+both (inl a) (inr no) = inr (λ p. no p.1)
+both (inr no) b = inr (λ p. no p.0)
+
+are_words : (words : List ℕ) → Either (AreWords words)
+are_words [] = inl tt
+are_words (word ∷ words) = both (below word (2 ^ 32)) (are_words words)
+
+instrs_fit : (code : List Instr) → Either (AllByRecursion FitsInstr code)
+instrs_fit [] = inl tt
+instrs_fit (i ∷ code) = both (both (below i.op (2 ^ 16)) (are_words i.args)) (instrs_fit code)
+
+types_fit : (m : Module) → Either (FitsTypes m)
+types_fit m =
+    elim (both (below m.bound (2 ^ 32)) (instrs_fit m.instrs)) [
+      | inl fit ↦ inl (record { bound = fit.0; instrs = fit.1 })
+      | inr no ↦ inr (λ (types : FitsTypes m). no (types.bound, types.instrs))
+    ]
+
+module _ (m : Module) where
+  by_rules : FitsTypes m → is_writable m ≡ true → (found : Option (ℕ × ℕ)) → broken m ≡ found → Either (IsSound m)
+  by_rules types writable (Some what) is = inr (breaks m what is)
+  by_rules types writable None is =
+      let file = writable_is m types writable in
+      inl (record { types = types; valid = record { file = file.0; kept = is }; few = file.1 })
+
+  by_file : FitsTypes m → Either (IsSound m)
+  by_file types =
+      elim (cases_Bool (is_writable m)) [
+        | inl yes ↦ by_rules types yes (broken m) refl
+        | inr no ↦ inr (unwritable m no)
+      ]
+
+  -- a module is sound, or it is not
+  pub sound_or_not : Either (IsSound m)
+  sound_or_not = elim (types_fit m) [ inl types ↦ by_file types | inr no ↦ inr (λ (sound : IsSound m). no sound.types) ]
+
+same_some : {A : Type 0} {a b : A} → ◌≡◌ {A = Option A} (Some a) (Some b) → a ≡ b
+same_some e = cc
+
+module _ (target : Target) (p : Program) where
+  abbrev Is : Type 0
+  Is = (m : Module) × IsLowered target p m
+
+  by_made : (made : Option Module) → module_for target p ≡ made → Is ⊎ ((m : Module) → IsLowered target p m → ⊥)
+  by_made None is = inr (λ m (low : IsLowered target p m). let no : None ≡ Some m = sym is ∙ low.made in cc)
+  by_made (Some m) is =
+      elim (sound_or_not m) [
+        | inl sound ↦ inl (m, record { made = is; sound = sound })
+        | inr no ↦ inr (λ n (low : IsLowered target p n). no (subst IsSound (same_some (sym low.made ∙ is)) low.sound))
+      ]
+
+  -- it has such a module, or none
+  pub lowered_or_not : Is ⊎ ((m : Module) → IsLowered target p m → ⊥)
+  lowered_or_not = by_made (module_for target p) refl

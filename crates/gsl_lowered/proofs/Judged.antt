@@ -1,0 +1,25 @@
+-- What is judged of a module, from the answers of its parts.
+use Rattle.std.proofs.Common.{◌≡◌, ◌≢◌, ℕ, ◌<◌, ◌^◌, Bool, true, false, Option, Some, None, refl, ap, sym, subst, ◌∙◌}
+use Rattle.gsl_lower_flow.specs.Programs.{module_for}
+use Rattle.gsl_tree.specs.declared.program.Program.{Program}
+use Rattle.gsl_valid.specs.Valid.{Valid, broken}
+use Rattle.gsl_words.specs.declared.module.Module.{Module}
+use Rattle.gsl_words.specs.declared.target.Target.{Target}
+use Rattle.gsl_lowered.specs.Lowered.{IsLowered, IsSound}
+use Rattle.gsl_lowered.specs.Writable.{is_writable}
+use Rattle.gsl_lowered.proofs.Writable.{writable_gives}
+
+same_some : {A : Type 0} {a b : A} → ◌≡◌ {A = Option A} (Some a) (Some b) → a ≡ b
+same_some e = cc
+
+-- a module that has no file is not sound
+pub unwritable : (m : Module) → is_writable m ≡ false → IsSound m → ⊥
+unwritable m no sound = let yes : is_writable m ≡ true = writable_gives m sound.valid.file sound.few in cc
+
+-- nor is one that breaks a rule
+pub breaks : (m : Module) (what : ℕ × ℕ) → broken m ≡ Some what → IsSound m → ⊥
+breaks m what is sound = let no : None ≡ Some what = sym sound.valid.kept ∙ is in cc
+
+-- a program has no other module
+pub one_lowered : (target : Target) (p : Program) (m n : Module) → IsLowered target p m → IsLowered target p n → m ≡ n
+one_lowered target p m n ms ns = same_some (sym ms.made ∙ ns.made)
