@@ -10,7 +10,7 @@ use Rattle.gsl_form.specs.declared.program.Program.{Program}
 use Rattle.gsl_form.specs.Trees.{Spells}
 use Rattle.gsl_tree.specs.declared.program.Program.{Program as Linked}
 use Rattle.gsl_tree.specs.WellTyped.{program_lists}
-use Rattle.gsl_lowered.specs.Lowered.{IsLowered}
+use Rattle.gsl_lowered.specs.Sound.{IsLowered}
 use Rattle.gsl_words.specs.Bytes.{bytes_of}
 use Rattle.gsl_words.specs.declared.target.Target.TheVariants.{V10}
 use Rattle.gsl_words.specs.declared.module.Module.{Module}

@@ -17,7 +17,7 @@ use Rattle.gsl_cmd.specs.declared.stop.Stop.{Stop}
 use Rattle.gsl_cmd.specs.declared.stop.Stop.TheVariants as stop
 use Rattle.gsl_form.specs.declared.program.Program.{Program}
 use Rattle.gsl_lowered.proofs.Deciding.{lowered_or_not}
-use Rattle.gsl_lowered.specs.Lowered.{IsLowered}
+use Rattle.gsl_lowered.specs.Sound.{IsLowered}
 use Rattle.gsl_words.specs.declared.module.Module.{Module}
 use Rattle.gsl_words.specs.declared.target.Target.TheVariants.{V10}
 use Rattle.gsl_form.specs.Form.{Name}

@@ -18,7 +18,7 @@ use Rattle.gsl_tree.specs.declared.unit.TypedUnit.{TypedUnit}
 use Rattle.gsl_tree.specs.declared.program.Program.{Program as Linked}
 use Rattle.gsl_tree.specs.WellTyped.{program_lists}
 use Rattle.gsl_link.specs.Joined.{joined}
-use Rattle.gsl_lowered.specs.Lowered.{IsLowered}
+use Rattle.gsl_lowered.specs.Sound.{IsLowered}
 use Rattle.gsl_words.specs.declared.module.Module.{Module}
 use Rattle.gsl_words.specs.declared.target.Target.TheVariants.{V10}
 use Rattle.gsl_words.specs.Bytes.{bytes_of}

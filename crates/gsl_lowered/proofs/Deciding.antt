@@ -9,11 +9,11 @@ use Rattle.gsl_valid.specs.Valid.{Valid, broken}
 use Rattle.gsl_words.specs.declared.module.Instr.{Instr}
 use Rattle.gsl_words.specs.declared.module.Module.{Module}
 use Rattle.gsl_words.specs.declared.target.Target.{Target}
-use Rattle.gsl_words.specs.Faults.{FitsInstr, FitsTypes}
-use Rattle.gsl_lowered.specs.Lowered.{IsLowered, IsSound}
-use Rattle.gsl_lowered.specs.Writable.{is_writable}
+use Rattle.gsl_words.specs.Faults.{FitsInstr}
+use Rattle.gsl_lowered.specs.Sound.{IsLowered, IsSound}
+use Rattle.gsl_lowered.specs.Filing.{is_writable}
 use Rattle.gsl_lowered.proofs.Judged.{breaks, unwritable}
-use Rattle.gsl_lowered.proofs.Writable.{writable_is}
+use Rattle.gsl_lowered.proofs.Filed.{writable_is}
 
 abbrev Either : Type 0 → Type 0
 Either A = A ⊎ (A → ⊥)
@@ -34,21 +34,14 @@ instrs_fit : (code : List Instr) → Either (AllByRecursion FitsInstr code)
 instrs_fit [] = inl tt
 instrs_fit (i ∷ code) = both (both (below i.op (2 ^ 16)) (are_words i.args)) (instrs_fit code)
 
-types_fit : (m : Module) → Either (FitsTypes m)
-types_fit m =
-    elim (both (below m.bound (2 ^ 32)) (instrs_fit m.instrs)) [
-      | inl fit ↦ inl (record { bound = fit.0; instrs = fit.1 })
-      | inr no ↦ inr (λ (types : FitsTypes m). no (types.bound, types.instrs))
-    ]
-
 module _ (m : Module) where
-  by_rules : FitsTypes m → is_writable m ≡ true → (found : Option (ℕ × ℕ)) → broken m ≡ found → Either (IsSound m)
+  by_rules : AllByRecursion FitsInstr m.instrs → is_writable m ≡ true → (found : Option (ℕ × ℕ)) → broken m ≡ found → Either (IsSound m)
   by_rules types writable (Some what) is = inr (breaks m what is)
   by_rules types writable None is =
       let file = writable_is m types writable in
       inl (record { types = types; valid = record { file = file.0; kept = is }; few = file.1 })
 
-  by_file : FitsTypes m → Either (IsSound m)
+  by_file : AllByRecursion FitsInstr m.instrs → Either (IsSound m)
   by_file types =
       elim (cases_Bool (is_writable m)) [
         | inl yes ↦ by_rules types yes (broken m) refl
@@ -57,7 +50,7 @@ module _ (m : Module) where
 
   -- a module is sound, or it is not
   pub sound_or_not : Either (IsSound m)
-  sound_or_not = elim (types_fit m) [ inl types ↦ by_file types | inr no ↦ inr (λ (sound : IsSound m). no sound.types) ]
+  sound_or_not = elim (instrs_fit m.instrs) [ inl types ↦ by_file types | inr no ↦ inr (λ (sound : IsSound m). no sound.types) ]
 
 same_some : {A : Type 0} {a b : A} → ◌≡◌ {A = Option A} (Some a) (Some b) → a ≡ b
 same_some e = cc

@@ -5,9 +5,9 @@ use Rattle.gsl_tree.specs.declared.program.Program.{Program}
 use Rattle.gsl_valid.specs.Valid.{Valid, broken}
 use Rattle.gsl_words.specs.declared.module.Module.{Module}
 use Rattle.gsl_words.specs.declared.target.Target.{Target}
-use Rattle.gsl_lowered.specs.Lowered.{IsLowered, IsSound}
-use Rattle.gsl_lowered.specs.Writable.{is_writable}
-use Rattle.gsl_lowered.proofs.Writable.{writable_gives}
+use Rattle.gsl_lowered.specs.Sound.{IsLowered, IsSound}
+use Rattle.gsl_lowered.specs.Filing.{is_writable}
+use Rattle.gsl_lowered.proofs.Filed.{writable_gives}
 
 same_some : {A : Type 0} {a b : A} → ◌≡◌ {A = Option A} (Some a) (Some b) → a ≡ b
 same_some e = cc

@@ -1,3 +1,3 @@
-pub mod Writable
+pub mod Filed
 pub mod Judged
 pub mod Deciding

@@ -1,2 +1,2 @@
-pub mod Writable
-pub mod Lowered
+pub mod Filing
+pub mod Sound

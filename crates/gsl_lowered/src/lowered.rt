@@ -1,7 +1,7 @@
 //! The module of a program, where it is valid.
 
 ghost use Rattle.gsl_tree.specs.WellTyped.{IsProgram};
-ghost use Rattle.gsl_lowered.specs.Lowered as spec;
+ghost use Rattle.gsl_lowered.specs.Sound as spec;
 
 use crate::writable::is_writable;
 use gsl_base::Memory;

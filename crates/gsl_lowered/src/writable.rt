@@ -3,8 +3,8 @@
 ghost use Rattle.std.specs.Prelude.{◌≡◌, ◌^◌, ◌<◌, nat_lt, length, true, IfOk};
 ghost use Rattle.std.specs.List.{AllByRecursion};
 ghost use Rattle.gsl_valid.specs.Placed.{count_of_words};
-ghost use Rattle.gsl_words.specs.Faults.{FitsInstr, FitsTypes};
-ghost use Rattle.gsl_lowered.specs.Writable as spec;
+ghost use Rattle.gsl_words.specs.Faults.{FitsInstr};
+ghost use Rattle.gsl_lowered.specs.Filing as spec;
 
 use gsl_base::Memory;
 use gsl_instr::{allows_words, fits_text, form_of};
@@ -18,7 +18,7 @@ const MOST_WORDS: usize = 65_534;
 const MOST_FILE_WORDS: u64 = 4_294_967_295;
 
 /// Whether the table has room for an instruction of this opcode with these operand words.
-#[tactic(auto, unfolding(crate::specs::Writable::fits))]
+#[tactic(auto, unfolding(crate::specs::Filing::fits))]
 fn is_in_table(alloc: Global, op: u16, args: &[u32]) -> Result<bool, Memory>
     ensures told { IfOk result (λ fits. fits ≡ spec.fits op args.now) }
     ensures types { FitsInstr (record { op = op; args = args.now }) }
@@ -60,10 +60,10 @@ fn all_in_table(alloc: Global, of: &Module) -> Result<bool, Memory>
     Ok(true)
 }
 
-/// Whether a module has a file of fewer than 2^32 words; its numbers are then in the ranges of their types.
+/// Whether a module has a file of fewer than 2^32 words; the numbers of its instructions are then in the ranges of their types.
 pub fn is_writable(alloc: Global, of: &Module) -> Result<bool, Memory>
     ensures told { IfOk result (λ writable. writable ≡ spec.is_writable of.now) }
-    ensures types { IfOk result (λ writable. writable ≡ true → FitsTypes of.now) }
+    ensures types { IfOk result (λ writable. writable ≡ true → AllByRecursion FitsInstr of.now.instrs) }
 {
     if Target::of_version(of.version).is_none() || !is_short(of) {
         return Ok(false);

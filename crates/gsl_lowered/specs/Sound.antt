@@ -1,5 +1,6 @@
 -- Which valid module a program is lowered to (SPIR-V 1.0, 2.16).
 use Rattle.std.specs.Prelude.{◌≡◌, ℕ, ◌^◌, ◌<◌, Option, Some, None, Result, Ok, Err}
+use Rattle.std.specs.List.{AllByRecursion}
 use Rattle.gsl_base.specs.declared.memory.Memory.{Memory}
 use Rattle.gsl_lower_flow.specs.Programs.{module_for}
 use Rattle.gsl_tree.specs.declared.program.Program.{Program}
@@ -7,11 +8,11 @@ use Rattle.gsl_valid.specs.Placed.{count_of_words}
 use Rattle.gsl_valid.specs.Valid.{Valid}
 use Rattle.gsl_words.specs.declared.module.Module.{Module}
 use Rattle.gsl_words.specs.declared.target.Target.{Target}
-use Rattle.gsl_words.specs.Faults.{FitsTypes}
+use Rattle.gsl_words.specs.Faults.{FitsInstr}
 
--- A valid module whose file has fewer than 2^32 words.
+-- A valid module whose file has fewer than 2^32 words; the numbers of its instructions are in the ranges of their types.
 pub record IsSound (m : Module) : Type 0 where
-  pub types : FitsTypes m
+  pub types : AllByRecursion FitsInstr m.instrs
   pub valid : Valid m
   pub few : count_of_words m < 2 ^ 32
 
