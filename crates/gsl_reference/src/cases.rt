@@ -3,6 +3,7 @@
 use crate::case::{Case, read_cases};
 use crate::command::reference;
 use gsl_base::{Memory, Text, Words};
+use gsl_cmd::glsl_main;
 use gsl_host::{Host, MemHost, Stream};
 use gsl_outline::{Done, Outline};
 use std::alloc::Global;
@@ -52,14 +53,28 @@ fn source_name(alloc: Global, number: usize) -> Result<Text, Memory> {
     Text::from_str(alloc, name.as_str())
 }
 
-/// Runs a case over a host that has its files, and prints its title, the status if it is not 0, and what was printed.
+/// Runs a case over a host that has its files, and prints its title, the status if it is not 0, and what was printed; and what the
+/// shader's module gives, where that is something else.
 fn run_case(alloc: Global, out: &mut Outline, case: &Case) -> Done {
     out.put("case ")?;
     out.put(case.title.as_str())?;
     out.end_line()?;
     let mut host = MemHost::new(alloc, &[])?;
-    let words = lay_out(alloc, case, &mut host)?;
+    let words = lay_out(alloc, case, &["reference"], &mut host)?;
     let status = reference(alloc, &words, &mut host);
+    tell(out, status, &host)?;
+    let mut beside = MemHost::new(alloc, &[])?;
+    let words = lay_out(alloc, case, &["gsl", "run"], &mut beside)?;
+    let other = glsl_main(alloc, &words, &mut beside);
+    if status == other && host.out() == beside.out() {
+        return Ok(());
+    }
+    out.put("run\n")?;
+    tell(out, other, &beside)
+}
+
+/// The status if it is not 0, and what was printed.
+fn tell(out: &mut Outline, status: u8, host: &MemHost) -> Done {
     if status != 0 {
         out.put("status ")?;
         out.number(u64::from(status))?;
@@ -69,10 +84,17 @@ fn run_case(alloc: Global, out: &mut Outline, case: &Case) -> Done {
     out.put_bytes(host.err())
 }
 
-/// Puts the files of a case on the host, and gives the words of its command line.
-fn lay_out(alloc: Global, case: &Case, host: &mut MemHost) -> Result<Words, Memory> {
+/// Puts the files of a case on the host, and gives the words of a command line that begins so.
+fn lay_out(
+    alloc: Global,
+    case: &Case,
+    first: &[&str],
+    host: &mut MemHost,
+) -> Result<Words, Memory> {
     let mut words = Words::new(alloc);
-    words.push(Text::from_str(alloc, "reference")?)?;
+    for word in first {
+        words.push(Text::from_str(alloc, word)?)?;
+    }
     words.push(Text::from_str(alloc, case.stage.as_str())?)?;
     words.push(Text::from_str(alloc, "inputs")?)?;
     host.put_file(
