@@ -25,7 +25,7 @@ abbrev pub OneOwed : Type 0
 OneOwed = (file inputs : Name) (files : Files) (a b : Owed) → IsOwed file inputs files a → IsOwed file inputs files b → a ≡ b
 
 pub some_job : SomeOwed → SomeTaken → (plan : Plan) (files : Files) → (job : Job) × IsJob plan files job
-some_job owed taken (Plan.Compile stage out names) files = compile_job stage out names (reads files names) (gather files 0 names)
+some_job owed taken (Plan.Compile version stage out names) files = compile_job version stage out names (reads files names) (gather files 0 names)
 some_job owed taken (Plan.Disassemble file out) files = conversion_job Disassemble file out (found_in (get files file))
 some_job owed taken (Plan.Assemble file out) files = conversion_job Assemble file out (found_in (get files file))
 some_job owed taken (Plan.Check file) files = check_job file (found_in (get files file))
@@ -33,7 +33,7 @@ some_job owed taken (Plan.Exec file inputs) files = exec_job file inputs files (
 some_job owed taken (Plan.Run stage inputs names) files = run_job taken stage inputs names files
 
 pub one_job_of : OneOwed → OneTaken → (plan : Plan) (files : Files) (j k : Job) → IsJob plan files j → IsJob plan files k → j ≡ k
-one_job_of owed taken (Plan.Compile stage out names) files j k js ks = one_compile_job stage out names (reads files names) (gather files 0 names) j k js ks
+one_job_of owed taken (Plan.Compile version stage out names) files j k js ks = one_compile_job version stage out names (reads files names) (gather files 0 names) j k js ks
 one_job_of owed taken (Plan.Disassemble file out) files j k js ks = one_conversion Disassemble file out (found_in (get files file)) j k js ks
 one_job_of owed taken (Plan.Assemble file out) files j k js ks = one_conversion Assemble file out (found_in (get files file)) j k js ks
 one_job_of owed taken (Plan.Check file) files j k js ks = one_check file (found_in (get files file)) j k js ks

@@ -12,6 +12,7 @@ use Rattle.gsl_tree.specs.declared.program.Program.{Program as Linked}
 use Rattle.gsl_tree.specs.WellTyped.{program_lists}
 use Rattle.gsl_lowered.specs.Sound.{IsLowered}
 use Rattle.gsl_words.specs.Bytes.{bytes_of}
+use Rattle.gsl_words.specs.declared.target.Target.{Target}
 use Rattle.gsl_words.specs.declared.target.Target.TheVariants.{V10}
 use Rattle.gsl_words.specs.declared.module.Module.{Module}
 use Rattle.gsl_valid.specs.Placed.{count_of_words}
@@ -29,33 +30,33 @@ use Rattle.gsl_cmd.proofs.PortableModule.{module_portable}
 use Rattle.gsl_cmd.proofs.Unique.{one_formed, same_linked}
 use Rattle.gsl_cmd.proofs.ValidModule.{module_valid}
 
-module _ (stage : Stage) (sources : List (List ℕ)) where
+module _ (target : Target) (stage : Stage) (sources : List (List ℕ)) where
   -- the sources have a fault
-  pub refused : (why : Refusal) → Refuses why (linked_of stage sources) → Makes stage sources (Err why)
-  refused (refusal.Source fault) is = subst (FaultWhere stage fault) (sym is) refl
+  pub refused : (why : Refusal) → Refuses why (linked_of stage sources) → Makes target stage sources (Err why)
+  refused (refusal.Source fault) is = subst (FaultWhere target stage fault) (sym is) refl
   refused refusal.Memory is = tt
 
   -- they make this program
-  pub made : (linked : Linked) (result : Result Module Refusal) → linked_of stage sources ≡ Ok linked → MakesLinked stage linked result → Makes stage sources result
+  pub made : (linked : Linked) (result : Result Module Refusal) → linked_of stage sources ≡ Ok linked → MakesLinked target stage linked result → Makes target stage sources result
   made linked (Ok m) is has = record { linked = linked; read = is; has = has }
-  made linked (Err (refusal.Source fault)) is none = subst (FaultWhere stage fault) (sym is) none
+  made linked (Err (refusal.Source fault)) is none = subst (FaultWhere target stage fault) (sym is) none
   made linked (Err refusal.Memory) is met = tt
 
   -- their module is valid
-  has_valid : (linked : Linked) (m : Module) → HasModule stage linked m → Valid m
+  has_valid : (linked : Linked) (m : Module) → HasModule target stage linked m → Valid m
   has_valid linked m (inl (p, formed, same)) = subst Valid (sym same) (module_valid p formed.spelled.fits)
   has_valid linked m (inr (none, lowered)) = lowered.sound.valid
 
   -- where they give a program of the form it is this program's
-  has_own : (linked : Linked) (m : Module) (p : Program) → IsOfForm stage linked p → HasModule stage linked m → m ≡ module_of p
-  has_own linked m p formed (inl (q, other, same)) = same ∙ ap module_of (one_formed stage linked q p other formed)
+  has_own : (linked : Linked) (m : Module) (p : Program) → IsOfForm target stage linked p → HasModule target stage linked m → m ≡ module_of p
+  has_own linked m p formed (inl (q, other, same)) = same ∙ ap module_of (one_formed target stage linked q p other formed)
   has_own linked m p formed (inr (none, lowered)) = absurd (none p formed)
 
-  its_own : (m : Module) → Accepts stage sources m → (p : Program) → AreOfForm stage sources p → m ≡ module_of p
-  its_own m accepts p own = has_own accepts.linked m p (subst (λ linked. IsOfForm stage linked p) (same_linked (sym own.read ∙ accepts.read)) own.formed) accepts.has
+  its_own : (m : Module) → Accepts target stage sources m → (p : Program) → AreOfForm target stage sources p → m ≡ module_of p
+  its_own m accepts p own = has_own accepts.linked m p (subst (λ linked. IsOfForm target stage linked p) (same_linked (sym own.read ∙ accepts.read)) own.formed) accepts.has
 
   -- it is as is promised
-  pub promised : (m : Module) → Accepts stage sources m → IsPromised stage sources m
+  pub promised : (m : Module) → Accepts target stage sources m → IsPromised target stage sources m
   promised m accepts = record {
     valid = has_valid accepts.linked m accepts.has;
     carries = λ p own. subst (λ (x : Module). Carries x p) (sym (its_own m accepts p own)) (program_carries p own.formed.spelled.fits);
@@ -64,27 +65,27 @@ module _ (stage : Stage) (sources : List (List ℕ)) where
   }
 
   -- the file of their module is this
-  pub compiled : (m : Module) (bytes : List ℕ) → Makes stage sources (Ok m) → bytes ≡ bytes_of m → Compiles stage sources (Ok bytes)
+  pub compiled : (m : Module) (bytes : List ℕ) → Makes target stage sources (Ok m) → bytes ≡ bytes_of m → Compiles target stage sources (Ok bytes)
   compiled m bytes accepts file = (m, accepts, file, promised m accepts)
 
-  pub uncompiled : (why : Refusal) → Makes stage sources (Err why) → Compiles stage sources (Err why)
+  pub uncompiled : (why : Refusal) → Makes target stage sources (Err why) → Compiles target stage sources (Err why)
   uncompiled (refusal.Source fault) made = made
   uncompiled refusal.Memory made = tt
 
 -- a program that is neither of the form nor lowered to a valid module has none
-pub other_not : (stage : Stage) (linked : Linked) → ((p : Program) → IsOfForm stage linked p → ⊥) → ((m : Module) → IsLowered V10 linked m → ⊥) → (m : Module) → HasModule stage linked m → ⊥
-other_not stage linked none never m (inl (p, formed, same)) = none p formed
-other_not stage linked none never m (inr (others, lowered)) = never m lowered
+pub other_not : (target : Target) (stage : Stage) (linked : Linked) → ((p : Program) → IsOfForm target stage linked p → ⊥) → ((m : Module) → IsLowered target linked m → ⊥) → (m : Module) → HasModule target stage linked m → ⊥
+other_not target stage linked none never m (inl (p, formed, same)) = none p formed
+other_not target stage linked none never m (inr (others, lowered)) = never m lowered
 
 -- a program that is not of the form has the module that it is lowered to, and no other
-pub other : (stage : Stage) (linked : Linked) (result : Result Module Refusal) → ((p : Program) → IsOfForm stage linked p → ⊥) → MakesOther linked result → MakesLinked stage linked result
-other stage linked (Ok m) none lowered = inr (none, lowered)
-other stage linked (Err (refusal.Source fault)) none (is, never) = (is, other_not stage linked none never)
-other stage linked (Err refusal.Memory) none made = tt
+pub other : (target : Target) (stage : Stage) (linked : Linked) (result : Result Module Refusal) → ((p : Program) → IsOfForm target stage linked p → ⊥) → MakesOther target linked result → MakesLinked target stage linked result
+other target stage linked (Ok m) none lowered = inr (none, lowered)
+other target stage linked (Err (refusal.Source fault)) none (is, never) = (is, other_not target stage linked none never)
+other target stage linked (Err refusal.Memory) none made = tt
 
 -- one that is has its own
-pub own : (stage : Stage) (linked : Linked) (p : Program) (m : Module) → IsOfForm stage linked p → m ≡ module_of p → HasModule stage linked m
-own stage linked p m formed same = inl (p, formed, same)
+pub own : (target : Target) (stage : Stage) (linked : Linked) (p : Program) (m : Module) → IsOfForm target stage linked p → m ≡ module_of p → HasModule target stage linked m
+own target stage linked p m formed same = inl (p, formed, same)
 
 -- a program's module has few words
 pub words_fit : (p : Program) → IsProgram p → count_of_words (module_of p) < 2 ^ 32
@@ -93,13 +94,13 @@ words_fit p fits = omega (arith, (module_small p fits).words, fits.most, fits.fe
 -- What is told of a linked program where the stage is known.
 module _ (stage : Stage) (linked : Linked) (is : stage ≡ Compute) where
   pub taken : (result : Result (Option Program) WantOfMemory) → IfOk result (λ found. IfSome found (λ p. Spells (program_lists linked) p))
-      → IfOk result (λ found. IfSome found (λ p. IsOfForm stage linked p))
-  taken (Ok (Some p)) spells = record { stage_is = is; spelled = spells }
+      → IfOk result (λ found. IfSome found (λ p. IsOfForm V10 stage linked p))
+  taken (Ok (Some p)) spells = record { target_is = refl; stage_is = is; spelled = spells }
   taken (Ok None) spells = tt
   taken (Err memory) spells = tt
 
   pub untaken : (result : Result (Option Program) WantOfMemory) → IfOk result (λ found. IfNone found ((p : Program) → Spells (program_lists linked) p → ⊥))
-      → IfOk result (λ found. IfNone found ((p : Program) → IsOfForm stage linked p → ⊥))
+      → IfOk result (λ found. IfNone found ((p : Program) → IsOfForm V10 stage linked p → ⊥))
   untaken (Ok (Some p)) none = tt
   untaken (Ok None) none = λ p formed. none p formed.spelled
   untaken (Err memory) none = tt

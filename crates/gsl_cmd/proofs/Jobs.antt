@@ -19,7 +19,8 @@ use Rattle.gsl_form.specs.declared.program.Program.{Program}
 use Rattle.gsl_lowered.proofs.Deciding.{lowered_or_not}
 use Rattle.gsl_lowered.specs.Sound.{IsLowered}
 use Rattle.gsl_words.specs.declared.module.Module.{Module}
-use Rattle.gsl_words.specs.declared.target.Target.TheVariants.{V10}
+use Rattle.gsl_words.specs.declared.target.Target.{Target as Version}
+use Rattle.gsl_words.specs.declared.target.Target.TheVariants.{V10, V13}
 use Rattle.gsl_form.specs.Form.{Name}
 use Rattle.gsl_tree.specs.declared.program.Program.{Program as Linked}
 use Rattle.gsl_tree.specs.WellTyped.{program_lists}
@@ -42,46 +43,47 @@ stage_compute Fragment = inr (λ e. cc)
 stage_compute Compute = inl refl
 
 -- the linked program has one of the form, or none
-formed : (stage : Stage) (linked : Linked) → ((p : Program) × IsOfForm stage linked p) ⊎ ((p : Program) → IsOfForm stage linked p → ⊥)
-formed stage linked =
+formed : (version : Version) (stage : Stage) (linked : Linked) → ((p : Program) × IsOfForm version stage linked p) ⊎ ((p : Program) → IsOfForm version stage linked p → ⊥)
+formed V13 stage linked = inr (λ p is. let other : ◌≡◌ {A = Version} V13 V10 = is.target_is in cc)
+formed V10 stage linked =
     elim (stage_compute stage) [
       | inr other ↦ inr (λ p is. other is.stage_is)
       | inl compute ↦
-          elim (program_of (program_lists linked)) as (λ found. program_of (program_lists linked) ≡ found → ((p : Program) × IsOfForm stage linked p) ⊎ ((p : Program) → IsOfForm stage linked p → ⊥)) [
+          elim (program_of (program_lists linked)) as (λ found. program_of (program_lists linked) ≡ found → ((p : Program) × IsOfForm V10 stage linked p) ⊎ ((p : Program) → IsOfForm V10 stage linked p → ⊥)) [
             | None ↦ λ e. inr (λ p is. let there : program_of (program_lists linked) ≡ Some p = program_gives (program_lists linked) p is.spelled in cc)
-            | Some p ↦ λ e. inl (p, record { stage_is = compute; spelled = program_is (program_lists linked) p e })
+            | Some p ↦ λ e. inl (p, record { target_is = refl; stage_is = compute; spelled = program_is (program_lists linked) p e })
           ] refl
     ]
 
 -- it has a module, or none
-module_or_not : (stage : Stage) (linked : Linked) → ((m : Module) × HasModule stage linked m) ⊎ ((m : Module) → HasModule stage linked m → ⊥)
-module_or_not stage linked =
-    elim (formed stage linked) [
+module_or_not : (version : Version) (stage : Stage) (linked : Linked) → ((m : Module) × HasModule version stage linked m) ⊎ ((m : Module) → HasModule version stage linked m → ⊥)
+module_or_not version stage linked =
+    elim (formed version stage linked) [
       | inl (p, formed) ↦ inl (module_of p, inl (p, formed, refl))
       | inr none ↦
-          elim (lowered_or_not V10 linked) [
+          elim (lowered_or_not version linked) [
             | inl (m, lowered) ↦ inl (m, inr (none, lowered))
-            | inr never ↦ inr (other_not stage linked none never)
+            | inr never ↦ inr (other_not version stage linked none never)
           ]
     ]
 
-judged : (stage : Stage) (sources : List (List ℕ)) (read : Checked Linked) → linked_of stage sources ≡ read → (verdict : Checked Module) × Judges stage sources verdict
-judged stage sources (Err first) is = (Err first, subst (FaultWhere stage first) (sym is) refl)
-judged stage sources (Ok linked) is =
-    elim (module_or_not stage linked) [
+judged : (version : Version) (stage : Stage) (sources : List (List ℕ)) (read : Checked Linked) → linked_of stage sources ≡ read → (verdict : Checked Module) × Judges version stage sources verdict
+judged version stage sources (Err first) is = (Err first, subst (FaultWhere version stage first) (sym is) refl)
+judged version stage sources (Ok linked) is =
+    elim (module_or_not version stage linked) [
       | inl (m, has) ↦ (Ok m, record { linked = linked; read = is; has = has })
-      | inr none ↦ (Err (fault_in 0 E0001), subst (FaultWhere stage (fault_in 0 E0001)) (sym is) (refl, none))
+      | inr none ↦ (Err (fault_in 0 E0001), subst (FaultWhere version stage (fault_in 0 E0001)) (sym is) (refl, none))
     ]
 
-pub some_verdict : (stage : Stage) (sources : List (List ℕ)) → (verdict : Checked Module) × Judges stage sources verdict
-some_verdict stage sources = judged stage sources (linked_of stage sources) refl
+pub some_verdict : (version : Version) (stage : Stage) (sources : List (List ℕ)) → (verdict : Checked Module) × Judges version stage sources verdict
+some_verdict version stage sources = judged version stage sources (linked_of stage sources) refl
 
 -- There is a job of `compile` over all files.
-pub compile_job : (stage : Stage) (out : Name) (names : List Name) (targets : List Target) (gathered : Gathered) → (job : Job) × IsCompileJob stage out names targets job gathered
-compile_job stage out names targets Absent = (failed targets, refl)
-compile_job stage out names targets (TooLong unit) = (refused names targets (fault_in unit E0900), refl)
-compile_job stage out names targets (Sources sources) =
-    let verdict = some_verdict stage sources in
+pub compile_job : (version : Version) (stage : Stage) (out : Name) (names : List Name) (targets : List Target) (gathered : Gathered) → (job : Job) × IsCompileJob version stage out names targets job gathered
+compile_job version stage out names targets Absent = (failed targets, refl)
+compile_job version stage out names targets (TooLong unit) = (refused names targets (fault_in unit E0900), refl)
+compile_job version stage out names targets (Sources sources) =
+    let verdict = some_verdict version stage sources in
     (compiled out names targets verdict.0, (verdict.0, verdict.1, refl))
 
 -- Files that are as before keep all but what any effect writes.
@@ -178,15 +180,15 @@ rest_read files (n ∷ names) name source target some first read short at =
 pub memory_reads : (g : Gathered) (why : Stop) → why ≡ stop.Memory → ReadsGathered g (Err why)
 memory_reads g why is = subst (λ (w : Stop). ReadsGathered g (Err w)) (sym is) tt
 
-module _ (stage : Stage) (out : Name) (names : List Name) (files : Files) where
+module _ (version : Version) (stage : Stage) (out : Name) (names : List Name) (files : Files) where
   abbrev plan : Plan
-  plan = Plan.Compile stage out names
+  plan = Plan.Compile version stage out names
 
   abbrev its_reads : List Target
   its_reads = reads files names
 
   abbrev IsIts : Job → Gathered → Type 0
-  IsIts job gathered = IsCompileJob stage out names its_reads job gathered
+  IsIts job gathered = IsCompileJob version stage out names its_reads job gathered
 
   -- the job reaches for what is read
   reads_in_targets : (target : Target) → Contains its_reads target → (gathered : Gathered) (job : Job) → IsIts job gathered → Contains job.targets target
@@ -206,7 +208,7 @@ module _ (stage : Stage) (out : Name) (names : List Name) (files : Files) where
     -- want of memory leaves some job
     pub ended_memory : after ≡ Some files → Came (Err stop.Memory)
     ended_memory same =
-        let job = compile_job stage out names its_reads (gather files 0 names) in
+        let job = compile_job version stage out names its_reads (gather files 0 names) in
         record { job = job.0; is_job = job.1; out = λ none. absurd none; did = tt; kept = keeps_same job.0.effect files after same }
 
     long_ended : (fault : Fault) (unit : ℕ) → gather files 0 names ≡ TooLong unit → fault ≡ fault_in unit E0900 → after ≡ Some files → Came (Err (stop.Fault fault))
@@ -225,7 +227,7 @@ module _ (stage : Stage) (out : Name) (names : List Name) (files : Files) where
     ended_read stop.Memory told same rose = ended_memory same
     ended_read (stop.Rejected text) told same rose = absurd told
     ended_read stop.Host told same rose =
-        let job = compile_job stage out names its_reads (gather files 0 names) in
+        let job = compile_job version stage out names its_reads (gather files 0 names) in
         let (target, at, rises) = rose refl in
         record {
           job = job.0;
@@ -236,7 +238,7 @@ module _ (stage : Stage) (out : Name) (names : List Name) (files : Files) where
         }
     ended_read (stop.Fault fault) (unit, long, is) same rose = long_ended fault unit (sym (behind_no_sources (gather files 0 names)) ∙ long) is same
 
-    pub ended_compile : (sources : List (List ℕ)) (why : Stop) → gather files 0 names ≡ Sources sources → CompilesSources stage sources (Err why) → after ≡ Some files → Came (Err why)
+    pub ended_compile : (sources : List (List ℕ)) (why : Stop) → gather files 0 names ≡ Sources sources → CompilesSources version stage sources (Err why) → after ≡ Some files → Came (Err why)
     ended_compile sources stop.Memory read answer same = ended_memory same
     ended_compile sources stop.Host read answer same = absurd answer
     ended_compile sources (stop.Rejected text) read answer same = absurd answer
@@ -250,13 +252,13 @@ module _ (stage : Stage) (out : Name) (names : List Name) (files : Files) where
           kept = same;
         }
 
-    wrote : (sources : List (List ℕ)) (m : Module) (end : Result (Unit {0}) Stop) → gather files 0 names ≡ Sources sources → Accepts stage sources m → KeepsOthers (Some files) after out
+    wrote : (sources : List (List ℕ)) (m : Module) (end : Result (Unit {0}) Stop) → gather files 0 names ≡ Sources sources → Accepts version stage sources m → KeepsOthers (Some files) after out
         → Did names (compiled out names its_reads (Ok m)) files after faults faults' end → Came end
     wrote sources m end read accepts others did =
         let job = compiled out names its_reads (Ok m) in
         record { job = job; is_job = subst (IsIts job) (sym read) (Ok m, accepts, refl); out = λ told. refl; did = did; kept = others }
 
-    pub ended_write : (sources : List (List ℕ)) (bytes : List ℕ) (end : Result (Unit {0}) Stop) → gather files 0 names ≡ Sources sources → CompilesSources stage sources (Ok bytes) →
+    pub ended_write : (sources : List (List ℕ)) (bytes : List ℕ) (end : Result (Unit {0}) Stop) → gather files 0 names ≡ Sources sources → CompilesSources version stage sources (Ok bytes) →
         OnOk end (Sets (Some files) after out bytes) → KeepsOthers (Some files) after out → (end ≡ Err stop.Host → Rose faults faults' (Writing out)) →
         ((fault : Fault) → end ≡ Err (stop.Fault fault) → ⊥) → ((text : List ℕ) → end ≡ Err (stop.Rejected text) → ⊥) → Came end
     ended_write sources bytes (Ok done) read (m, accepts, is, promised) sets others rose sound quiet =
@@ -270,8 +272,8 @@ module _ (stage : Stage) (out : Name) (names : List Name) (files : Files) where
 
 -- what the command reaches for
 
-pub read_target : (stage : Stage) (out : Name) (names : List Name) (target : Target) → Contains (map Reading names) target → Contains (targets_of (Plan.Compile stage out names)) target
-read_target stage out names target at = contains_front target (map Reading names) (Writing out ∷ []) at
+pub read_target : (version : Version) (stage : Stage) (out : Name) (names : List Name) (target : Target) → Contains (map Reading names) target → Contains (targets_of (Plan.Compile version stage out names)) target
+read_target version stage out names target at = contains_front target (map Reading names) (Writing out ∷ []) at
 
-pub write_target : (stage : Stage) (out : Name) (names : List Name) → Contains (targets_of (Plan.Compile stage out names)) (Writing out)
-write_target stage out names = contains_last (Writing out) (map Reading names)
+pub write_target : (version : Version) (stage : Stage) (out : Name) (names : List Name) → Contains (targets_of (Plan.Compile version stage out names)) (Writing out)
+write_target version stage out names = contains_last (Writing out) (map Reading names)

@@ -17,6 +17,7 @@ use Rattle.gsl_given.specs.declared.stop.Stop.TheVariants as ungiven
 use Rattle.gsl_given.specs.Given.{ReadsManifestTold}
 use Rattle.gsl_given.specs.Texts.{long_text}
 use Rattle.gsl_words.specs.declared.module.Module.{Module}
+use Rattle.gsl_words.specs.declared.target.Target.TheVariants.{V10}
 use Rattle.gsl_plan.specs.Plan.{Plan}
 use Rattle.gsl_exec.specs.declared.stop.Stop.{Stop}
 use Rattle.gsl_exec.specs.declared.stop.Stop.TheVariants as stop
@@ -49,15 +50,15 @@ abbrev pub Kept : (Job → Type 0) → List Target → Type 0
 Kept IsIts targets = (job : Job) × IsIts job × (job.effect ≡ Effect.Keeps) × ((target : Target) → Contains targets target → Contains job.targets target)
 
 module _ (some : SomeTaken) (files : Files) (stage : Stage) (names : List Name) where
-  some_module : (sources : List (List ℕ)) (text : List ℕ) (targets : List Target) (verdict : Checked Module) → Judges stage sources verdict
+  some_module : (sources : List (List ℕ)) (text : List ℕ) (targets : List Target) (verdict : Checked Module) → Judges V10 stage sources verdict
       → Kept (λ job. IsModuleJob files names text targets job verdict) targets
   some_module sources text targets (Ok m) right =
-      let its = some m (promised stage sources m right).valid files text targets in (job_of its.0, (its.0, its.1, refl), refl, its.2)
+      let its = some m (promised V10 stage sources m right).valid files text targets in (job_of its.0, (its.0, its.1, refl), refl, its.2)
   some_module sources text targets (Err fault) right = (refused names targets fault, refl, refl, λ target at. at)
 
   pub some_text : (sources : List (List ℕ)) (text : List ℕ) (targets : List Target) → Kept (IsTextJob files stage names sources text targets) targets
   some_text sources text targets =
-      let verdict = some_verdict stage sources in
+      let verdict = some_verdict V10 stage sources in
       let its = some_module sources text targets verdict.0 verdict.1 in
       (its.0, (verdict.0, verdict.1, its.1), its.2, its.3)
 
@@ -85,7 +86,7 @@ module _ (one : OneTaken) (files : Files) (stage : Stage) (names : List Name) (j
   one_inputs sources targets Missing js ks = js ∙ sym ks
   one_inputs sources targets Longer js ks = js ∙ sym ks
   one_inputs sources targets (Whole text) (v, vs, js) (w, ws, ks) =
-      one_module text targets v js (subst (IsModuleJob files names text targets k) (one_judged stage sources w v ws vs) ks)
+      one_module text targets v js (subst (IsModuleJob files names text targets k) (one_judged V10 stage sources w v ws vs) ks)
 
   pub one_run : (inputs : Name) (targets : List Target) (gathered : Gathered) → IsRunJob stage inputs names files targets j gathered → IsRunJob stage inputs names files targets k gathered → j ≡ k
   one_run inputs targets Absent js ks = js ∙ sym ks
@@ -120,7 +121,7 @@ made_own stage sources names stop.Memory made = tt
 
 -- ---- the line of a fault
 
-pub made_told : {E : Type 0} (stage : Stage) (sources : List (List ℕ)) (names : List Name) (fault : Fault) (line : Result (List ℕ) E) (end : Stop) → FirstFault stage sources fault
+pub made_told : {E : Type 0} (stage : Stage) (sources : List (List ℕ)) (names : List Name) (fault : Fault) (line : Result (List ℕ) E) (end : Stop) → FirstFault V10 stage sources fault
     → IfOk line (λ text. text ≡ told_fault names fault) → MatchResult line (λ text. end ≡ stop.Told 1 text) (λ _. end ≡ stop.Memory) → MakesModule stage sources names (Err end)
 made_told stage sources names fault (Ok text) end first is e = subst (λ (s : Stop). MakesModule stage sources names (Err s)) (sym e) (fault, first, refl, is)
 made_told stage sources names fault (Err x) end first is e = subst (λ (s : Stop). MakesModule stage sources names (Err s)) (sym e) tt
@@ -318,7 +319,7 @@ module _ (stage : Stage) (inputs : Name) (names : List Name) (files : Files) (af
   status : {k : ℕ} (its : Job) → job ≡ its → its.status ≡ k → k ≡ 0
   status its is e = sym e ∙ sym (ap (λ (x : Job). x.status) is) ∙ well
 
-  by_module : (sources : List (List ℕ)) (text : List ℕ) (targets : List Target) (verdict : Checked Module) → gather files 0 names ≡ Sources sources → get files inputs ≡ Some text → Judges stage sources verdict
+  by_module : (sources : List (List ℕ)) (text : List ℕ) (targets : List Target) (verdict : Checked Module) → gather files 0 names ≡ Sources sources → get files inputs ≡ Some text → Judges V10 stage sources verdict
       → IsModuleJob files names text targets job verdict → Written (Plan.Run stage inputs names) files after
   by_module sources text targets (Ok m) gathered read right (owed, is, same) =
       let ran = done.taken owed (sym (ap (λ (j : Job). j.status) same) ∙ well) files inputs text read m targets is in (
@@ -327,7 +328,7 @@ module _ (stage : Stage) (inputs : Name) (names : List Name) (files : Files) (af
         ran.0,
         gathered,
         right,
-        promised stage sources m right,
+        promised V10 stage sources m right,
         ran.1,
         left ∙ ap (λ (j : Job). Some (effect_on j.effect files)) same,
       )

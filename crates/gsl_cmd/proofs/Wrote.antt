@@ -9,16 +9,17 @@ use Rattle.gsl_cmd.specs.Performs.{Performs, effect_on}
 use Rattle.gsl_plan.specs.Plan.{Plan}
 use Rattle.gsl_cmd.specs.Written.{Written}
 use Rattle.gsl_base.specs.declared.stage.Stage.{Stage}
+use Rattle.gsl_words.specs.declared.target.Target.{Target as Version}
 use Rattle.gsl_cmd.proofs.Converted.{shown_written, assembled_written}
 use Rattle.gsl_cmd.proofs.CheckJobs.{check_written}
 use Rattle.gsl_cmd.proofs.ExecJobs.{exec_written}
 use Rattle.gsl_cmd.proofs.RunJobs.{run_written}
 use Rattle.gsl_cmd.proofs.Compiled.{promised}
 
-module _ (stage : Stage) (out : Name) (names : List Name) (before : Files) (after : Option Files) (job : Job)
+module _ (version : Version) (stage : Stage) (out : Name) (names : List Name) (before : Files) (after : Option Files) (job : Job)
     (zero : job.status ≡ 0) (files : after ≡ Some (effect_on job.effect before)) where
-  by_gathered : (gathered : Gathered) → gather before 0 names ≡ gathered → IsCompileJob stage out names (reads before names) job gathered →
-      Written (Plan.Compile stage out names) before after
+  by_gathered : (gathered : Gathered) → gather before 0 names ≡ gathered → IsCompileJob version stage out names (reads before names) job gathered →
+      Written (Plan.Compile version stage out names) before after
   by_gathered Absent e is = absurd (let no : 3 ≡ 0 = sym (ap (λ (j : Job). j.status) is) ∙ zero in cc)
   by_gathered (TooLong unit) e is = absurd (let no : 1 ≡ 0 = sym (ap (λ (j : Job). j.status) is) ∙ zero in cc)
   by_gathered (Sources sources) e (Err fault, right, is) = absurd (let no : 1 ≡ 0 = sym (ap (λ (j : Job). j.status) is) ∙ zero in cc)
@@ -28,12 +29,12 @@ module _ (stage : Stage) (out : Name) (names : List Name) (before : Files) (afte
     e,
     right,
     files ∙ ap Some (ap (λ (j : Job). effect_on j.effect before) is),
-    promised stage sources m right,
+    promised version stage sources m right,
   )
 
 pub job_written : (plan : Plan) (before : Files) (after : Option Files) (job : Job) → IsJob plan before job → job.status ≡ 0 →
     after ≡ Some (effect_on job.effect before) → Written plan before after
-job_written (Plan.Compile stage out names) before after job is zero files = by_gathered stage out names before after job zero files (gather before 0 names) refl is
+job_written (Plan.Compile version stage out names) before after job is zero files = by_gathered version stage out names before after job zero files (gather before 0 names) refl is
 job_written (Plan.Disassemble file out) before after job is zero files = shown_written file out before after job zero files is
 job_written (Plan.Assemble file out) before after job is zero files = assembled_written file out before after job zero files is
 job_written (Plan.Check file) before after job is zero files = check_written file before after job zero files is

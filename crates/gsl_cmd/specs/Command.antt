@@ -22,6 +22,8 @@ use Rattle.gsl_cmd.specs.declared.compiling.TheConstants.{MAX_SOURCE_BYTES}
 use Rattle.gsl_cmd.specs.Verdict.{Accepts, Compiles, FirstFault, fault_in}
 use Rattle.gsl_valid.specs.Valid.{Valid}
 use Rattle.gsl_words.specs.declared.module.Module.{Module}
+use Rattle.gsl_words.specs.declared.target.Target.{Target as Version}
+use Rattle.gsl_words.specs.declared.target.Target.TheVariants.{V10}
 use Rattle.gsl_base.specs.declared.fault.Fault.{Fault}
 use Rattle.gsl_exec.specs.Owed.{IsTaken, Owed}
 use Rattle.gsl_exec.specs.Steps.{IsLine}
@@ -100,12 +102,12 @@ ReadsGathered gathered (Err (stop.Rejected text)) = ⊥
 ReadsGathered gathered (Err _) = Unit {0}
 
 -- What compiling sources answers.
-abbrev pub CompilesSources : Stage → List (List ℕ) → Result (List ℕ) Stop → Type 0
-CompilesSources stage sources (Ok bytes) = Compiles stage sources (Ok bytes)
-CompilesSources stage sources (Err (stop.Fault fault)) = FirstFault stage sources fault
-CompilesSources stage sources (Err stop.Memory) = Unit {0}
-CompilesSources stage sources (Err (stop.Rejected text)) = ⊥
-CompilesSources stage sources (Err stop.Host) = ⊥
+abbrev pub CompilesSources : Version → Stage → List (List ℕ) → Result (List ℕ) Stop → Type 0
+CompilesSources version stage sources (Ok bytes) = Compiles version stage sources (Ok bytes)
+CompilesSources version stage sources (Err (stop.Fault fault)) = FirstFault version stage sources fault
+CompilesSources version stage sources (Err stop.Memory) = Unit {0}
+CompilesSources version stage sources (Err (stop.Rejected text)) = ⊥
+CompilesSources version stage sources (Err stop.Host) = ⊥
 
 -- What reading the file of a module, or of its text, answers where the files are told.
 abbrev pub ReadsFileTold : Conversion → Files → Name → Result (List ℕ) Stop → Type 0
@@ -217,7 +219,7 @@ Unreads names stop.Memory end = end ≡ unlisted.Memory
 
 -- What making the module of sources comes to.
 abbrev pub MakesModule : Stage → List (List ℕ) → List Name → Result Module Unlisted → Type 0
-MakesModule stage sources names (Ok m) = Accepts stage sources m
-MakesModule stage sources names (Err (unlisted.Told status text)) = (fault : Fault) × FirstFault stage sources fault × (status ≡ 1) × (text ≡ told_fault names fault)
+MakesModule stage sources names (Ok m) = Accepts V10 stage sources m
+MakesModule stage sources names (Err (unlisted.Told status text)) = (fault : Fault) × FirstFault V10 stage sources fault × (status ≡ 1) × (text ≡ told_fault names fault)
 MakesModule stage sources names (Err unlisted.Memory) = Unit {0}
 MakesModule stage sources names (Err unlisted.Host) = ⊥

@@ -12,6 +12,8 @@ use Rattle.gsl_host.specs.declared.target.Target.TheVariants.{Reading, Writing, 
 use Rattle.gsl_host.specs.Outside.{Files}
 use Rattle.gsl_words.specs.Bytes.{bytes_of}
 use Rattle.gsl_words.specs.declared.module.Module.{Module}
+use Rattle.gsl_words.specs.declared.target.Target.{Target as Version}
+use Rattle.gsl_words.specs.declared.target.Target.TheVariants.{V10}
 use Rattle.gsl_cmd.specs.declared.compiling.TheConstants.{MAX_SOURCE_BYTES}
 use Rattle.gsl_form.specs.Form.{Name}
 use Rattle.gsl_given.specs.declared.given.TheConstants.{MAX_MANIFEST_BYTES}
@@ -83,11 +85,11 @@ abbrev pub compiled : Name → List Name → List Target → Checked Module → 
 compiled out names targets (Ok m) = record { status = 0; out = []; err = []; effect = Writes out (bytes_of m); targets = targets ++ Writing out ∷ [] }
 compiled out names targets (Err fault) = refused names targets fault
 
-abbrev pub IsCompileJob : Stage → Name → List Name → List Target → Job → Gathered → Type 0
-IsCompileJob stage out names targets job Absent = job ≡ failed targets
-IsCompileJob stage out names targets job (TooLong unit) = job ≡ refused names targets (fault_in unit E0900)
-IsCompileJob stage out names targets job (Sources sources) =
-    (verdict : Checked Module) × Judges stage sources verdict × (job ≡ compiled out names targets verdict)
+abbrev pub IsCompileJob : Version → Stage → Name → List Name → List Target → Job → Gathered → Type 0
+IsCompileJob version stage out names targets job Absent = job ≡ failed targets
+IsCompileJob version stage out names targets job (TooLong unit) = job ≡ refused names targets (fault_in unit E0900)
+IsCompileJob version stage out names targets job (Sources sources) =
+    (verdict : Checked Module) × Judges version stage sources verdict × (job ≡ compiled out names targets verdict)
 
 -- the job where a module or its text is refused, and this line says why
 abbrev pub rejected : List ℕ → Name → Job
@@ -130,7 +132,7 @@ IsModuleJob files names text targets job (Ok m) = (owed : Owed) × IsTaken files
 IsModuleJob files names text targets job (Err fault) = job ≡ refused names targets fault
 
 abbrev pub IsTextJob : Files → Stage → List Name → List (List ℕ) → List ℕ → List Target → Job → Type 0
-IsTextJob files stage names sources text targets job = (verdict : Checked Module) × Judges stage sources verdict × IsModuleJob files names text targets job verdict
+IsTextJob files stage names sources text targets job = (verdict : Checked Module) × Judges V10 stage sources verdict × IsModuleJob files names text targets job verdict
 
 -- the manifest's file, which is read behind the sources and before they are compiled
 abbrev pub IsInputsJob : Files → Stage → List Name → List (List ℕ) → List Target → Job → Read → Type 0
@@ -146,7 +148,7 @@ IsRunJob stage inputs names files targets job (Sources sources) =
 
 -- The job of a command over the files that are told.
 abbrev pub IsJob : Plan → Files → Job → Type 0
-IsJob (Plan.Compile stage out names) files job = IsCompileJob stage out names (reads files names) job (gather files 0 names)
+IsJob (Plan.Compile version stage out names) files job = IsCompileJob version stage out names (reads files names) job (gather files 0 names)
 IsJob (Plan.Disassemble file out) files job = IsConversionJob Disassemble file out job (found_in (get files file))
 IsJob (Plan.Assemble file out) files job = IsConversionJob Assemble file out job (found_in (get files file))
 IsJob (Plan.Check file) files job = IsCheckJob file job (found_in (get files file))

@@ -9,7 +9,7 @@ use Rattle.gsl_plan.specs.Plan.{Plan}
 
 -- what its words name
 abbrev pub targets_of : Plan → List Target
-targets_of (Plan.Compile stage out files) = map Reading files ++ Writing out ∷ []
+targets_of (Plan.Compile version stage out files) = map Reading files ++ Writing out ∷ []
 targets_of (Plan.Disassemble file out) = Reading file ∷ Writing out ∷ []
 targets_of (Plan.Assemble file out) = Reading file ∷ Writing out ∷ []
 targets_of (Plan.Check file) = Reading file ∷ Printing stream.Out ∷ []
@@ -18,7 +18,7 @@ targets_of (Plan.Run stage inputs files) = map Reading files ++ Reading inputs �
 
 -- It is what the words name, or a file that the manifest names among the files, where they are told.
 abbrev pub MayReach : Plan → Option Files → Target → Type 0
-MayReach (Plan.Compile stage out files) known target = Contains (targets_of (Plan.Compile stage out files)) target
+MayReach (Plan.Compile version stage out files) known target = Contains (targets_of (Plan.Compile version stage out files)) target
 MayReach (Plan.Disassemble file out) known target = Contains (targets_of (Plan.Disassemble file out)) target
 MayReach (Plan.Assemble file out) known target = Contains (targets_of (Plan.Assemble file out)) target
 MayReach (Plan.Check file) known target = Contains (targets_of (Plan.Check file)) target

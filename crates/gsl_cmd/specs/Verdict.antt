@@ -20,6 +20,7 @@ use Rattle.gsl_tree.specs.WellTyped.{program_lists}
 use Rattle.gsl_link.specs.Joined.{joined}
 use Rattle.gsl_lowered.specs.Sound.{IsLowered}
 use Rattle.gsl_words.specs.declared.module.Module.{Module}
+use Rattle.gsl_words.specs.declared.target.Target.{Target}
 use Rattle.gsl_words.specs.declared.target.Target.TheVariants.{V10}
 use Rattle.gsl_words.specs.Bytes.{bytes_of}
 use Rattle.gsl_cmd.specs.declared.compiling.TheConstants.{MAX_SOURCE_BYTES}
@@ -81,77 +82,78 @@ linked_behind stage units = units >>= joined stage
 abbrev pub linked_of : Stage → List (List ℕ) → Checked Linked
 linked_of stage sources = linked_behind stage (units_of stage sources)
 
--- A linked program is of the form of which all is proved so far: it spells this one.
-pub record IsOfForm (stage : Stage) (linked : Linked) (p : Program) : Type 0 where
+-- A linked program is of the form of which all is proved so far, for version 1.0: it spells this one.
+pub record IsOfForm (target : Target) (stage : Stage) (linked : Linked) (p : Program) : Type 0 where
+  pub target_is : target ≡ V10
   pub stage_is : stage ≡ Compute
   pub spelled : Spells (program_lists linked) p
 
 -- The module is the one that carries the program that a linked one spells.
-abbrev pub IsCarried : Stage → Linked → Module → Type 0
-IsCarried stage linked m = (p : Program) × IsOfForm stage linked p × (m ≡ module_of p)
+abbrev pub IsCarried : Target → Stage → Linked → Module → Type 0
+IsCarried target stage linked m = (p : Program) × IsOfForm target stage linked p × (m ≡ module_of p)
 
--- A linked program that is not of the form is lowered to this module, which is valid.
-abbrev pub IsOther : Stage → Linked → Module → Type 0
-IsOther stage linked m = ((p : Program) → IsOfForm stage linked p → ⊥) × IsLowered V10 linked m
+-- A linked program that is not of the form is lowered to this module for a target, and it is valid.
+abbrev pub IsOther : Target → Stage → Linked → Module → Type 0
+IsOther target stage linked m = ((p : Program) → IsOfForm target stage linked p → ⊥) × IsLowered target linked m
 
--- A linked program has this module.
-abbrev pub HasModule : Stage → Linked → Module → Type 0
-HasModule stage linked m = IsCarried stage linked m ⊎ IsOther stage linked m
+-- A linked program has this module for a target.
+abbrev pub HasModule : Target → Stage → Linked → Module → Type 0
+HasModule target stage linked m = IsCarried target stage linked m ⊎ IsOther target stage linked m
 
--- The sources give this module.
-pub record Accepts (stage : Stage) (sources : List (List ℕ)) (m : Module) : Type 0 where
+-- The sources give this module for a target.
+pub record Accepts (target : Target) (stage : Stage) (sources : List (List ℕ)) (m : Module) : Type 0 where
   pub linked : Linked
   pub read : linked_of stage sources ≡ Ok linked
-  pub has : HasModule stage linked m
+  pub has : HasModule target stage linked m
 
 -- The sources give this program of the form.
-pub record AreOfForm (stage : Stage) (sources : List (List ℕ)) (p : Program) : Type 0 where
+pub record AreOfForm (target : Target) (stage : Stage) (sources : List (List ℕ)) (p : Program) : Type 0 where
   pub linked : Linked
   pub read : linked_of stage sources ≡ Ok linked
-  pub formed : IsOfForm stage linked p
+  pub formed : IsOfForm target stage linked p
 
 -- The fault is the first one of the sources; where they have none, their program has no module.
-abbrev pub FaultWhere : Stage → Fault → Checked Linked → Type 0
-FaultWhere stage fault (Err first) = fault ≡ first
-FaultWhere stage fault (Ok linked) = (fault ≡ fault_in 0 E0001) × ((m : Module) → HasModule stage linked m → ⊥)
+abbrev pub FaultWhere : Target → Stage → Fault → Checked Linked → Type 0
+FaultWhere target stage fault (Err first) = fault ≡ first
+FaultWhere target stage fault (Ok linked) = (fault ≡ fault_in 0 E0001) × ((m : Module) → HasModule target stage linked m → ⊥)
 
 -- The sources have this first fault.
-abbrev pub FirstFault : Stage → List (List ℕ) → Fault → Type 0
-FirstFault stage sources fault = FaultWhere stage fault (linked_of stage sources)
+abbrev pub FirstFault : Target → Stage → List (List ℕ) → Fault → Type 0
+FirstFault target stage sources fault = FaultWhere target stage fault (linked_of stage sources)
 
 -- The rules give this module, or this first fault.
-abbrev pub Judges : Stage → List (List ℕ) → Checked Module → Type 0
-Judges stage sources (Ok m) = Accepts stage sources m
-Judges stage sources (Err fault) = FirstFault stage sources fault
+abbrev pub Judges : Target → Stage → List (List ℕ) → Checked Module → Type 0
+Judges target stage sources (Ok m) = Accepts target stage sources m
+Judges target stage sources (Err fault) = FirstFault target stage sources fault
 
 -- What making the module of a linked program answers: the module, or that it has none.
-abbrev pub MakesLinked : Stage → Linked → Result Module Refusal → Type 0
-MakesLinked stage linked (Ok m) = HasModule stage linked m
-MakesLinked stage linked (Err (refusal.Source fault)) = FaultWhere stage fault (Ok linked)
-MakesLinked stage linked (Err refusal.Memory) = Unit {0}
+abbrev pub MakesLinked : Target → Stage → Linked → Result Module Refusal → Type 0
+MakesLinked target stage linked (Ok m) = HasModule target stage linked m
+MakesLinked target stage linked (Err (refusal.Source fault)) = FaultWhere target stage fault (Ok linked)
+MakesLinked target stage linked (Err refusal.Memory) = Unit {0}
 
 -- What making the module of one that is not of the form answers.
-abbrev pub MakesOther : Linked → Result Module Refusal → Type 0
-MakesOther linked (Ok m) = IsLowered V10 linked m
-MakesOther linked (Err (refusal.Source fault)) = (fault ≡ fault_in 0 E0001) × ((m : Module) → IsLowered V10 linked m → ⊥)
-MakesOther linked (Err refusal.Memory) = Unit {0}
+abbrev pub MakesOther : Target → Linked → Result Module Refusal → Type 0
+MakesOther target linked (Ok m) = IsLowered target linked m
+MakesOther target linked (Err (refusal.Source fault)) = (fault ≡ fault_in 0 E0001) × ((m : Module) → IsLowered target linked m → ⊥)
+MakesOther target linked (Err refusal.Memory) = Unit {0}
 
 -- What making the module of the sources answers: the module, or their first fault.
-abbrev pub Makes : Stage → List (List ℕ) → Result Module Refusal → Type 0
-Makes stage sources (Ok m) = Accepts stage sources m
-Makes stage sources (Err (refusal.Source fault)) = FirstFault stage sources fault
-Makes stage sources (Err refusal.Memory) = Unit {0}
+abbrev pub Makes : Target → Stage → List (List ℕ) → Result Module Refusal → Type 0
+Makes target stage sources (Ok m) = Accepts target stage sources m
+Makes target stage sources (Err (refusal.Source fault)) = FirstFault target stage sources fault
+Makes target stage sources (Err refusal.Memory) = Unit {0}
 
 -- What is promised of the module of sources: it is valid; and where they give a program of the form it carries the program, is small for it
 -- and is one that other consumers take.
-pub record IsPromised (stage : Stage) (sources : List (List ℕ)) (m : Module) : Type 0 where
+pub record IsPromised (target : Target) (stage : Stage) (sources : List (List ℕ)) (m : Module) : Type 0 where
   pub valid : Valid m
-  pub carries : (p : Program) → AreOfForm stage sources p → Carries m p
-  pub small : (p : Program) → AreOfForm stage sources p → IsSmall m p
-  pub portable : (p : Program) → AreOfForm stage sources p → Portable m
+  pub carries : (p : Program) → AreOfForm target stage sources p → Carries m p
+  pub small : (p : Program) → AreOfForm target stage sources p → IsSmall m p
+  pub portable : (p : Program) → AreOfForm target stage sources p → Portable m
 
 -- What compiling the sources answers: the file of their module, which is as is promised; or their first fault.
-abbrev pub Compiles : Stage → List (List ℕ) → Result (List ℕ) Refusal → Type 0
-Compiles stage sources (Ok bytes) = (m : Module) × Accepts stage sources m × (bytes ≡ bytes_of m) × IsPromised stage sources m
-Compiles stage sources (Err (refusal.Source fault)) = FirstFault stage sources fault
-Compiles stage sources (Err refusal.Memory) = Unit {0}
+abbrev pub Compiles : Target → Stage → List (List ℕ) → Result (List ℕ) Refusal → Type 0
+Compiles target stage sources (Ok bytes) = (m : Module) × Accepts target stage sources m × (bytes ≡ bytes_of m) × IsPromised target stage sources m
+Compiles target stage sources (Err (refusal.Source fault)) = FirstFault target stage sources fault
+Compiles target stage sources (Err refusal.Memory) = Unit {0}

@@ -16,7 +16,7 @@ ghost use Rattle.gsl_cmd.specs.Performs.{Performs};
 ghost use Rattle.gsl_cmd.specs.Written.{Written};
 
 use crate::checking::check_command;
-use crate::compiling::{MAX_SOURCE_BYTES, MAX_SOURCES, compile, fault_in};
+use crate::compiling::{MAX_SOURCE_BYTES, MAX_SOURCES, compile_for, fault_in};
 use crate::converting::{Conversion, made, too_long};
 use crate::printing::say;
 use crate::running::{exec_command, run_command};
@@ -26,6 +26,7 @@ use gsl_base::{Bytes, Code, Fault, Refusal, Sources, Stage, Text, Words};
 use gsl_exec::{MAX_MODULE_BYTES, one_owed, one_owed_of_valid};
 use gsl_host::{Host, HostRefusal, ReadRefusal};
 use gsl_plan::{Command, plan};
+use gsl_words::Target as Version;
 use std::alloc::Global;
 
 /// Prints how the program is called.
@@ -113,6 +114,7 @@ fn with_source(sources: Sources, source: Bytes) -> Result<Sources, Stop>
 /// Compiles source files and writes their module.
 fn compile_files<H: Host>(
     alloc: Global,
+    version: Version,
     stage: Stage,
     out: &Text,
     names: &[Text],
@@ -120,22 +122,27 @@ fn compile_files<H: Host>(
 ) -> Result<(), Stop>
     requires { length names.now ≤ MAX_SOURCES }
     ensures told { (files : Files) → H.files host.old ≡ Some files →
-        Ended (Plan.Compile stage out.now names.now) names.now files (H.files host.new) (H.faults host.old) (H.faults host.new) result }
-    ensures cause { result ≡ Err Stop.Host → (target : Target) × Contains (targets_of (Plan.Compile stage out.now names.now)) target × Rose (H.faults host.old) (H.faults host.new) target }
+        Ended (Plan.Compile version stage out.now names.now) names.now files (H.files host.new) (H.faults host.old) (H.faults host.new) result }
+    ensures cause { result ≡ Err Stop.Host → (target : Target) × Contains (targets_of (Plan.Compile version stage out.now names.now)) target × Rose (H.faults host.old) (H.faults host.new) target }
     ensures faults { NeverFall (H.faults host.old) (H.faults host.new) }
     ensures streams { (stream : Stream) → H.printed host.new stream ≡ H.printed host.old stream }
 {
     let sources = read_sources(alloc, 0, names, Sources::new(alloc), host)?;
-    let bytes = compile_sources(alloc, stage, &sources)?;
+    let bytes = compile_sources(alloc, version, stage, &sources)?;
     write_file(alloc, out, &bytes, host)
 }
 
 /// Compiles sources.
-fn compile_sources(alloc: Global, stage: Stage, sources: &Sources) -> Result<Bytes, Stop>
+fn compile_sources(
+    alloc: Global,
+    version: Version,
+    stage: Stage,
+    sources: &Sources,
+) -> Result<Bytes, Stop>
     requires { length sources.now ≤ MAX_SOURCES }
-    ensures { CompilesSources stage sources.now result }
+    ensures { CompilesSources version stage sources.now result }
 {
-    match compile(alloc, stage, sources) {
+    match compile_for(alloc, version, stage, sources) {
         Ok(bytes) => Ok(bytes),
         Err(Refusal::Source(fault)) => Err(Stop::Fault(fault)),
         Err(Refusal::Memory) => Err(Stop::Memory),
@@ -162,18 +169,19 @@ fn write_file<H: Host>(alloc: Global, out: &Text, bytes: &Bytes, host: &mut H) -
 /// Compiles source files, writes their module and gives the status.
 fn compile_command<H: Host>(
     alloc: Global,
+    version: Version,
     stage: Stage,
     out: &Text,
     names: &[Text],
     host: &mut H,
 ) -> u8
     requires { length names.now ≤ MAX_SOURCES }
-    ensures told { (files : Files) → H.files host.old ≡ Some files → (job : Job) × IsJob (Plan.Compile stage out.now names.now) files job
+    ensures told { (files : Files) → H.files host.old ≡ Some files → (job : Job) × IsJob (Plan.Compile version stage out.now names.now) files job
         × Performs job files (H.files host.new) (H.faults host.old) (H.faults host.new) (H.printed host.old) (H.printed host.new) result }
-    ensures cause { result ≡ 3 → (target : Target) × Contains (targets_of (Plan.Compile stage out.now names.now)) target × Rose (H.faults host.old) (H.faults host.new) target }
+    ensures cause { result ≡ 3 → (target : Target) × Contains (targets_of (Plan.Compile version stage out.now names.now)) target × Rose (H.faults host.old) (H.faults host.new) target }
     ensures planned { result ≢ 2 }
 {
-    match compile_files(alloc, stage, out, names, host) {
+    match compile_files(alloc, version, stage, out, names, host) {
         Ok(()) => 0,
         Err(stop) => report(alloc, names, stop, host),
     }
@@ -268,9 +276,12 @@ pub fn glsl_main<H: Host>(alloc: Global, words: &Words, host: &mut H) -> u8
     };
     match command {
         Command::Usage(text) => usage(alloc, text.as_slice(), host),
-        Command::Compile { stage, out, files } => {
-            compile_command(alloc, stage, &out, files.as_slice(), host)
-        }
+        Command::Compile {
+            target,
+            stage,
+            out,
+            files,
+        } => compile_command(alloc, target, stage, &out, files.as_slice(), host),
         Command::Disassemble { file, out } => {
             convert_command(alloc, Conversion::Disassemble, &file, &out, host)
         }

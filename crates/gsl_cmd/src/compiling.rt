@@ -4,6 +4,7 @@ ghost use Rattle.std.specs.Prelude.{◌≡◌, ◌+◌, ◌<◌, ◌≤◌, ◌^
 ghost use Rattle.gsl_base.specs.Checked.{Gives};
 ghost use Rattle.gsl_words.specs.Bytes.{bytes_of};
 ghost use Rattle.gsl_words.specs.Instructions.{HasFile};
+ghost use Rattle.gsl_words.specs.declared.target.Target.TheVariants.{V10};
 ghost use Rattle.gsl_form.specs.declared.program.Program.{Program};
 ghost use Rattle.gsl_form.specs.Form.{IsProgram};
 ghost use Rattle.gsl_cmd.specs.Lowering.{module_of};
@@ -45,9 +46,22 @@ pub const MAX_SOURCES: usize = 64;
 /// linking them, else `E0001` where the program that they make is lowered to no valid module.
 pub fn compile(alloc: Global, stage: Stage, sources: &Sources) -> Result<Bytes, Refusal>
     requires { length sources.now ≤ MAX_SOURCES }
-    ensures { Compiles stage sources.now result }
+    ensures { Compiles V10 stage sources.now result }
 {
-    match compiled_module(alloc, stage, sources) {
+    compile_for(alloc, Target::V10, stage, sources)
+}
+
+/// The same for a target: of version 1.0 or 1.3.
+pub fn compile_for(
+    alloc: Global,
+    target: Target,
+    stage: Stage,
+    sources: &Sources,
+) -> Result<Bytes, Refusal>
+    requires { length sources.now ≤ MAX_SOURCES }
+    ensures { Compiles target stage sources.now result }
+{
+    match compiled_module(alloc, target, stage, sources) {
         Ok(valid) => match file_of(alloc, valid.module()) {
             Ok(bytes) => Ok(bytes),
             Err(_) => Err(Refusal::Memory),
@@ -56,13 +70,18 @@ pub fn compile(alloc: Global, stage: Stage, sources: &Sources) -> Result<Bytes, 
     }
 }
 
-/// The module that the sources of a stage compile to, which is valid by how it was made, or their first fault.
-pub fn compiled_module(alloc: Global, stage: Stage, sources: &Sources) -> Result<Valid, Refusal>
+/// The module that the sources of a stage compile to for a target, which is valid, or their first fault.
+pub fn compiled_module(
+    alloc: Global,
+    target: Target,
+    stage: Stage,
+    sources: &Sources,
+) -> Result<Valid, Refusal>
     requires { length sources.now ≤ MAX_SOURCES }
-    ensures { Makes stage sources.now result }
+    ensures { Makes target stage sources.now result }
 {
     match linked(alloc, stage, sources.as_slice()) {
-        Ok(program) => module_linked(alloc, stage, &program),
+        Ok(program) => module_linked(alloc, target, stage, &program),
         Err(refusal) => Err(refusal),
     }
 }
@@ -150,31 +169,52 @@ fn tree_from(alloc: Global, number: u32, raws: Raws) -> Result<Unit, Refusal>
 }
 
 /// The module of a linked program, or `E0001` where it has none.
-fn module_linked(alloc: Global, stage: Stage, linked: &Linked) -> Result<Valid, Refusal>
+fn module_linked(
+    alloc: Global,
+    target: Target,
+    stage: Stage,
+    linked: &Linked,
+) -> Result<Valid, Refusal>
     requires { IsTyped linked.now }
-    ensures { MakesLinked stage linked.now result }
+    ensures { MakesLinked target stage linked.now result }
 {
-    match accepted(alloc, stage, linked)? {
-        None => module_lowered(alloc, linked),
+    match accepted(alloc, target, stage, linked)? {
+        None => module_lowered(alloc, target, linked),
         Some(program) => Ok(valid_of(alloc, &program)?),
     }
 }
 
 /// The valid module that a linked program is lowered to, or `E0001` where there is none.
-fn module_lowered(alloc: Global, linked: &Linked) -> Result<Valid, Refusal>
+fn module_lowered(alloc: Global, target: Target, linked: &Linked) -> Result<Valid, Refusal>
     requires { IsTyped linked.now }
-    ensures { MakesOther linked.now result }
+    ensures { MakesOther target linked.now result }
 {
-    match lowered(alloc, Target::V10, linked)? {
+    match lowered(alloc, target, linked)? {
         Some(valid) => Ok(valid),
         None => Err(Refusal::Source(fault_in(0, Code::E0001))),
     }
 }
 
-/// The program that a linked program spells, or `None` where it has none of this stage.
-fn accepted(alloc: Global, stage: Stage, linked: &Linked) -> Result<Option<Program>, Memory>
-    ensures found { IfOk result (λ found. IfSome found (λ p. IsOfForm stage linked.now p)) }
-    ensures none { IfOk result (λ found. IfNone found ((p : Program) → IsOfForm stage linked.now p → ⊥)) }
+/// The program of the form that a linked program spells, or `None` where it has none of this stage for this target.
+fn accepted(
+    alloc: Global,
+    target: Target,
+    stage: Stage,
+    linked: &Linked,
+) -> Result<Option<Program>, Memory>
+    ensures found { IfOk result (λ found. IfSome found (λ p. IsOfForm target stage linked.now p)) }
+    ensures none { IfOk result (λ found. IfNone found ((p : Program) → IsOfForm target stage linked.now p → ⊥)) }
+{
+    match target {
+        Target::V10 => accepted_first(alloc, stage, linked),
+        Target::V13 => Ok(None),
+    }
+}
+
+/// The same for version 1.0.
+fn accepted_first(alloc: Global, stage: Stage, linked: &Linked) -> Result<Option<Program>, Memory>
+    ensures found { IfOk result (λ found. IfSome found (λ p. IsOfForm V10 stage linked.now p)) }
+    ensures none { IfOk result (λ found. IfNone found ((p : Program) → IsOfForm V10 stage linked.now p → ⊥)) }
 {
     match stage {
         Stage::Compute => read_linked(alloc, linked),

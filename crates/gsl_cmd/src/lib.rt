@@ -23,7 +23,7 @@ mod text;
 mod validity;
 
 pub use command::{glsl_main, read_sources};
-pub use compiling::{MAX_SOURCE_BYTES, MAX_SOURCES, compile, linked};
+pub use compiling::{MAX_SOURCE_BYTES, MAX_SOURCES, compile, compile_for, linked};
 pub use gsl_manifest::{
     BufferLine, BufferLines, Manifest, ManifestRefusal, PushLine, listing, read_manifest,
 };

@@ -4,6 +4,7 @@ ghost use Rattle.std.specs.Prelude.{◌≡◌, ℕ, List, Ok};
 ghost use Rattle.gsl_base.specs.declared.stage.Stage.{Stage};
 ghost use Rattle.gsl_words.specs.Bytes.{bytes_of};
 ghost use Rattle.gsl_words.specs.declared.module.Module.{Module};
+ghost use Rattle.gsl_words.specs.declared.target.Target.{Target};
 ghost use Rattle.gsl_valid.specs.Valid.{Valid};
 ghost use Rattle.gsl_form.specs.declared.program.Program.{Program};
 ghost use Rattle.gsl_form.specs.Form.{IsProgram};
@@ -23,7 +24,7 @@ pub fn module_runs()
 pub fn headline()
     ensures carried { (m : Module) (p : Program) → Runs m p → EndAlike m p }
     ensures own { (p : Program) → IsProgram p → EndAlike (module_of p) p }
-    ensures compiled { (stage : Stage) (sources : List (List ℕ)) (bytes : List ℕ) → Compiles stage sources (Ok bytes) →
-        (m : Module) × Accepts stage sources m × (bytes ≡ bytes_of m) × Valid m
-        × ((p : Program) → AreOfForm stage sources p → Places m p × EndAlike m p) }
+    ensures compiled { (target : Target) (stage : Stage) (sources : List (List ℕ)) (bytes : List ℕ) → Compiles target stage sources (Ok bytes) →
+        (m : Module) × Accepts target stage sources m × (bytes ≡ bytes_of m) × Valid m
+        × ((p : Program) → AreOfForm target stage sources p → Places m p × EndAlike m p) }
 {}

@@ -23,6 +23,7 @@ use gsl_exec::{Stop, exec, exec_valid, one_owed_of_valid, stopped, told};
 use gsl_given::{MAX_MANIFEST_BYTES, read_manifest_file};
 use gsl_host::Host;
 use gsl_validate::Valid;
+use gsl_words::Target as Version;
 use std::alloc::Global;
 
 /// Runs a module on the input of a manifest, prints what it gave or why there is nothing, and gives the status.
@@ -42,7 +43,7 @@ fn made(alloc: Global, stage: Stage, names: &[Text], sources: &Sources) -> Resul
     requires { length sources.now ≤ MAX_SOURCES }
     ensures { MakesModule stage sources.now names.now result }
 {
-    match compiled_module(alloc, stage, sources) {
+    match compiled_module(alloc, Version::V10, stage, sources) {
         Ok(valid) => Ok(valid),
         Err(Refusal::Source(fault)) => Err(told(1, told_fault(alloc, names, &fault))),
         Err(Refusal::Memory) => Err(Stop::Memory),

@@ -9,7 +9,7 @@ use Rattle.gsl_cmd.proofs.command.compile_command.Goals as goal
 pub returns-in-Ok-clause-told : goal.returns-in-Ok-clause-told
 returns-in-Ok-clause-told g c = λ files told.
     let streams = c.in-Ok.ensures.streams in
-    done_ok (Plan.Compile c.args.stage c.args.out.now c.args.names.now) c.args.names.now files (g.H.Host.files c.compile_files.new.host)
+    done_ok (Plan.Compile c.args.version c.args.stage c.args.out.now c.args.names.now) c.args.names.now files (g.H.Host.files c.compile_files.new.host)
     (g.H.Host.faults c.args.host.now) (g.H.Host.faults c.compile_files.new.host) (g.H.Host.faults c.compile_files.new.host)
     (g.H.Host.printed c.args.host.now) (g.H.Host.printed c.compile_files.new.host)
     c.in-Ok.ensures.faults (λ target. omega arith) (streams stream.Out) (c.in-Ok.ensures.told files told) (streams stream.Err)
@@ -17,7 +17,7 @@ returns-in-Ok-clause-told g c = λ files told.
 pub returns-in-Err-clause-told : goal.returns-in-Err-clause-told
 returns-in-Err-clause-told g c = λ files told.
     let streams = c.in-Err.ensures.streams in
-    let plan = Plan.Compile c.args.stage c.args.out.now c.args.names.now in
+    let plan = Plan.Compile c.args.version c.args.stage c.args.out.now c.args.names.now in
     let first = g.H.Host.faults c.args.host.now in
     let then = g.H.Host.faults c.compile_files.new.host in
     let last = g.H.Host.faults c.report.new.host in

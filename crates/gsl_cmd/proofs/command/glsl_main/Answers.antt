@@ -17,8 +17,8 @@ returns-in_default-clause-told g c = λ plan planned files told.
 pub returns-in-Compile-clause-written : goal.returns-in-Compile-clause-written
 returns-in-Compile-clause-written g c = λ zero plan planned files told.
     subst (λ (one : Plan). Written one files (g.H.Host.files c.compile_command.new.host))
-    (same_plan (ap (λ names. Some (Plan.Compile c.in-Compile.stage c.in-Compile.out names)) c.as_slice-in-Compile.ensures ∙ rw c.in-Compile.is at c.in-Ok.ensures) planned)
-    (performed_written (Plan.Compile c.in-Compile.stage c.in-Compile.out c.as_slice-in-Compile.result.now) files _ _ _ _ _ _ zero (c.compile_command.ensures.told files told))
+    (same_plan (ap (λ names. Some (Plan.Compile c.in-Compile.target c.in-Compile.stage c.in-Compile.out names)) c.as_slice-in-Compile.ensures ∙ rw c.in-Compile.is at c.in-Ok.ensures) planned)
+    (performed_written (Plan.Compile c.in-Compile.target c.in-Compile.stage c.in-Compile.out c.as_slice-in-Compile.result.now) files _ _ _ _ _ _ zero (c.compile_command.ensures.told files told))
 
 pub returns-in-Disassemble-clause-written : goal.returns-in-Disassemble-clause-written
 returns-in-Disassemble-clause-written g c = λ zero plan planned files told.

@@ -6,6 +6,6 @@ pub returns : goal.returns
 returns c = record {
   carried = end_alike;
   own = λ p form. end_alike (module_of p) p (program_runs p form);
-  compiled = λ stage sources bytes (m, accepts, is, promised).
+  compiled = λ target stage sources bytes (m, accepts, is, promised).
       (m, accepts, is, promised.valid, λ p own. ((promised.carries p own).placed, end_alike m p (promised.carries p own).runs));
 }
