@@ -1,11 +1,11 @@
 -- A program is lowered to a valid module, or to none.
-use Rattle.std.proofs.Common.{◌≡◌, ◌≢◌, ◌⊎◌, inl, inr, ℕ, ◌<◌, ◌≤◌, ◌^◌, Bool, true, false, List, [], ◌∷◌, Option, Some, None, refl, ap, sym, subst, ◌∙◌, arith}
+use Rattle.std.proofs.Common.{◌≡◌, ◌⊎◌, inl, inr, ℕ, ◌<◌, ◌^◌, true, List, [], ◌∷◌, Option, Some, None, refl, sym, subst, ◌∙◌, arith}
 use Rattle.std.specs.List.{AllByRecursion}
 use Rattle.std.proofs.lemmas.Bool.{cases_Bool, cases_lt}
 use Rattle.gsl_base.specs.Ranges.{AreWords}
 use Rattle.gsl_lower_flow.specs.Programs.{module_for}
 use Rattle.gsl_tree.specs.declared.program.Program.{Program}
-use Rattle.gsl_valid.specs.Valid.{Valid, broken}
+use Rattle.gsl_valid.specs.Valid.{broken}
 use Rattle.gsl_words.specs.declared.module.Instr.{Instr}
 use Rattle.gsl_words.specs.declared.module.Module.{Module}
 use Rattle.gsl_words.specs.declared.target.Target.{Target}
@@ -19,12 +19,12 @@ abbrev Either : Type 0 → Type 0
 Either A = A ⊎ (A → ⊥)
 
 below : (n most : ℕ) → Either (n < most)
-below n most = elim (cases_lt n most) [ inl yes ↦ inl yes | inr no ↦ inr (λ yes. omega (arith, no, yes)) ]
+below n most = elim (cases_lt n most) [ inl fine ↦ inl fine | inr never ↦ inr (λ fine. omega (arith, never, fine)) ]
 
 both : {A B : Type 0} → Either A → Either B → Either (A × B)
 both (inl a) (inl b) = inl (a, b)
-both (inl a) (inr no) = inr (λ p. no p.1)
-both (inr no) b = inr (λ p. no p.0)
+both (inl a) (inr never) = inr (λ p. never p.1)
+both (inr never) b = inr (λ p. never p.0)
 
 are_words : (words : List ℕ) → Either (AreWords words)
 are_words [] = inl tt
@@ -44,13 +44,13 @@ module _ (m : Module) where
   by_file : AllByRecursion FitsInstr m.instrs → Either (IsSound m)
   by_file types =
       elim (cases_Bool (is_writable m)) [
-        | inl yes ↦ by_rules types yes (broken m) refl
-        | inr no ↦ inr (unwritable m no)
+        | inl fine ↦ by_rules types fine (broken m) refl
+        | inr never ↦ inr (unwritable m never)
       ]
 
   -- a module is sound, or it is not
   pub sound_or_not : Either (IsSound m)
-  sound_or_not = elim (instrs_fit m.instrs) [ inl types ↦ by_file types | inr no ↦ inr (λ (sound : IsSound m). no sound.types) ]
+  sound_or_not = elim (instrs_fit m.instrs) [ inl types ↦ by_file types | inr never ↦ inr (λ (sound : IsSound m). never sound.types) ]
 
 same_some : {A : Type 0} {a b : A} → ◌≡◌ {A = Option A} (Some a) (Some b) → a ≡ b
 same_some e = cc
@@ -60,11 +60,11 @@ module _ (target : Target) (p : Program) where
   Is = (m : Module) × IsLowered target p m
 
   by_made : (made : Option Module) → module_for target p ≡ made → Is ⊎ ((m : Module) → IsLowered target p m → ⊥)
-  by_made None is = inr (λ m (low : IsLowered target p m). let no : None ≡ Some m = sym is ∙ low.made in cc)
+  by_made None is = inr (λ m (low : IsLowered target p m). let never : None ≡ Some m = sym is ∙ low.made in cc)
   by_made (Some m) is =
       elim (sound_or_not m) [
         | inl sound ↦ inl (m, record { made = is; sound = sound })
-        | inr no ↦ inr (λ n (low : IsLowered target p n). no (subst IsSound (same_some (sym low.made ∙ is)) low.sound))
+        | inr never ↦ inr (λ n (low : IsLowered target p n). never (subst IsSound (same_some (sym low.made ∙ is)) low.sound))
       ]
 
   -- it has such a module, or none

@@ -1,12 +1,12 @@
 -- The test of a module's file says whether it has one.
-use Rattle.std.proofs.Common.{◌≡◌, ◌≢◌, ◌⊎◌, inl, inr, ℕ, zero, suc, ◌+◌, ◌<◌, ◌≤◌, ◌^◌, Bool, true, false, ◌&&◌, ◌==◌, ltb, List, [], ◌∷◌, length, take, slice_get, IsSomeAnd, is_some, Option, Some, None, All, refl, ap, sym, subst, ◌∙◌, arith}
+use Rattle.std.proofs.Common.{◌≡◌, ◌⊎◌, inl, inr, ℕ, zero, suc, ◌+◌, ◌<◌, ◌≤◌, ◌^◌, true, false, ◌==◌, ltb, List, [], ◌∷◌, length, take, slice_get, IsSomeAnd, is_some, Option, Some, None, refl, ap, sym, subst, ◌∙◌, arith}
 use Rattle.std.specs.List.{AllByRecursion}
 use Rattle.std.proofs.lemmas.Bool.{and_from, and_left, and_parts, and_right, cases_Bool, cond-false, eqb-true, le-ltb, lt-ltb, ltb-true}
 use Rattle.std.proofs.lemmas.List.Elements.{All-from_recursion, recursion_from_All}
 use Rattle.gsl_base.specs.Ranges.{AreWords}
 use Rattle.gsl_instr.proofs.Fittings.{passed, passes}
 use Rattle.gsl_instr.specs.declared.form.Form.{Form}
-use Rattle.gsl_instr.specs.Fitting.{Fits, fits_text}
+use Rattle.gsl_instr.specs.Fitting.{Fits}
 use Rattle.gsl_instr.specs.Forms.{allows_words, form_of}
 use Rattle.gsl_valid.specs.Placed.{count_of_words, header_size, words_from}
 use Rattle.gsl_words.specs.declared.module.Instr.{Instr}
@@ -15,7 +15,7 @@ use Rattle.gsl_words.specs.Faults.{FitsInstr}
 use Rattle.gsl_words.specs.Instructions.{HasFile, IsInTable}
 use Rattle.gsl_words.specs.declared.target.Target.TheVariants.{V10, V13}
 use Rattle.gsl_words.specs.declared.target.TheConstants.{VERSION_1_0, VERSION_1_3}
-use Rattle.gsl_words.specs.Versions.{IsKnown, target_of, version_of}
+use Rattle.gsl_words.specs.Versions.{IsKnown, target_of}
 use Rattle.gsl_lowered.specs.Filing.{all_fit, fits, fits_form, is_writable}
 
 -- ---- an instruction

@@ -4,7 +4,7 @@
 //! module, by the rules V1 to V18, and only what keeps them is handed on. `specs/Sound.antt` says what is answered.
 #![tactic(auto)]
 
-mod lowered;
+mod lowering;
 mod writable;
 
-pub use lowered::lowered;
+pub use lowering::lowered;

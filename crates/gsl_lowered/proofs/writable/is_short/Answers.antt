@@ -1,4 +1,4 @@
-use Rattle.std.proofs.Common.{◌≡◌, ℕ, length, arith, refl, ◌∙◌}
+use Rattle.std.proofs.Common.{arith, refl}
 use Rattle.gsl_lowered.proofs.Filed.{taken_few, too_many, words_next}
 use Rattle.gsl_lowered.proofs.writable.is_short.Goals as goal
 
