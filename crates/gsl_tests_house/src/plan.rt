@@ -1,5 +1,6 @@
 use gsl_base::{Memory, Stage, Text, Words};
 use gsl_plan::{Command, plan};
+use gsl_words::Target;
 use std::alloc::Global;
 use std::test::*;
 
@@ -23,7 +24,12 @@ fn shown(alloc: Global, line: &str) -> Result<String, Memory> {
 fn told(alloc: Global, command: Command) -> Result<String, Memory> {
     match command {
         Command::Usage(_text) => Ok(String::from_str(alloc, "usage")?),
-        Command::Compile { stage, out, files } => all(alloc, compiling(stage), &out, &files),
+        Command::Compile {
+            target,
+            stage,
+            out,
+            files,
+        } => all(alloc, compiling(target, stage), &out, &files),
         Command::Disassemble { file, out } => joined(alloc, "dis", &file, &out),
         Command::Assemble { file, out } => joined(alloc, "asm", &file, &out),
         Command::Check { file } => joined(alloc, "check", &file, &Text::from_str(alloc, "alone")?),
@@ -36,11 +42,14 @@ fn told(alloc: Global, command: Command) -> Result<String, Memory> {
     }
 }
 
-fn compiling(stage: Stage) -> &'static str {
-    match stage {
-        Stage::Compute => "compile comp",
-        Stage::Vertex => "compile vert",
-        Stage::Fragment => "compile frag",
+fn compiling(target: Target, stage: Stage) -> &'static str {
+    match (target, stage) {
+        (Target::V10, Stage::Compute) => "compile comp",
+        (Target::V10, Stage::Vertex) => "compile vert",
+        (Target::V10, Stage::Fragment) => "compile frag",
+        (Target::V13, Stage::Compute) => "compile 1.3 comp",
+        (Target::V13, Stage::Vertex) => "compile 1.3 vert",
+        (Target::V13, Stage::Fragment) => "compile 1.3 frag",
     }
 }
 
@@ -108,6 +117,10 @@ fn each_command_has_its_operands(rt: HostRuntime) -> Result<(), Fail> {
 /// Lines with options or `--`, and the commands that they are.
 const DASHES: &[(&str, &str)] = &[
     ("compile -- comp -o -f", "compile comp -o -f"),
+    ("compile --target 1.3 comp o.spv a.comp", "compile 1.3 comp o.spv a.comp"),
+    ("compile comp --target=1.3 o.spv a.comp", "compile 1.3 comp o.spv a.comp"),
+    ("compile comp o.spv a.comp --target 1.0", "compile comp o.spv a.comp"),
+    ("compile comp o.spv -- --target 1.3", "compile comp o.spv --target 1.3"),
     ("compile comp o.spv -- -f", "compile comp o.spv -f"),
     ("dis -- -- o.txt", "dis -- o.txt"),
     ("asm m.txt o.spv --", "asm m.txt o.spv"),
@@ -127,6 +140,14 @@ const OTHERS: &[&str] = &[
     "compile comp o.spv",
     "compile comp -o a.comp",
     "compile comp o.spv a.comp -b b.comp",
+    "compile --target 1.2 comp o.spv a.comp",
+    "compile --target 1.3 --target 1.3 comp o.spv a.comp",
+    "compile --target=1.3 comp o.spv a.comp --target=1.0",
+    "compile comp o.spv a.comp --target",
+    "compile --target= comp o.spv a.comp",
+    "compile --targets 1.3 comp o.spv a.comp",
+    "run --target 1.3 comp i a.comp",
+    "check --target 1.3 a.spv",
     "dis m.spv",
     "dis m.spv o.txt more",
     "dis --help o.txt",
