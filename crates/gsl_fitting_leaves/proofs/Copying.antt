@@ -107,7 +107,7 @@ module _ (whole : Sections) (main : ℕ) (local_size : List ℕ) (rank : ℕ →
   reads_later given now class id parts shape p wider k = record { place = place_later given now class id parts shape p wider k.place; readable = k.readable }
 
   stores_later : (given now : List ℕ) (class id : ℕ) (parts : List Part) (shape : Shape) (p : Option Picked) → Wider given now → StoresPlace whole main local_size rank f given class id parts shape p → StoresPlace whole main local_size rank f now class id parts shape p
-  stores_later given now class id parts shape p wider k = record { place = place_later given now class id parts shape p wider k.place; changes = k.changes; takes = k.takes; readable = k.readable }
+  stores_later given now class id parts shape p wider k = record { place = place_later given now class id parts shape p wider k.place; changes = k.changes; takes = k.takes; more = k.more }
 
   leave_later : (given now : List ℕ) (class block : ℕ) (parts : List Part) (variable : ℕ) (leaves : List Leaf) → Wider given now → LeaveBlock whole main local_size rank f given class block parts variable leaves → LeaveBlock whole main local_size rank f now class block parts variable leaves
   leave_later given now class block parts variable [] wider all = tt

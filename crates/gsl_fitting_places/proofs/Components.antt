@@ -1,18 +1,12 @@
 -- Components at an index, of a vector or of what is picked of one.
-use Rattle.std.proofs.Common.{◌≡◌, ℕ, ◌<◌, ◌≤◌, Bool, true, false, cond, ◌&&◌, not, List, [], ◌∷◌, ◌++◌, length, Option, Some, None, refl, sym, ap, ◌∙◌, subst, suc, zero, arith}
+use Rattle.std.proofs.Common.{◌≡◌, ℕ, ◌<◌, ◌≤◌, Bool, true, false, cond, List, [], ◌∷◌, ◌++◌, length, Option, Some, None, refl, sym, ap, ◌∙◌, subst, suc, zero, arith}
 use Rattle.std.specs.Prelude.{◌==◌, slice_index}
-use Rattle.std.proofs.lemmas.Bool.{true≢false}
-use Rattle.std.proofs.lemmas.List.{length-append}
 use Rattle.gsl_instr.specs.Forms.{form_of}
 use Rattle.gsl_instr.specs.declared.op.TheConstants as op
 use Rattle.gsl_types.specs.declared.ty.Scalar.{Scalar}
 use Rattle.gsl_types.specs.declared.ty.Scalar.TheVariants.{Uint}
 use Rattle.gsl_tree.specs.Shapes.{Shape, is_integer}
 use Rattle.gsl_words.specs.declared.module.Module.{Module}
-use Rattle.gsl_valid.specs.Kinds.{kind}
-use Rattle.gsl_valid.specs.MemoryRules.{is_base}
-use Rattle.gsl_valid.specs.Sections.{is_class}
-use Rattle.gsl_valid.specs.Types.{defined_as}
 use Rattle.gsl_spv.specs.Sections.{Sections}
 use Rattle.gsl_lower_values.specs.Building.{Built, Step, behind, given as give, giving}
 use Rattle.gsl_lower_values.specs.Types as types
@@ -31,11 +25,12 @@ use Rattle.gsl_fitting_types.proofs.Stepping.{Wider, comes_then, given_comes, gi
 use Rattle.gsl_fitting_types.proofs.Types.{type_comes, type_sorts, vector_constant_comes, vector_constant_sorts}
 use Rattle.gsl_fitting_operators.proofs.Operators.{fixed_value}
 use Rattle.gsl_fitting_builtins.specs.Arguments.{AreBelow}
-use Rattle.gsl_fitting_places.specs.Leading.{IsIndex, IsWay, MayBegin}
-use Rattle.gsl_fitting_places.specs.Places.{AreStored, AreWithin, IsAmong, IsChoice, IsOfShape, IsPartOf, IsPlace, IsRefined, MayRead, MayStore, MayTake, MayUpdate, Picks, Reads, Stores, TakesMore, Updates, merges, merges_by, shape_before, way, way_by}
+use Rattle.gsl_fitting_places.specs.Leading.{IsIndex, IsWay}
+use Rattle.gsl_fitting_places.specs.Places.{AreStored, AreWithin, IsAmong, IsChoice, IsOfShape, IsPartOf, IsPlace, IsRefined, MayRead, MayStore, MayTake, MayUpdate, Picks, Reads, Stores, TakesMore, Updates, shape_before, way, way_by}
 use Rattle.gsl_fitting_places.proofs.Chains.{Serves, index_later, int_is, leads_later}
 use Rattle.gsl_fitting_places.proofs.Moves.{F, G}
 use Rattle.gsl_fitting_places.proofs.Parting.{dynamic_stands}
+use Rattle.gsl_fitting_places.proofs.Ways.{way_begins, way_one}
 
 -- ---- they sort
 
@@ -81,18 +76,14 @@ module _ (whole : Sections) (main : ℕ) (local_size : List ℕ) (rank : ℕ →
 
   -- ---- the way of what is picked anew
 
-  way_begins : (class id : ℕ) (parts : List Part) → (is_base (kind (defined_as m id)) ≡ true) × (is_class m.version class ≡ true) → MayBegin m class id parts
-  way_begins class id [] both = tt
-  way_begins class id (part ∷ parts) both = both
-
   way_any : (class id : ℕ) (parts : List Part) (p : Picked) → TakesMore whole main local_size rank f (Variable id class) parts → IsWay m class id (way parts (Some p))
   way_any class id parts p more = by (p.shape.1 == 1)
     where
       same : IsWay m class id parts
-      same = record { few = let room = more.0 in omega (arith, room); begins = way_begins class id parts (more.1, more.2) }
+      same = record { few = let room = more.0 in omega (arith, room); begins = way_begins whole main local_size rank f sorted class id parts (more.1, more.2) }
 
       one : (part : Part) → IsWay m class id (parts ++ part ∷ [])
-      one part = record { few = let room = more.0 in let e = length-append parts (part ∷ []) in omega (arith, room, e); begins = way_begins class id (parts ++ part ∷ []) (more.1, more.2) }
+      one part = way_one whole main local_size rank f sorted class id parts part more
 
       by_part : (by : Option Part) (positions : List ℕ) → IsWay m class id (way_by parts by positions)
       by_part None [] = same
@@ -142,15 +133,15 @@ module _ (whole : Sections) (main : ℕ) (local_size : List ℕ) (rank : ℕ →
     updates_anew takes may = by r.base more may
       where
         by : (base : Base) → TakesMore whole main local_size rank f base r.path → Updates whole main local_size rank f given shape base r.path r.picked → Updates whole main local_size rank f now to_shape base r.path (Some p)
-        by (Variable id class) more may = record { place = place_anew id class more may.place; readable = may.readable; changes = may.changes; takes = takes }
+        by (Variable id class) more may = record { place = place_anew id class more may.place; readable = may.readable; changes = may.changes; takes = takes; more = λ h. more }
         by (Value id type) more may = part_anew id may
 
-    pub stores_anew : MayTake (Some p) → merges (Some p) ≡ false → MayStore whole main local_size rank f given shape r → MayStore whole main local_size rank f now to_shape (with_picked r p)
+    pub stores_anew : MayTake (Some p) → MayStore whole main local_size rank f given shape r → MayStore whole main local_size rank f now to_shape (with_picked r p)
     unfolding place_anew
-    stores_anew takes alone may = by r.base more may
+    stores_anew takes may = by r.base more may
       where
         by : (base : Base) → TakesMore whole main local_size rank f base r.path → Stores whole main local_size rank f given shape base r.path r.picked → Stores whole main local_size rank f now to_shape base r.path (Some p)
-        by (Variable id class) more may = record { place = place_anew id class more may.place; changes = may.changes; takes = takes; readable = λ h. absurd (true≢false (sym h ∙ alone)) }
+        by (Variable id class) more may = record { place = place_anew id class more may.place; changes = may.changes; takes = takes; more = λ h. more }
         by (Value id type) more may = tt
 
   -- ---- one component
@@ -167,19 +158,6 @@ module _ (whole : Sections) (main : ℕ) (local_size : List ℕ) (rank : ℕ →
       by : (by : Option Part) → AreStored p.shape.1 by p.positions
       by None = let one = k.one in let some = k.picks.sized.some in omega (arith, one, some)
       by (Some part) = k.one
-
-  one_alone : (shape : Shape) (given : List ℕ) (before : Option Picked) (p : Picked) → PicksOne given shape before p → merges (Some p) ≡ false
-  one_alone shape given before p k = ap (λ b. not (p.shape.1 == 1) && b) (by p.by p.positions k.one) ∙ nothing (not (p.shape.1 == 1))
-    where
-      nothing : (b : Bool) → (b && false) ≡ false
-      nothing true = refl
-      nothing false = refl
-
-      by : (by : Option Part) (positions : List ℕ) → length positions ≡ 1 → merges_by by positions ≡ false
-      by None [] e = absurd (omega (arith, e))
-      by None (position ∷ []) e = refl
-      by None (position ∷ other ∷ positions) e = let k = length positions in absurd (let z : suc (suc k) ≡ 1 = e in omega (arith, z))
-      by (Some part) positions e = refl
 
   module _ (given : List ℕ) (shape : Shape) (several : (shape.1 == 1) ≡ false) where
     one_of_whole : (part : Part) → IsSized shape → IsIndex whole main local_size rank f given part → IsAmong shape.1 part → PicksOne given shape None (component_of shape part)
@@ -262,7 +240,7 @@ module _ (whole : Sections) (main : ℕ) (local_size : List ℕ) (rank : ℕ →
             reads = reads_anew given now k.1 shape (shape.0, 1) r p k.0.same k.0.picks more;
             updates = updates_anew given now k.1 shape (shape.0, 1) r p k.0.same k.0.picks more (one_takes shape now r.picked p k.0);
           },
-          stores_anew given now k.1 shape (shape.0, 1) r p k.0.same k.0.picks more (one_takes shape now r.picked p k.0) (one_alone shape now r.picked p k.0),
+          stores_anew given now k.1 shape (shape.0, 1) r p k.0.same k.0.picks more (one_takes shape now r.picked p k.0),
         )))
       where
         Is : Reached → List ℕ → Sections → Type 0
@@ -281,5 +259,5 @@ module _ (whole : Sections) (main : ℕ) (local_size : List ℕ) (rank : ℕ →
   update_stores given shape r may = by r.base may
     where
       by : (base : Base) → Updates whole main local_size rank f given shape base r.path r.picked → Stores whole main local_size rank f given shape base r.path r.picked
-      by (Variable id class) u = record { place = u.place; changes = u.changes; takes = u.takes; readable = λ h. u.readable }
+      by (Variable id class) u = record { place = u.place; changes = u.changes; takes = u.takes; more = u.more }
       by (Value id type) u = tt

@@ -1,13 +1,14 @@
 -- One pointer for what is read and then stored.
-use Rattle.std.proofs.Common.{◌≡◌, ℕ, ◌≤◌, Bool, true, false, cond, List, [], ◌∷◌, ◌++◌, length, Option, Some, None, refl, sym, ap, ◌∙◌, subst, arith}
+use Rattle.std.proofs.Common.{◌≡◌, ℕ, Bool, true, false, cond, List, [], ◌∷◌, ◌++◌, length, Option, Some, None, refl, sym, ap, ◌∙◌, subst, arith}
 use Rattle.std.specs.Prelude.{◌==◌}
+use Rattle.std.proofs.lemmas.Bool.{true≢false}
 use Rattle.gsl_instr.specs.declared.enumerant.decoration.TheConstants as decoration
 use Rattle.gsl_tree.specs.Shapes.{Shape}
 use Rattle.gsl_words.specs.declared.module.Module.{Module}
 use Rattle.gsl_spv.specs.Sections.{Sections}
 use Rattle.gsl_lower_values.specs.Building.{Built, Step, behind, given as give}
 use Rattle.gsl_lower_values.specs.Types as types
-use Rattle.gsl_lower_places.specs.Pointed.{pointed, pointed_at, pointed_by, pointed_from, pointed_to}
+use Rattle.gsl_lower_places.specs.Pointed.{picks_several, pointed, pointed_at, pointed_by, pointed_from, pointed_to, several_by, to_renew}
 use Rattle.gsl_lower_places.specs.Reached.{stored_shape}
 use Rattle.gsl_lower_places.specs.Reading.{pointer}
 use Rattle.gsl_lower_places.specs.declared.reached.Base.{Base}
@@ -22,11 +23,10 @@ use Rattle.gsl_fitting_types.proofs.Knowing.{one_type, type_later}
 use Rattle.gsl_fitting_types.proofs.Sorting.{sorts_then, stays_same}
 use Rattle.gsl_fitting_types.proofs.Stepping.{Wider, comes_then, given_comes}
 use Rattle.gsl_fitting_types.proofs.Types.{type_comes, type_sorts}
-use Rattle.gsl_fitting_places.specs.Leading.{IsLed, IsWay, Leads, is_marked, may_change}
-use Rattle.gsl_fitting_places.specs.Places.{AreStored, IsThere, MayPoint, MayTake, MayUpdate, Picks, Updates, way, way_by}
+use Rattle.gsl_fitting_places.specs.Leading.{IsLed, Leads, is_marked, may_change}
+use Rattle.gsl_fitting_places.specs.Places.{AreStored, IsThere, MayPoint, MayTake, MayUpdate, Picks, Updates, way_by}
 use Rattle.gsl_fitting_places.proofs.Chains.{held_type, leads_later, pointer_comes, pointer_sorts}
 use Rattle.gsl_fitting_places.proofs.Moves.{F, stored_sized, writable_is}
-use Rattle.gsl_fitting_places.proofs.Parting.{picks_later}
 use Rattle.gsl_fitting_places.proofs.Storing.{one_stored}
 use Rattle.gsl_fitting_places.proofs.Ways.{At, served_by, shape_by}
 
@@ -69,6 +69,14 @@ pointed_sorts shape r s = by r.base r.picked
     by (Variable id class) None = to_sorts id class shape r.path None s
     by (Variable id class) (Some p) = by_count id class p (p.shape.1 == 1)
     by (Value id type) p = stays_same s
+
+pub renewed_sorts : (shape : Shape) (r : Reached) (s : Sections) → Sorts s (to_renew shape r s)
+unfolding to_renew
+renewed_sorts shape r s = by (picks_several r.picked)
+  where
+    by : (b : Bool) → Sorts s ((cond b (give r) (pointed shape r)) s)
+    by true = stays_same s
+    by false = pointed_sorts shape r s
 
 module _ (whole : Sections) (main : ℕ) (local_size : List ℕ) (rank : ℕ → ℕ) (f : Frame) (sorted : AreSorted whole) where
   abbrev m : Module
@@ -145,35 +153,22 @@ module _ (whole : Sections) (main : ℕ) (local_size : List ℕ) (rank : ℕ →
         readable = led.marked decoration.NON_READABLE ∙ readable;
         changes = writable_is whole main local_size rank f sorted class id pointee type to parts now led ∙ may;
         takes = tt;
+        more = λ h. absurd (true≢false (sym h));
       })
 
-  -- several components are picked of the vector
-  update_many : (given : List ℕ) (class id pointee : ℕ) (parts : List Part) (shape : Shape) (p : Picked) (before : Sections) → way [] (Some p) ≡ [] → At whole main local_size rank f sorted given class id pointee parts p.shape → is_marked m decoration.NON_READABLE id pointee parts ≡ false
-      → may_change m class id pointee parts ≡ true → Picks whole main local_size rank f given shape p → MayTake (Some p) → D given (U shape) before (pointed_to id class p.shape parts (Some p) before)
-  update_many given class id pointee parts shape p before none a readable may k takes =
-      to_comes given class id pointee parts p.shape (Some p) (U shape) before a
-      (λ type to now after wider of led. record {
-        place = record { pointee = type; type = type; leads = record { pointer = led.pointer; indexes = tt; leads = refl }; of = of; along = subst (IsWay m class to) (sym none) (record { few = omega arith; begins = tt }); is = picks_later whole main local_size rank f sorted given now shape p wider k };
-        readable = led.marked decoration.NON_READABLE ∙ readable;
-        changes = writable_is whole main local_size rank f sorted class id pointee type to parts now led ∙ may;
-        takes = takes;
-      })
-
-  pub updates_come : (given : List ℕ) (shape : Shape) (r : Reached) (before : Sections) → MayUpdate whole main local_size rank f given shape r → D given (U shape) before (pointed shape r before)
+  updates_come : (given : List ℕ) (shape : Shape) (r : Reached) (before : Sections) → picks_several r.picked ≡ false → MayUpdate whole main local_size rank f given shape r → D given (U shape) before (pointed shape r before)
   unfolding pointed
-  updates_come given shape r before may = by r.base r.picked may
+  updates_come given shape r before alone may = by r.base r.picked alone may
     where
-      by_part : (id class pointee : ℕ) (p : Picked) (by : Option Part) → p.by ≡ by → (positions : List ℕ) → p.positions ≡ positions → (p.shape.1 == 1) ≡ false → Picks whole main local_size rank f given shape p → AreStored p.shape.1 by positions
+      by_part : (id class pointee : ℕ) (p : Picked) (by : Option Part) → p.by ≡ by → (positions : List ℕ) → p.positions ≡ positions → several_by by positions ≡ false → Picks whole main local_size rank f given shape p → AreStored p.shape.1 by positions
           → At whole main local_size rank f sorted given class id pointee (way_by r.path by positions) (shape_by whole main local_size rank f sorted p.shape by positions) → is_marked m decoration.NON_READABLE id pointee (way_by r.path by positions) ≡ false
-          → may_change m class id pointee (way_by r.path by positions) ≡ true → MayTake (Some p) → D given (U shape) before (pointing_by id class r.path p by positions before)
-      by_part id class pointee p None e [] q several k stores a readable may takes = let some = subst (λ l. 1 ≤ length l) q k.some in absurd (omega (arith, some))
-      by_part id class pointee p None e (position ∷ []) q several k stores a readable may takes =
+          → may_change m class id pointee (way_by r.path by positions) ≡ true → D given (U shape) before (pointing_by id class r.path p by positions before)
+      by_part id class pointee p None e [] q alone k stores a readable may = absurd (true≢false alone)
+      by_part id class pointee p None e (position ∷ []) q alone k stores a readable may =
           subst (λ z. D given (U z) before (pointed_to id class (p.shape.0, 1) (r.path ++ Fixed position ∷ []) None before)) (sym (k.shaped ∙ ap (λ l. (p.shape.0, length l)) q))
           (update_to given class id pointee (r.path ++ Fixed position ∷ []) (p.shape.0, 1) before a readable may)
-      by_part id class pointee p None e (position ∷ other ∷ positions) q several k stores a readable may takes =
-          update_many given class id pointee r.path shape p before
-          (ap (λ b. cond b [] (way_by [] p.by p.positions)) several ∙ ap (λ o. way_by [] o p.positions) e ∙ ap (way_by [] None) q) a readable may k takes
-      by_part id class pointee p (Some part) e positions q several k stores a readable may takes =
+      by_part id class pointee p None e (position ∷ other ∷ positions) q alone k stores a readable may = absurd (true≢false alone)
+      by_part id class pointee p (Some part) e positions q alone k stores a readable may =
           subst (λ z. D given (U z) before (pointed_to id class (p.shape.0, 1) (r.path ++ part ∷ []) None before)) (sym (k.shaped ∙ ap (λ l. (p.shape.0, length l)) q ∙ ap (λ n. (p.shape.0, n)) stores))
           (update_to given class id pointee (r.path ++ part ∷ []) (p.shape.0, 1) before a readable may)
 
@@ -181,19 +176,27 @@ module _ (whole : Sections) (main : ℕ) (local_size : List ℕ) (rank : ℕ →
       same id class p None e d = d
       same id class p (Some part) e d = d
 
-      by_count : (id class pointee : ℕ) (p : Picked) (b : Bool) → (p.shape.1 == 1) ≡ b → Picks whole main local_size rank f given shape p → MayTake (Some p)
+      by_count : (id class pointee : ℕ) (p : Picked) (b : Bool) → (p.shape.1 == 1) ≡ b → cond b false (several_by p.by p.positions) ≡ false → Picks whole main local_size rank f given shape p → MayTake (Some p)
           → At whole main local_size rank f sorted given class id pointee (cond b r.path (way_by r.path p.by p.positions)) (cond b p.shape (shape_by whole main local_size rank f sorted p.shape p.by p.positions))
           → is_marked m decoration.NON_READABLE id pointee (cond b r.path (way_by r.path p.by p.positions)) ≡ false → may_change m class id pointee (cond b r.path (way_by r.path p.by p.positions)) ≡ true
           → D given (U shape) before ((cond b (pointed_to id class p.shape r.path None) (pointed_by id class r.path p p.by)) before)
-      by_count id class pointee p true e k takes a readable may =
+      by_count id class pointee p true e alone k takes a readable may =
           subst (λ z. D given (U z) before (pointed_to id class p.shape r.path None before)) (sym (k.shaped ∙ one_stored whole main local_size rank f sorted p e k.some takes)) (update_to given class id pointee r.path p.shape before a readable may)
-      by_count id class pointee p false e k takes a readable may = same id class p p.by refl (by_part id class pointee p p.by refl p.positions refl e k takes a readable may takes)
+      by_count id class pointee p false e alone k takes a readable may = same id class p p.by refl (by_part id class pointee p p.by refl p.positions refl alone k takes a readable may)
 
-      by : (base : Base) (p : Option Picked) → Updates whole main local_size rank f given shape base r.path p → D given (U shape) before (pointed_from (record { base = base; path = r.path; picked = p }) shape base before)
-      by (Variable id class) None u =
+      by : (base : Base) (p : Option Picked) → picks_several p ≡ false → Updates whole main local_size rank f given shape base r.path p → D given (U shape) before (pointed_from (record { base = base; path = r.path; picked = p }) shape base before)
+      by (Variable id class) None alone u =
           let s = served_by whole main local_size rank f sorted given class id r.path shape None u.place in
           update_to given class id u.place.pointee r.path shape before s.at (s.unmarked decoration.NON_READABLE u.readable) (s.changes u.changes)
-      by (Variable id class) (Some p) u =
+      by (Variable id class) (Some p) alone u =
           let s = served_by whole main local_size rank f sorted given class id r.path shape (Some p) u.place in
-          by_count id class u.place.pointee p (p.shape.1 == 1) refl u.place.is u.takes s.at (s.unmarked decoration.NON_READABLE u.readable) (s.changes u.changes)
-      by (Value id type) p u = given_comes whole main local_size rank f given (U shape) (record { base = Value id type; path = r.path; picked = p }) before (λ inside. u)
+          by_count id class u.place.pointee p (p.shape.1 == 1) refl alone u.place.is u.takes s.at (s.unmarked decoration.NON_READABLE u.readable) (s.changes u.changes)
+      by (Value id type) p alone u = given_comes whole main local_size rank f given (U shape) (record { base = Value id type; path = r.path; picked = p }) before (λ inside. u)
+
+  pub renewed_comes : (given : List ℕ) (shape : Shape) (r : Reached) (before : Sections) → MayUpdate whole main local_size rank f given shape r → D given (U shape) before (to_renew shape r before)
+  unfolding to_renew
+  renewed_comes given shape r before may = by (picks_several r.picked) refl
+    where
+      by : (b : Bool) → picks_several r.picked ≡ b → D given (U shape) before ((cond b (give r) (pointed shape r)) before)
+      by true e = given_comes whole main local_size rank f given (U shape) r before (λ inside. may)
+      by false e = updates_come given shape r before e may

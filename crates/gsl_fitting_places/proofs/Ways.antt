@@ -3,6 +3,7 @@ use Rattle.std.proofs.Common.{◌≡◌, ℕ, Bool, true, false, cond, ◌&&◌,
 use Rattle.std.specs.Prelude.{◌==◌}
 use Rattle.std.specs.List.{AllByRecursion, list_any}
 use Rattle.std.proofs.lemmas.Bool.{and_from, and_parts, not-true, not_from_false, true≢false}
+use Rattle.std.proofs.lemmas.List.{length-append}
 use Rattle.gsl_instr.specs.declared.enumerant.decoration.TheConstants as decoration
 use Rattle.gsl_instr.specs.declared.enumerant.storage_class.TheConstants as storage_class
 use Rattle.gsl_instr.specs.declared.instruction.Instruction.{Instruction}
@@ -11,9 +12,11 @@ use Rattle.gsl_tree.specs.Shapes.{Shape}
 use Rattle.gsl_words.specs.declared.module.Module.{Module}
 use Rattle.gsl_valid.specs.Kinds.{kind, shape_of}
 use Rattle.gsl_valid.specs.MemoryRules.{chain_of, is_base, is_stored, marks, part_by}
+use Rattle.gsl_valid.specs.Sections.{is_class}
 use Rattle.gsl_valid.specs.Types.{defined_as}
 use Rattle.gsl_spv.specs.Sections.{Sections}
 use Rattle.gsl_lower_places.specs.Reached.{is_block_class, stored_scalar, stored_shape}
+use Rattle.gsl_lower_places.specs.declared.reached.Base.TheVariants.{Variable}
 use Rattle.gsl_lower_places.specs.declared.reached.Part.{Part}
 use Rattle.gsl_lower_places.specs.declared.reached.Part.TheVariants.{Fixed}
 use Rattle.gsl_lower_places.specs.declared.reached.Picked.{Picked}
@@ -22,7 +25,7 @@ use Rattle.gsl_fitting_types.specs.Making.{AreSorted, IsSized, IsTypeOf, made}
 use Rattle.gsl_fitting_types.proofs.Knowing.{vector_type_is}
 use Rattle.gsl_fitting_operators.proofs.Composites.{vector_at}
 use Rattle.gsl_fitting_places.specs.Leading.{IsIndex, IsWay, Leads, MayBegin, is_buffered, is_marked, led, led_by, marked_by, may_change, told_number}
-use Rattle.gsl_fitting_places.specs.Places.{IsChoice, IsPlace, way, way_by}
+use Rattle.gsl_fitting_places.specs.Places.{IsChoice, IsPlace, TakesMore, way, way_by}
 use Rattle.gsl_fitting_places.proofs.Chains.{led_first}
 
 -- ---- parts behind parts
@@ -95,6 +98,23 @@ module _ (whole : Sections) (main : ℕ) (local_size : List ℕ) (rank : ℕ →
     pub of : IsTypeOf whole (stored_shape class shape) type
     pub along : IsWay m class id parts
     pub sized : IsSized shape
+
+  -- ---- one index more
+
+  pub way_begins : (class id : ℕ) (parts : List Part) → (is_base (kind (defined_as m id)) ≡ true) × (is_class m.version class ≡ true) → MayBegin m class id parts
+  way_begins class id [] both = tt
+  way_begins class id (part ∷ parts) both = both
+
+  pub way_one : (class id : ℕ) (parts : List Part) (part : Part) → TakesMore whole main local_size rank f (Variable id class) parts → IsWay m class id (parts ++ part ∷ [])
+  way_one class id parts part more = record { few = let room = more.0 in let e = length-append parts (part ∷ []) in omega (arith, room, e); begins = way_begins class id (parts ++ part ∷ []) (more.1, more.2) }
+
+  -- where there is one, there may be another in its place
+  pub way_more : (class id : ℕ) (parts : List Part) (part : Part) → IsWay m class id (parts ++ part ∷ []) → TakesMore whole main local_size rank f (Variable id class) parts
+  way_more class id parts part along = let begins = by parts along.begins in (let few = along.few in let e = length-append parts (part ∷ []) in omega (arith, few, e), begins.0, begins.1)
+    where
+      by : (parts : List Part) → MayBegin m class id (parts ++ part ∷ []) → (is_base (kind (defined_as m id)) ≡ true) × (is_class m.version class ≡ true)
+      by [] begins = begins
+      by (first ∷ parts) begins = begins
 
   -- ---- one component
 

@@ -1,5 +1,5 @@
 -- What an expression leads to may be read and stored, in a block that has given some ids.
-use Rattle.std.specs.Prelude.{◌≡◌, ℕ, ◌+◌, ◌<◌, ◌≤◌, Bool, true, false, ◌==◌, ◌&&◌, not, if◌then◌else◌, List, [], ◌∷◌, ◌++◌, length, map, Option, Some, None}
+use Rattle.std.specs.Prelude.{◌≡◌, ℕ, ◌+◌, ◌<◌, ◌≤◌, true, false, ◌==◌, if◌then◌else◌, List, [], ◌∷◌, ◌++◌, length, map, Option, Some, None}
 use Rattle.gsl_instr.specs.declared.enumerant.decoration.TheConstants as decoration
 use Rattle.gsl_tree.specs.Shapes.{Shape}
 use Rattle.gsl_words.specs.declared.module.Module.{Module}
@@ -10,6 +10,7 @@ use Rattle.gsl_valid.specs.OperandRules.{part_within}
 use Rattle.gsl_valid.specs.Sections.{is_class}
 use Rattle.gsl_valid.specs.Types.{defined_as}
 use Rattle.gsl_spv.specs.Sections.{Sections}
+use Rattle.gsl_lower_places.specs.Pointed.{picks_several}
 use Rattle.gsl_lower_places.specs.Reached.{stored_shape}
 use Rattle.gsl_lower_places.specs.Reading.{number_in}
 use Rattle.gsl_lower_places.specs.declared.reached.Base.{Base}
@@ -39,16 +40,6 @@ way_by parts (Some by) positions = parts ++ by ∷ []
 abbrev pub way : List Part → Option Picked → List Part
 way parts None = parts
 way parts (Some p) = if p.shape.1 == 1 then parts else way_by parts p.by p.positions
-
--- whether what is picked is stored by storing its vector anew, for which that is read
-abbrev pub merges_by : Option Part → List ℕ → Bool
-merges_by None (position ∷ []) = false
-merges_by None positions = true
-merges_by (Some by) positions = false
-
-abbrev pub merges : Option Picked → Bool
-merges None = false
-merges (Some p) = not (p.shape.1 == 1) && merges_by p.by p.positions
 
 -- Positions are those of components; where a component is picked by a word, each is the first of that one.
 abbrev pub AreWithin : ℕ → Option Part → List ℕ → Type 0
@@ -113,12 +104,17 @@ module _ (whole : Sections) (main : ℕ) (local_size : List ℕ) (rank : ℕ →
     pub place : IsPlace given class id parts shape picked
     pub readable : IsReadable id place.pointee parts
 
-  -- It may be stored to, and read where components are put into their vector.
+  -- A place may have one more index: a chain may begin at its variable, and has room for it. A value always may.
+  abbrev pub TakesMore : Base → List Part → Type 0
+  TakesMore (Variable id class) parts = (1 + length parts ≤ most_indexes) × (is_base (kind (defined_as m id)) ≡ true) × (is_class m.version class ≡ true)
+  TakesMore (Value id type) parts = Unit {0}
+
+  -- It may be stored to, and where several components are, each by a pointer of its own.
   pub record StoresPlace (given : List ℕ) (class id : ℕ) (parts : List Part) (shape : Shape) (picked : Option Picked) : Type 0 where
     pub place : IsPlace given class id parts shape picked
     pub changes : may_change m class id place.pointee parts ≡ true
     pub takes : MayTake picked
-    pub readable : merges picked ≡ true → IsReadable id place.pointee parts
+    pub more : picks_several picked ≡ true → TakesMore (Variable id class) parts
 
   -- Numbers lead from a value, which such a block may use, to a scalar or vector, of which the whole or some components make up this shape.
   pub record IsPartOf (given : List ℕ) (id : ℕ) (parts : List Part) (shape : Shape) (picked : Option Picked) : Type 0 where
@@ -153,6 +149,7 @@ module _ (whole : Sections) (main : ℕ) (local_size : List ℕ) (rank : ℕ →
     pub readable : IsReadable id place.pointee parts
     pub changes : may_change m class id place.pointee parts ≡ true
     pub takes : MayTake picked
+    pub more : picks_several picked ≡ true → TakesMore (Variable id class) parts
 
   abbrev pub Updates : List ℕ → Shape → Base → List Part → Option Picked → Type 0
   Updates given shape (Variable id class) parts picked = UpdatesPlace given class id parts shape picked
@@ -171,11 +168,6 @@ module _ (whole : Sections) (main : ℕ) (local_size : List ℕ) (rank : ℕ →
   MayPoint given shape r = IsThere given shape r.base r.path r.picked
 
   -- ---- parts and components
-
-  -- A place may have one more index: a chain may begin at its variable, and has room for it. A value always may.
-  abbrev pub TakesMore : Base → List Part → Type 0
-  TakesMore (Variable id class) parts = (1 + length parts ≤ most_indexes) × (is_base (kind (defined_as m id)) ≡ true) × (is_class m.version class ≡ true)
-  TakesMore (Value id type) parts = Unit {0}
 
   -- From a scalar or vector that an expression leads to, to a part of it, which may be read and stored where that might.
   pub record IsRefined (given now : List ℕ) (shape to_shape : Shape) (r to : Reached) : Type 0 where

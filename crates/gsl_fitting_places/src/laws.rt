@@ -3,7 +3,7 @@
 ghost use Rattle.std.specs.Prelude.{◌≡◌, ◌==◌, ℕ, List, false};
 ghost use Rattle.gsl_tree.specs.Shapes.{Shape};
 ghost use Rattle.gsl_spv.specs.Sections.{Sections};
-ghost use Rattle.gsl_lower_places.specs.Pointed.{pointed};
+ghost use Rattle.gsl_lower_places.specs.Pointed.{pointed, to_renew};
 ghost use Rattle.gsl_lower_places.specs.Reached.{component_at};
 ghost use Rattle.gsl_lower_places.specs.Reading.{pointer, read};
 ghost use Rattle.gsl_lower_places.specs.Writing.{stored};
@@ -32,11 +32,16 @@ pub fn stores_fit()
     ensures comes { (whole : Sections) (main : ℕ) (local_size : List ℕ) (rank : ℕ → ℕ) (f : Frame) → AreSorted whole → (given : List ℕ) (shape : Shape) (r : Reached) (v : ℕ) (before : Sections) → MayStore whole main local_size rank f given shape r → IsValue whole main local_size rank f given shape v → Comes whole main local_size rank f given Nothing before (stored shape r v before) }
 {}
 
-/// One pointer serves what is read and then stored.
+/// One pointer to what an expression leads to.
 pub fn pointed_fits()
     ensures sorts { (shape : Shape) (r : Reached) (s : Sections) → Sorts s (pointed shape r s) }
     ensures comes { (whole : Sections) (main : ℕ) (local_size : List ℕ) (rank : ℕ → ℕ) (f : Frame) → AreSorted whole → (given : List ℕ) (shape : Shape) (r : Reached) (before : Sections) → MayPoint whole main local_size rank f given shape r → Comes whole main local_size rank f given (λ to now after. Unit {0}) before (pointed shape r before) }
-    ensures updates { (whole : Sections) (main : ℕ) (local_size : List ℕ) (rank : ℕ → ℕ) (f : Frame) → AreSorted whole → (given : List ℕ) (shape : Shape) (r : Reached) (before : Sections) → MayUpdate whole main local_size rank f given shape r → Comes whole main local_size rank f given (λ to now after. MayUpdate whole main local_size rank f now shape to) before (pointed shape r before) }
+{}
+
+/// What may be read and then stored may be so where it is made ready for both, which one pointer serves, but for several components.
+pub fn renewals_fit()
+    ensures sorts { (shape : Shape) (r : Reached) (s : Sections) → Sorts s (to_renew shape r s) }
+    ensures comes { (whole : Sections) (main : ℕ) (local_size : List ℕ) (rank : ℕ → ℕ) (f : Frame) → AreSorted whole → (given : List ℕ) (shape : Shape) (r : Reached) (before : Sections) → MayUpdate whole main local_size rank f given shape r → Comes whole main local_size rank f given (λ to now after. MayUpdate whole main local_size rank f now shape to) before (to_renew shape r before) }
 {}
 
 /// A component at an index of a vector, or of what is picked of one, may be read and stored where that might.

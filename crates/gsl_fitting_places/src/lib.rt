@@ -5,4 +5,6 @@
 
 mod laws;
 
-pub use laws::{components_fit, pointed_fits, pointers_fit, reads_fit, stores_fit, updates_serve};
+pub use laws::{
+    components_fit, pointed_fits, pointers_fit, reads_fit, renewals_fit, stores_fit, updates_serve,
+};

@@ -18,7 +18,7 @@ use Rattle.gsl_spv.specs.Sections.{Sections}
 use Rattle.gsl_lower_values.specs.Building.{Step}
 use Rattle.gsl_lower_values.specs.Constructors.{operand}
 use Rattle.gsl_lower_values.specs.Operators as operators
-use Rattle.gsl_lower_places.specs.Pointed.{pointed}
+use Rattle.gsl_lower_places.specs.Pointed.{to_renew}
 use Rattle.gsl_lower_places.specs.declared.reached.Reached.{Reached}
 use Rattle.gsl_lower_law.specs.Computing.{Computes}
 use Rattle.gsl_lower_law.specs.Values.{IsOf, Stands}
@@ -39,9 +39,10 @@ use Rattle.gsl_lower_reaching.specs.Reaching.Begins.{variable}
 use Rattle.gsl_lower_reaching.specs.Trails.{IsInside, IsOutside, Trail}
 use Rattle.gsl_lower_reads.proofs.Adding.{adds_reads}
 use Rattle.gsl_lower_reads.proofs.Found.{read_typed}
-use Rattle.gsl_lower_writes.proofs.Adding.{adds_stores, always_pointed}
-use Rattle.gsl_lower_writes.proofs.Outside.{pointed_strays}
-use Rattle.gsl_lower_writes.proofs.Pointed.{IsServed, ServesPlace, place_pointed}
+use Rattle.gsl_lower_reads.proofs.Straying.{read_strays}
+use Rattle.gsl_lower_writes.proofs.Adding.{adds_stores, always_renewed}
+use Rattle.gsl_lower_writes.proofs.Outside.{renewed_strays}
+use Rattle.gsl_lower_writes.proofs.Pointed.{IsServed, ServesPlace, place_renewed}
 use Rattle.gsl_lower_writes.proofs.Stored.{at_variable}
 use Rattle.gsl_lower_assigns.specs.Updating.{IsStepped, step_means}
 use Rattle.gsl_lower_assigns.proofs.Finishing.{Has, from_before, serving_keeps, serving_reads, still_serving, stores_here}
@@ -66,7 +67,7 @@ module _ (m : Module) (input : Input) (sections : Sections) (f : Frame m input s
   by_pointer to = reads p.structs t to >>= with_old to
 
   abbrev next : Reached → Emit ℕ
-  next r = lift (pointed (shape_or t) r) >>= by_pointer
+  next r = lift (to_renew (shape_or t) r) >>= by_pointer
 
   adds_new : (to : Reached) (old new : ℕ) → Adds (with_new to old new)
   adds_new to old new = adds_then (stores p.structs t to new) (λ done. given (result_of old new)) (adds_stores m input sections p.structs t to new) (λ done. adds_given (result_of old new))
@@ -78,7 +79,7 @@ module _ (m : Module) (input : Input) (sections : Sections) (f : Frame m input s
   adds_pointer to = adds_then (reads p.structs t to) (with_old to) (adds_reads m input sections p.structs t to) (adds_old to)
 
   adds_next : (r : Reached) → Adds (next r)
-  adds_next r = adds_then (lift (pointed (shape_or t) r)) by_pointer (adds_lift (pointed (shape_or t) r) (λ b. always_pointed m input sections (shape_or t) r b.sections)) adds_pointer
+  adds_next r = adds_then (lift (to_renew (shape_or t) r)) by_pointer (adds_lift (to_renew (shape_or t) r) (λ b. always_renewed m input sections (shape_or t) r b.sections)) adds_pointer
 
   same_shape : shape_or t ≡ known.shape
   same_shape = shape_is t known.shape known.shaped
@@ -140,10 +141,10 @@ module _ (m : Module) (input : Input) (sections : Sections) (f : Frame m input s
 
       next_in : Does m input sections f p 0 units state (Has m input sections f p around t false b state) none_waits (shader_run.◌>>=◌ (told_by (means_read p.structs t acc)) (goes_on acc) s units) (next r b)
       next_in =
-          subst (λ shape. Does m input sections f p 0 units state (Has m input sections f p around t false b state) none_waits (goes_on acc (means_read p.structs t acc s) s units) ((lift (pointed shape r) >>= by_pointer) b)) (sym same_shape)
-          (does_then m input sections f p 0 units b state (IsServed m input sections f p around known.are loose t known.sound known.shape known.shaped r acc l x inside b s state) none_waits (Has m input sections f p around t false b state) none_waits (Got tt s units) (λ one u left. goes_on acc (means_read p.structs t acc u) u left) (lift (pointed known.shape r) b) by_pointer good.inside
-          (adds_lift (pointed known.shape r) (λ b. always_pointed m input sections known.shape r b.sections) b) adds_pointer
-          (place_pointed m input sections f p around known.are loose t known.sound known.shape known.shaped r acc l x inside b s units state good is)
+          subst (λ shape. Does m input sections f p 0 units state (Has m input sections f p around t false b state) none_waits (goes_on acc (means_read p.structs t acc s) s units) ((lift (to_renew shape r) >>= by_pointer) b)) (sym same_shape)
+          (does_then m input sections f p 0 units b state (IsServed m input sections f p around known.are loose t known.sound known.shape known.shaped r acc l x inside b s state) none_waits (Has m input sections f p around t false b state) none_waits (Got tt s units) (λ one u left. goes_on acc (means_read p.structs t acc u) u left) (lift (to_renew known.shape r) b) by_pointer good.inside
+          (adds_lift (to_renew known.shape r) (λ b. always_renewed m input sections known.shape r b.sections) b) adds_pointer
+          (place_renewed m input sections f p around known.are loose t known.sound known.shape known.shaped r acc l x inside b s units state good is)
           (λ to between one u left mid within grown q less.
           from_before m input sections f p around t false false false b between state mid u left (goes_on acc (means_read p.structs t acc u) u left) (by_pointer to) (λ e. refl) grown q.after
           (by_pointer_in to between u left mid q.after.good q.serves))
@@ -151,11 +152,12 @@ module _ (m : Module) (input : Input) (sections : Sections) (f : Frame m input s
 
     next_out : IsOutside p.structs true t l → Does m input sections f p 0 units state (Has m input sections f p around t false b state) none_waits Strays (next r b)
     next_out outside =
-        does_then m input sections f p 0 units b state (λ to later (one : Value) u last. ⊥) none_waits (Has m input sections f p around t false b state) none_waits Strays (λ one u left. Strays) (lift (pointed (shape_or t) r) b) by_pointer good.inside
-        (adds_lift (pointed (shape_or t) r) (λ b. always_pointed m input sections (shape_or t) r b.sections) b) adds_pointer
-        (pointed_strays m input sections f p around known.are loose t (shape_or t) units b s state r l (λ to later (one : Value) u last. ⊥) good is outside)
-        (λ to between one u left mid within grown none less. absurd none)
-        (λ to between u left mid within grown none less. absurd none)
+        renewed_strays m input sections f p around known.are loose t (shape_or t) units b s state r l by_pointer (Has m input sections f p around t false b state) good is outside adds_pointer
+        (does_then m input sections f p 0 units b state (λ (old : ℕ) later (one : Value) u last. ⊥) none_waits (Has m input sections f p around t false b state) none_waits Strays (λ one u left. Strays) (reads p.structs t r b) (with_old r) good.inside
+        (adds_reads m input sections p.structs t r b) (adds_old r)
+        (read_strays m input sections f p around known.are loose true t b s state r l good is outside units (λ (old : ℕ) later (one : Value) u last. ⊥))
+        (λ old between one u left mid within grown none less. absurd none)
+        (λ old between u left mid within grown none less. absurd none))
 
   none_more : (c : Bool) → c ≡ false → (c || false) ≡ false
   none_more true e = e

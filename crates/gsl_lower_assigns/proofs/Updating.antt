@@ -21,7 +21,7 @@ use Rattle.gsl_spv.specs.Sections.{Sections}
 use Rattle.gsl_lower_values.specs.Building.{Step}
 use Rattle.gsl_lower_values.specs.Constructors.{operand}
 use Rattle.gsl_lower_values.specs.Operators as operators
-use Rattle.gsl_lower_places.specs.Pointed.{pointed}
+use Rattle.gsl_lower_places.specs.Pointed.{to_renew}
 use Rattle.gsl_lower_places.specs.declared.reached.Reached.{Reached}
 use Rattle.gsl_lower_law.specs.Computing.{Computes}
 use Rattle.gsl_lower_law.specs.Operands.{Fit}
@@ -53,9 +53,9 @@ use Rattle.gsl_lower_reads.proofs.Adding.{adds_reads}
 use Rattle.gsl_lower_reads.proofs.Found.{read_typed}
 use Rattle.gsl_lower_reads.proofs.Straying.{read_strays}
 use Rattle.gsl_lower_reads.proofs.Taking.{taken}
-use Rattle.gsl_lower_writes.proofs.Adding.{adds_stores, always_pointed}
-use Rattle.gsl_lower_writes.proofs.Outside.{pointed_strays}
-use Rattle.gsl_lower_writes.proofs.Pointed.{IsServed, ServesPlace, place_pointed}
+use Rattle.gsl_lower_writes.proofs.Adding.{adds_stores, always_renewed}
+use Rattle.gsl_lower_writes.proofs.Outside.{renewed_strays}
+use Rattle.gsl_lower_writes.proofs.Pointed.{IsServed, ServesPlace, place_renewed}
 use Rattle.gsl_lower_writes.proofs.Stored.{at_variable, trail_stored}
 use Rattle.gsl_lower_assigns.specs.Updating.{Updates, update_means}
 use Rattle.gsl_lower_assigns.proofs.Finishing.{Has, Keeping, finishes, from_before, serving_keeps, serving_reads, still_serving}
@@ -150,7 +150,7 @@ module _ (m : Module) (input : Input) (sections : Sections) (f : Frame m input s
 
   always_if : (one : Bool) (shape : Shape) (r : Reached) → Always (pointed_if one shape r)
   always_if false shape r = always_given m input sections {A = Reached} r
-  always_if true shape r = always_pointed m input sections shape r
+  always_if true shape r = always_renewed m input sections shape r
 
   adds_begin : (waits : Bool) (r : Reached) → Adds (begin waits r)
   adds_begin waits r = adds_then (lift (pointed_if (not waits) (shape_or t) r)) (read_both waits) (adds_lift (pointed_if (not waits) (shape_or t) r) (λ b. always_if (not waits) (shape_or t) r b.sections)) (adds_read waits)
@@ -226,10 +226,10 @@ module _ (m : Module) (input : Input) (sections : Sections) (f : Frame m input s
 
     begun_pointed : (b : Flow) (s : shader.State) (units : ℕ) (state : State) → Good m input sections f p around b s state → IsTrail m input sections f p around false loose b state r l → Does m input sections f p 0 units state (IsBegun false b s state) none_waits (Got tt s units) (begin false r b)
     begun_pointed b s units state good is =
-        subst (λ shape. Does m input sections f p 0 units state (IsBegun false b s state) none_waits (Got tt s units) ((lift (pointed shape r) >>= read_both false) b)) (sym same_shape)
-        (does_then m input sections f p 0 units b state (IsServed m input sections f p around operates.are loose t operates.sound_left known.shape known.shaped r acc l x inside b s state) none_waits (IsBegun false b s state) none_waits (Got tt s units) (λ one u left. Got tt u left) (lift (pointed known.shape r) b) (read_both false) good.inside
-        (adds_lift (pointed known.shape r) (λ b. always_pointed m input sections known.shape r b.sections) b) (adds_read false)
-        (place_pointed m input sections f p around operates.are loose t operates.sound_left known.shape known.shaped r acc l x inside b s units state good is)
+        subst (λ shape. Does m input sections f p 0 units state (IsBegun false b s state) none_waits (Got tt s units) ((lift (to_renew shape r) >>= read_both false) b)) (sym same_shape)
+        (does_then m input sections f p 0 units b state (IsServed m input sections f p around operates.are loose t operates.sound_left known.shape known.shaped r acc l x inside b s state) none_waits (IsBegun false b s state) none_waits (Got tt s units) (λ one u left. Got tt u left) (lift (to_renew known.shape r) b) (read_both false) good.inside
+        (adds_lift (to_renew known.shape r) (λ b. always_renewed m input sections known.shape r b.sections) b) (adds_read false)
+        (place_renewed m input sections f p around operates.are loose t operates.sound_left known.shape known.shaped r acc l x inside b s units state good is)
         (λ to between one u left mid within grown q less. begun_by to b s state between u left mid grown q.after q.still q.serves)
         (λ to between u left mid within grown none less. absurd none))
 
@@ -347,19 +347,18 @@ module _ (m : Module) (input : Input) (sections : Sections) (f : Frame m input s
     abbrev Never : {A : Type 0} → A → Flow → Value → shader.State → State → Type 0
     Never a later one u last = ⊥
 
-    begin_out : (waits : Bool) → Does m input sections f p 0 units state (λ (kept : Kept). Never kept) none_waits Strays (begin waits r b)
-    begin_out false =
-        does_then m input sections f p 0 units b state (λ (to : Reached). Never to) none_waits (λ (kept : Kept). Never kept) none_waits Strays (λ one u left. Strays) (lift (pointed (shape_or t) r) b) (read_both false) good.inside
-        (adds_lift (pointed (shape_or t) r) (λ b. always_pointed m input sections (shape_or t) r b.sections) b) (adds_read false)
-        (pointed_strays m input sections f p around operates.are loose t (shape_or t) units b s state r l (λ (to : Reached). Never to) good is outside)
-        (λ to between one u left mid within grown none less. absurd none)
-        (λ to between u left mid within grown none less. absurd none)
-    begin_out true =
-        does_then m input sections f p 0 units b state (λ (id : ℕ). Never id) none_waits (λ (kept : Kept). Never kept) none_waits Strays (λ one u left. Strays) (reads p.structs t r b) (held_both true r) good.inside
-        (adds_reads m input sections p.structs t r b) (adds_both true r)
+    both_out : (waits : Bool) → Does m input sections f p 0 units state (λ (kept : Kept). Never kept) none_waits Strays (read_both waits r b)
+    both_out waits =
+        does_then m input sections f p 0 units b state (λ (id : ℕ). Never id) none_waits (λ (kept : Kept). Never kept) none_waits Strays (λ one u left. Strays) (reads p.structs t r b) (held_both waits r) good.inside
+        (adds_reads m input sections p.structs t r b) (adds_both waits r)
         (read_strays m input sections f p around operates.are loose true t b s state r l good is outside units (λ (id : ℕ). Never id))
         (λ id between one u left mid within grown none less. absurd none)
         (λ id between u left mid within grown none less. absurd none)
+
+    begin_out : (waits : Bool) → Does m input sections f p 0 units state (λ (kept : Kept). Never kept) none_waits Strays (begin waits r b)
+    begin_out false =
+        renewed_strays m input sections f p around operates.are loose t (shape_or t) units b s state r l (read_both false) (λ (kept : Kept). Never kept) good is outside (adds_read false) (both_out false)
+    begin_out true = both_out true
 
     all_out : (waits : Bool) (value : Emit ℕ) → Adds value → Does m input sections f p 0 units state (Gives_ waits b state) none_waits Strays ((begin waits r >>= (λ kept. value >>= end waits kept)) b)
     all_out waits value adds =

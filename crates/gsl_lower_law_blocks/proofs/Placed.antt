@@ -19,7 +19,7 @@ use Rattle.gsl_lower_law.specs.Values.{AreWords, IsOf}
 use Rattle.gsl_lower_law.proofs.Components.{components_of}
 use Rattle.gsl_lower_law_constructors.proofs.Shares.{words_in}
 use Rattle.gsl_lower_law_leaves.specs.Equal.{HasLeaves, leaf_in}
-use Rattle.gsl_lower_law_places.proofs.Merged.{converted_of}
+use Rattle.gsl_lower_law_places.proofs.Each.{converted_of}
 use Rattle.gsl_lower_law_views.proofs.Stored.{all_seen}
 use Rattle.gsl_lower_law_copies.specs.Copying.{Place, numbers_of, put_leaves}
 use Rattle.gsl_lower_law_places.proofs.Lists.{words_length}

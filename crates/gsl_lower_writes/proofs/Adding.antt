@@ -7,13 +7,13 @@ use Rattle.gsl_types.specs.declared.ty.Ty.{Ty}
 use Rattle.gsl_words.specs.declared.module.Module.{Module}
 use Rattle.gsl_tree.specs.Shapes.{Shape, shape_of}
 use Rattle.gsl_spv.specs.Sections.{Sections}
-use Rattle.gsl_lower_values.specs.Building.{Step, given, giving, putting, ◌>>=◌}
-use Rattle.gsl_lower_values.specs.Constructors.{operand, replaced}
+use Rattle.gsl_lower_values.specs.Building.{Step, given, putting, ◌>>=◌}
+use Rattle.gsl_lower_values.specs.Constructors.{operand}
 use Rattle.gsl_lower_values.specs.Types.{type_of}
-use Rattle.gsl_lower_places.specs.Pointed.{pointed, pointed_at, pointed_by, pointed_from, pointed_if, pointed_picked, pointed_to}
+use Rattle.gsl_lower_places.specs.Pointed.{picks_several, pointed, pointed_at, pointed_by, pointed_from, pointed_if, pointed_picked, pointed_to, to_renew}
 use Rattle.gsl_lower_places.specs.Reached.{is_block_class, stored_shape}
 use Rattle.gsl_lower_places.specs.Reading.{extracted, pointer}
-use Rattle.gsl_lower_places.specs.Writing.{in_class, merged_at, put_at, put_by, put_in, put_picked, put_variable, put_vector, stored}
+use Rattle.gsl_lower_places.specs.Writing.{put_at, put_by, put_in, put_picked, put_variable, stored}
 use Rattle.gsl_lower_places.specs.declared.reached.Base.{Base}
 use Rattle.gsl_lower_places.specs.declared.reached.Base.TheVariants.{Variable, Value as Loose}
 use Rattle.gsl_lower_places.specs.declared.reached.Part.{Part}
@@ -21,7 +21,7 @@ use Rattle.gsl_lower_places.specs.declared.reached.Part.TheVariants.{Fixed}
 use Rattle.gsl_lower_places.specs.declared.reached.Picked.{Picked}
 use Rattle.gsl_lower_places.specs.declared.reached.Reached.{Reached}
 use Rattle.gsl_lower_law.proofs.Adding.{extends_put}
-use Rattle.gsl_lower_law_places.proofs.Merged.{replaced_grows}
+use Rattle.gsl_lower_law_places.proofs.Each.{each_grows}
 use Rattle.gsl_lower_leaves.specs.Copies.{copied_in, store_whole}
 use Rattle.gsl_lower_leaves.specs.Leaves.{leaves_of}
 use Rattle.gsl_lower_leaves.specs.declared.leaf.Leaf.{Leaf}
@@ -38,35 +38,8 @@ module _ (m : Module) (input : Input) (whole : Sections) where
   always_putting : (code : ℕ) (operands : List ℕ) → Always (putting code operands)
   always_putting code operands before = extends_put code operands before
 
-  always_merged : (id class : ℕ) (shape : Shape) (positions : List ℕ) (parts : List Part) (v : ℕ) → Always (merged_at id class shape positions parts v)
-  unfolding merged_at in_class
-  always_merged id class shape positions parts v =
-      always_then m input whole (in_class class (shape.0, length positions) v) behind_new (always_converted m input whole (stored_shape class (shape.0, length positions)).0 (operand (shape.0, length positions) v))
-      (λ new. always_then m input whole (type_of (stored_shape class shape)) (behind_type new) (always_type m input whole (stored_shape class shape))
-      (λ type. always_then m input whole (pointer id class type parts) (behind_pointer new type) (always_pointer m input whole id class type parts)
-      (λ to. always_then m input whole (giving op.LOAD (to ∷ []) type) (behind_load new to) (always_giving m input whole op.LOAD (to ∷ []) type)
-      (λ old. always_then m input whole (replaced (operand (stored_shape class shape) old) positions new) (λ word. putting op.STORE (to ∷ word ∷ [])) (λ before. replaced_grows m input whole (operand (stored_shape class shape) old) positions new no_state before)
-      (λ word. always_putting op.STORE (to ∷ word ∷ []))))))
-    where
-      behind_load : ℕ → ℕ → ℕ → Step (Unit {0})
-      behind_load new to old = replaced (operand (stored_shape class shape) old) positions new >>= (λ word. putting op.STORE (to ∷ word ∷ []))
-
-      behind_pointer : ℕ → ℕ → ℕ → Step (Unit {0})
-      behind_pointer new type to = giving op.LOAD (to ∷ []) type >>= behind_load new to
-
-      behind_type : ℕ → ℕ → Step (Unit {0})
-      behind_type new type = pointer id class type parts >>= behind_pointer new type
-
-      behind_new : ℕ → Step (Unit {0})
-      behind_new new = type_of (stored_shape class shape) >>= behind_type new
-
-  always_vector : (id class : ℕ) (shape : Shape) (positions : List ℕ) (parts : List Part) (v : ℕ) → Always (put_vector id class shape positions parts v)
-  always_vector id class shape [] parts v = always_merged id class shape [] parts v
-  always_vector id class shape (position ∷ []) parts v = always_put m input whole id class (shape.0, 1) (parts ++ Fixed position ∷ []) v
-  always_vector id class shape (position ∷ next ∷ positions) parts v = always_merged id class shape (position ∷ next ∷ positions) parts v
-
   always_by : (id class : ℕ) (shape : Shape) (part : Option Part) (positions : List ℕ) (parts : List Part) (v : ℕ) → Always (put_by id class shape part positions parts v)
-  always_by id class shape None positions parts v = always_vector id class shape positions parts v
+  always_by id class shape None positions parts v = λ before. each_grows m input whole id class parts (operand (shape.0, length positions) v) 0 positions no_state before
   always_by id class shape (Some part) positions parts v = always_put m input whole id class (shape.0, 1) (parts ++ part ∷ []) v
 
   always_picked : (id class : ℕ) (parts : List Part) (v : ℕ) (p : Picked) → Always (put_picked id class parts v p)
@@ -162,3 +135,11 @@ module _ (m : Module) (input : Input) (whole : Sections) where
       by : (base : Base) → Always (pointed_from r shape base)
       by (Variable id class) = by_picked id class r.picked
       by (Loose id type) = always_given m input whole r
+
+  pub always_renewed : (shape : Shape) (r : Reached) → Always (to_renew shape r)
+  unfolding to_renew
+  always_renewed shape r = by (picks_several r.picked)
+    where
+      by : (several : Bool) → Always (if several then given r else pointed shape r)
+      by true = always_given m input whole r
+      by false = always_pointed shape r

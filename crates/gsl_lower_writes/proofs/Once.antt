@@ -1,16 +1,13 @@
 -- Positions that do not repeat.
 use Rattle.std.proofs.Common.{◌≡◌, ◌≢◌, refl, sym, ap, ◌∙◌, subst, ℕ, zero, suc, ◌+◌, ◌<◌, ◌≤◌, Bool, true, false, ◌||◌, if◌then◌else◌, List, [], ◌∷◌, map, set, length, Option, Some, None, arith}
 use Rattle.std.specs.Prelude.{nat_eq}
-use Rattle.std.specs.List.{AllByRecursion, list_any, range_with_len}
+use Rattle.std.specs.List.{AllByRecursion, list_any}
 use Rattle.std.proofs.lemmas.Bool.{eqb-true, true≢false}
 use Rattle.std.proofs.lemmas.List.{length-set}
 use Rattle.gsl_tree.specs.Paths.{repeats}
 use Rattle.gsl_meaning.specs.Accesses.{put_each}
-use Rattle.gsl_lower_values.specs.Constructors.{place_among}
-use Rattle.gsl_lower_law.specs.Operands.{new_or_old}
 use Rattle.gsl_lower_law_places.specs.Components.{AreWithin, chosen}
-use Rattle.gsl_lower_law_places.specs.Storing.{AreStored, goes_to}
-use Rattle.gsl_lower_law_components.proofs.Puts.{replaced_list}
+use Rattle.gsl_lower_law_places.specs.Storing.{AreStored, goes_to, set_each}
 
 or_parts : (a b : Bool) → (a || b) ≡ false → (a ≡ false) × (b ≡ false)
 or_parts true b e = absurd (true≢false e)
@@ -90,33 +87,13 @@ few (suc n) ps below once =
     let more = long_without n ps in
     omega (arith, less, more)
 
--- ---- words that are put at such positions
+-- ---- words that are put at positions
 
-set_past : (l : List ℕ) (i j a b : ℕ) → i ≢ j → set (set l i a) j b ≡ set (set l j b) i a
-set_past [] i j a b other = refl
-set_past (x ∷ l) zero zero a b other = absurd (other refl)
-set_past (x ∷ l) zero (suc j) a b other = refl
-set_past (x ∷ l) (suc i) zero a b other = refl
-set_past (x ∷ l) (suc i) (suc j) a b other = ap (λ t. x ∷ t) (set_past l i j a b (λ e. other (ap suc e)))
-
-put_past : (positions words old : List ℕ) (p w : ℕ) → list_any (λ q. nat_eq p q) positions ≡ false → put_each positions words (set old p w) ≡ set (put_each positions words old) p w
-put_past [] words old p w none = refl
-put_past (q ∷ positions) [] old p w none = refl
-put_past (q ∷ positions) (x ∷ words) old p w none =
-    let parts = or_parts (nat_eq p q) (list_any (λ q. nat_eq p q) positions) none in
-    ap (put_each positions words) (set_past old p q w x (not_same p q parts.0)) ∙ put_past positions words (set old q x) p w parts.1
-
--- each word stands at its position, and the others as they were
-pub put_replaces : (positions words old : List ℕ) → length positions ≡ length words → repeats positions ≡ false
-    → put_each positions words old ≡ map (λ position. new_or_old old words (place_among position positions 0) position) (range_with_len 0 (length old))
-put_replaces [] [] old long once = sym (replaced_list [] [] old long)
-put_replaces [] (w ∷ words) old long once = absurd (let z : 0 ≡ suc (length words) = long in omega (arith, z))
-put_replaces (p ∷ positions) [] old long once = absurd (let z : suc (length positions) ≡ 0 = long in omega (arith, z))
-put_replaces (p ∷ positions) (w ∷ words) old long once =
-    let parts = or_parts (list_any (λ q. nat_eq p q) positions) (repeats positions) once in
-    let less : length positions ≡ length words = (let z : suc (length positions) ≡ suc (length words) = long in omega (arith, z)) in
-    put_past positions words old p w parts.0 ∙ ap (λ l. set l p w) (put_replaces positions words old less parts.1 ∙ replaced_list positions words old less)
-    ∙ sym (replaced_list (p ∷ positions) (w ∷ words) old long)
+-- the shader puts them as the module does
+pub put_sets : (positions words old : List ℕ) → put_each positions words old ≡ set_each positions words old
+put_sets [] words old = refl
+put_sets (p ∷ positions) [] old = refl
+put_sets (p ∷ positions) (w ∷ words) old = put_sets positions words (set old p w)
 
 pub length_put : (positions words old : List ℕ) → length (put_each positions words old) ≡ length old
 length_put [] words old = refl
@@ -183,10 +160,3 @@ module _ (count : ℕ) (word : Option ℕ) (positions : List ℕ) (within : AreW
       by : (word : Option ℕ) → AreWithin count word positions → AllByRecursion (λ position. position < count) (goes_to word positions)
       by None within = within
       by (Some number) within = (within.0, tt)
-
-  pub goes_long : length (goes_to word positions) ≡ length positions
-  goes_long = by word within
-    where
-      by : (word : Option ℕ) → AreWithin count word positions → length (goes_to word positions) ≡ length positions
-      by None within = refl
-      by (Some number) within = let one = single positions within.1 once some in omega (arith, one)

@@ -21,7 +21,8 @@ use Rattle.gsl_meaning.specs.Running.{Strays}
 use Rattle.gsl_meaning.specs.State as shader
 use Rattle.gsl_machine.specs.State.{InVariable, Points, State}
 use Rattle.gsl_spv.specs.Sections.{Sections}
-use Rattle.gsl_lower_places.specs.Pointed.{pointed}
+use Rattle.gsl_lower_values.specs.Building.{given}
+use Rattle.gsl_lower_places.specs.Pointed.{picks_several, pointed, to_renew}
 use Rattle.gsl_lower_places.specs.Reached.{is_block_class}
 use Rattle.gsl_lower_places.specs.Reading.{pointer}
 use Rattle.gsl_lower_places.specs.Writing.{put_at, put_by, put_in, put_picked, stored}
@@ -46,7 +47,7 @@ use Rattle.gsl_lower_holders.specs.Flow as flow
 use Rattle.gsl_lower_holders.specs.Flow.{Flow, behind, find_type, id_at, lift, putting_here, type_by, type_id}
 use Rattle.gsl_lower_expr.specs.Parts.{store_block, store_by, store_composite, store_own, stores}
 use Rattle.gsl_lower_follows.specs.Frames.{Frame, Good, HeldAs}
-use Rattle.gsl_lower_follows.specs.Giving.{Does, none_waits}
+use Rattle.gsl_lower_follows.specs.Giving.{Adds, Does, none_waits}
 use Rattle.gsl_lower_follows.proofs.Doing.{does_then, strays_lift}
 use Rattle.gsl_lower_follows.proofs.Fetching.{adds_put}
 use Rattle.gsl_lower_follows.proofs.Growing.{adds_lift}
@@ -58,6 +59,7 @@ use Rattle.gsl_lower_reaching.proofs.Moving.{chooses_stand, numbers_stand}
 use Rattle.gsl_lower_reaching.proofs.Parts.{out_whole}
 use Rattle.gsl_lower_reaching.proofs.Seen.{HasValue, has_value}
 use Rattle.gsl_lower_reads.proofs.Adding.{always_pointer}
+use Rattle.gsl_lower_writes.proofs.Adding.{always_pointed}
 use Rattle.gsl_lower_writes.proofs.Once.{few, single}
 use Rattle.gsl_lower_writes.proofs.Stored.{at_variable}
 
@@ -227,3 +229,19 @@ module _ (m : Module) (input : Input) (sections : Sections) (f : Frame m input s
   pub pointed_strays : {R : Type 0} (shape : Shape) (units : ℕ) (b : Flow) (s : shader.State) (state : State) (r : Reached) (l : Trail) (Then : Reached → Flow → R → shader.State → State → Type 0)
       → Good m input sections f p around b s state → IsTrail m input sections f p around false loose b state r l → IsOutside p.structs true t l → Does m input sections f p 0 units state Then none_waits Strays (lift (pointed shape r) b)
   pointed_strays shape units b s state r l Then good is outside = strays_lift m input sections f p around units b s state Then none_waits (pointed shape r) good (variable_pointed b s state r l good is outside (at_variable m input sections f p around b state loose r l is (outside.named refl)) shape)
+
+  -- so does what is made ready to be read and stored, or what is read of it
+  pub renewed_strays : {A R : Type 0} (shape : Shape) (units : ℕ) (b : Flow) (s : shader.State) (state : State) (r : Reached) (l : Trail) (next : Reached → flow.Emit A) (Then : A → Flow → R → shader.State → State → Type 0)
+      → Good m input sections f p around b s state → IsTrail m input sections f p around false loose b state r l → IsOutside p.structs true t l → ((to : Reached) → Adds (next to)) → Does m input sections f p 0 units state Then none_waits Strays (next r b)
+      → Does m input sections f p 0 units state Then none_waits Strays (flow.◌>>=◌ (lift (to_renew shape r)) next b)
+  unfolding to_renew
+  renewed_strays {A} {R} shape units b s state r l next Then good is outside adds strays = by (picks_several r.picked)
+    where
+      by : (several : Bool) → Does m input sections f p 0 units state Then none_waits Strays (flow.◌>>=◌ (lift (if several then given r else pointed shape r)) next b)
+      by true = strays
+      by false =
+          does_then m input sections f p 0 units b state (λ (to : Reached) later (one : R) u last. ⊥) none_waits Then none_waits Strays (λ one u left. Strays) (lift (pointed shape r) b) next good.inside
+          (adds_lift (pointed shape r) (λ b. always_pointed m input sections shape r b.sections) b) adds
+          (pointed_strays shape units b s state r l (λ (to : Reached) later (one : R) u last. ⊥) good is outside)
+          (λ to between one u left mid within grown none less. absurd none)
+          (λ to between u left mid within grown none less. absurd none)

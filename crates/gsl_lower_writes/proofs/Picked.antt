@@ -11,23 +11,22 @@ use Rattle.gsl_tree.specs.Paths.{repeats}
 use Rattle.gsl_tree.specs.Shapes.{Shape}
 use Rattle.gsl_tree.specs.Values.{components_in, is_word_of, of_components, parts_in}
 use Rattle.gsl_meaning.specs.Accesses.{put_each, with_picked}
-use Rattle.gsl_lower_law.specs.Operands.{replaced_value}
 use Rattle.gsl_lower_law.specs.Values.{AreWords, IsOf}
 use Rattle.gsl_lower_law.proofs.Picking.{one_word}
 use Rattle.gsl_lower_law_constructors.proofs.Shares.{words_in}
 use Rattle.gsl_lower_law.proofs.Components.{components_of}
 use Rattle.gsl_lower_law_places.specs.Components.{chosen}
-use Rattle.gsl_lower_law_places.specs.Storing.{goes_to}
+use Rattle.gsl_lower_law_places.specs.Storing.{goes_to, with_components}
 use Rattle.gsl_lower_law_places.proofs.Kept.{component_new, put_on}
 use Rattle.gsl_lower_law_places.proofs.Variables.{parts_are, value_on}
 use Rattle.gsl_lower_reaching.specs.Trails.{ArePicked, Chosen, IsChosen, effective}
 use Rattle.gsl_lower_reaching.specs.Trails.ArePicked.{swizzled, component, repeated}
-use Rattle.gsl_lower_writes.proofs.Once.{all_put, goes_below, goes_long, goes_once, goes_there, length_put, no_twice, put_replaces}
+use Rattle.gsl_lower_writes.proofs.Once.{all_put, goes_below, goes_once, goes_there, length_put, no_twice, put_sets}
 
 -- what stands there behind the assignment
 abbrev pub renewed : Value → Option Chosen → Value → Value
 renewed there None v = v
-renewed there (Some c) v = replaced_value there (goes_to c.word c.positions) v
+renewed there (Some c) v = with_components there (goes_to c.word c.positions) v
 
 word_there : (ws : List ℕ) (k : ℕ) → k < length ws → slice_index_or (map Word ws) k (Word 0) ≡ Word (slice_index ws k)
 word_there [] k less = absurd (let z : k < 0 = less in omega (arith, z))
@@ -60,14 +59,10 @@ module _ (whole t : Ty) (numbers path : List ℕ) (c : Chosen) (picked : Option 
   unfolding goes
   once_there ks e = subst (λ ps. repeats ps ≡ false) (sym are_there ∙ e) (goes_once c.shape.1 c.word c.positions x.within once x.some)
 
-  long : length goes ≡ length (components_in v)
-  unfolding goes
-  long = goes_long c.shape.1 c.word c.positions x.within once x.some ∙ sym new.count ∙ sym (ap length (words_in v new))
-
   -- as the shader puts them
-  put_is : of_components (put_each goes (components_in v) (components_in there)) ≡ replaced_value there goes v
+  put_is : of_components (put_each goes (components_in v) (components_in there)) ≡ with_components there goes v
   unfolding goes
-  put_is = ap of_components (put_replaces goes (components_in v) (components_in there) long (goes_once c.shape.1 c.word c.positions x.within once x.some))
+  put_is = ap of_components (put_sets goes (components_in v) (components_in there))
 
   -- it is of the shape as before
   pub renewed_is : IsOf c.shape (renewed there (Some c) v)
@@ -86,8 +81,8 @@ module _ (whole t : Ty) (numbers path : List ℕ) (c : Chosen) (picked : Option 
     one_put k many one =
         let count : length c.positions ≡ 1 = sym (length-map c.positions (chosen c.word)) ∙ ap length one in
         put_on old numbers k v ∙ ap (λ w. with_value_at old numbers (Many (set (parts_in w) k v))) at
-        ∙ ap (with_value_at old numbers) (component_new c.shape there v k is (subst (λ n. IsOf (c.shape.0, n) v) count new) many (below_there (k ∷ []) one).0)
-        ∙ ap (λ ps. with_value_at old numbers (replaced_value there ps v)) (sym one ∙ are_there)
+        ∙ ap (with_value_at old numbers) (component_new c.shape there v k is (subst (λ n. IsOf (c.shape.0, n) v) count new) many)
+        ∙ ap (λ ps. with_value_at old numbers (with_components there ps v)) (sym one ∙ are_there)
 
     -- a swizzle of one component, which is that component
     one_again : (k : ℕ) (firsts : List ℕ) → 2 ≤ c.shape.1 → path ≡ numbers ++ k ∷ [] → picked ≡ Some firsts → AllByRecursion (λ first. first < 1) firsts → effective c ≡ map (λ first. k) firsts

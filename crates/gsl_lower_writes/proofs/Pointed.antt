@@ -1,6 +1,7 @@
 -- One pointer to where a trail leads serves what is read there and what is stored.
-use Rattle.std.proofs.Common.{◌≡◌, refl, sym, ap, ◌∙◌, subst, ℕ, ◌≤◌, Bool, true, false, [], ◌++◌, length, Option, Some, None}
+use Rattle.std.proofs.Common.{◌≡◌, refl, sym, ap, ◌∙◌, subst, ℕ, ◌≤◌, Bool, true, false, if◌then◌else◌, [], ◌∷◌, ◌++◌, length, Option, Some, None}
 use Rattle.std.specs.Prelude.{set, slice_get}
+use Rattle.std.proofs.lemmas.Bool.{true≢false}
 use Rattle.gsl_base.specs.declared.input.Input.{Input}
 use Rattle.gsl_types.specs.Known.{AreStructs, IsSound}
 use Rattle.gsl_types.specs.declared.ty.Ty.{Ty}
@@ -17,19 +18,27 @@ use Rattle.gsl_meaning.specs.State as shader
 use Rattle.gsl_machine.specs.Memory.{with_variable}
 use Rattle.gsl_machine.specs.State.{Ids, InVariable, State, on}
 use Rattle.gsl_spv.specs.Sections.{Sections}
-use Rattle.gsl_lower_places.specs.Pointed.{pointed}
+use Rattle.gsl_lower_values.specs.Building.{Step, given}
+use Rattle.gsl_lower_places.specs.Pointed.{picks_several, pointed, to_renew}
+use Rattle.gsl_lower_places.specs.Reached.{stored_shape}
 use Rattle.gsl_lower_places.specs.Reading.{read}
 use Rattle.gsl_lower_places.specs.Writing.{stored}
 use Rattle.gsl_lower_places.specs.declared.reached.Base.TheVariants.{Variable}
+use Rattle.gsl_lower_places.specs.declared.reached.Part.{Part}
 use Rattle.gsl_lower_places.specs.declared.reached.Picked.{Picked}
 use Rattle.gsl_lower_places.specs.declared.reached.Reached.{Reached}
 use Rattle.gsl_lower_law.specs.Computing.{Acts, Computes, drawing}
 use Rattle.gsl_lower_law.specs.Computing as law
+use Rattle.gsl_lower_law.specs.Operands.{converted_value}
 use Rattle.gsl_lower_law.specs.Values.{IsOf, Keeps, Stands}
-use Rattle.gsl_lower_law_places.specs.Components.{HoldsComponents, picks_of}
-use Rattle.gsl_lower_law_places.specs.Storing.{AreStored, Stores}
-use Rattle.gsl_lower_law_places.proofs.Kept.{lies_same}
+use Rattle.gsl_lower_law.proofs.Joining.{given_does}
+use Rattle.gsl_lower_law_places.specs.Components.{Chooses, HoldsComponents, Picks, picks_of}
+use Rattle.gsl_lower_law_places.specs.Leading.{NumberEach}
+use Rattle.gsl_lower_law_places.specs.Storing.{AreStored, Stores, goes_to, with_components}
+use Rattle.gsl_lower_law_places.proofs.Chains.{still_number}
+use Rattle.gsl_lower_law_places.proofs.Kept.{lies_same, variables_stored}
 use Rattle.gsl_lower_law_places.proofs.Loads.{loaded_computes}
+use Rattle.gsl_lower_law_places.proofs.Reading.{variables_read}
 use Rattle.gsl_lower_law_places.proofs.Stored.{Nothing, put_acts, stored_left}
 use Rattle.gsl_lower_law_places.proofs.Variables.{variable_components}
 use Rattle.gsl_lower_law_picks.specs.Serving.{IsAt, Serves}
@@ -118,30 +127,42 @@ module _ (m : Module) (input : Input) (sections : Sections) (f : Frame m input s
 
     -- ---- components
 
-    module _ (q : Picked) (c : Chosen) (is_shape : q.shape ≡ c.shape) (is_positions : q.positions ≡ c.positions) (chosen : l.picks ≡ Some c) (y : IsPicked inside.whole t (l.front ++ l.words) (Some c) a.path a.picked) (to : Reached) (ids : Ids)
-        (serves : Serves m input sections x.class q c.word (InVariable x.number l.words) to ids) (keeps : Keeps ids state.ids) where
+    module _ (q : Picked) (c : Chosen) (is_shape : q.shape ≡ c.shape) (is_positions : q.positions ≡ c.positions) (chosen : l.picks ≡ Some c) (y : IsPicked inside.whole t (l.front ++ l.words) (Some c) a.path a.picked) where
       place_of : IsOf q.shape place
       place_of = subst (λ s. IsOf s place) (sym is_shape) (part_shape m input sections f p around are loose t sound_t b s state r a l good x inside c y)
+
+      place_holds : HoldsComponents m input state (InVariable x.number l.words) place
+      place_holds = holds q.shape place_of
+
+      place_lies : IsOf (stored_shape x.class q.shape) place
+      place_lies = subst (λ lying. IsOf lying place) (sym (outside_blocks x.class q.shape x.outside)) place_of
 
       given_shape : (q.shape.0, length q.positions) ≡ shape
       given_shape = ap (λ (s : Shape). (s.0, length q.positions)) is_shape ∙ ap (λ ps. (c.shape.0, length ps)) is_positions ∙ some_same (sym y.gives ∙ shaped)
 
-      picked_read : Computes m input sections (means_read p.structs t a s, state.choices) state b.sections (read shape to)
-      picked_read =
+      -- what is picked of the place
+      abbrev IsRead : Reached → Type 0
+      IsRead to = Computes m input sections (picks_of (converted_value q.shape.0 place) c.word q.positions, state.choices) state b.sections (read (q.shape.0, length q.positions) to)
+
+      -- the place with other components
+      abbrev IsStored : Reached → ℕ → Value → Type 0
+      IsStored to value v = Acts m input sections Nothing (record { choices = state.choices; variables = set state.variables x.number (with_value_at was l.words (with_components place (goes_to c.word q.positions) v)); buffers = state.buffers }) state b.sections (stored (q.shape.0, length q.positions) to value)
+
+      picked_read : (to : Reached) → IsRead to → Computes m input sections (means_read p.structs t a s, state.choices) state b.sections (read shape to)
+      picked_read to reads =
           subst (λ s2. Computes m input sections (means_read p.structs t a s, state.choices) state b.sections (read s2 to)) given_shape
           (subst (λ w. Computes m input sections (w, state.choices) state b.sections (read (q.shape.0, length q.positions) to))
-          (ap (λ w. picks_of w c.word q.positions) (value_as_it_is q.shape place place_of) ∙ ap (picks_of place c.word) is_positions ∙ sym (read_picked c y))
-          (serves.reads state b.sections place keeps (holds q.shape place_of) (subst (λ lying. IsOf lying place) (sym (outside_blocks x.class q.shape x.outside)) place_of)))
+          (ap (λ w. picks_of w c.word q.positions) (value_as_it_is q.shape place place_of) ∙ ap (picks_of place c.word) is_positions ∙ sym (read_picked c y)) reads)
 
-      picked_stored : (value : ℕ) (v : Value) (typed : is_value_of p.structs t v ≡ true) → Stands state.ids value v
+      picked_stored : (to : Reached) (value : ℕ) (v : Value) (typed : is_value_of p.structs t v ≡ true) → (IsOf (q.shape.0, length q.positions) v → IsStored to value v)
           → Acts m input sections Nothing (stored_left m input sections state (set state.variables x.number (all m input sections f p around are loose t sound_t b s state r a l good x inside v typed)) state.buffers) state b.sections (stored shape to value)
       unfolding all new part
-      picked_stored value v typed stands =
+      picked_stored to value v typed stores =
           let of = new_shape m input sections f p around are loose t sound_t b s state r a l good x inside v typed shape shaped in
           subst (λ o. Acts m input sections Nothing (stored_left m input sections state (set state.variables x.number (with_value_at was l.words (renewed place o v))) state.buffers) state b.sections (stored shape to value)) (sym chosen)
           (subst (λ ps. Acts m input sections Nothing (stored_left m input sections state (set state.variables x.number (with_value_at was l.words (renewed place (Some (record c { positions = ps })) v))) state.buffers) state b.sections (stored shape to value)) is_positions
           (subst (λ s2. Acts m input sections Nothing (stored_left m input sections state (set state.variables x.number (with_value_at was l.words (renewed place (Some (record c { positions = q.positions })) v))) state.buffers) state b.sections (stored s2 to value)) given_shape
-          (serves.stores state b.sections x.number l.words was place v value keeps x.outside refl was_there refl place_of (subst (λ s2. IsOf s2 v) (sym given_shape) of) stands)))
+          (stores (subst (λ s2. IsOf s2 v) (sym given_shape) of))))
 
   whole_serves : (to : Reached) (ids : Ids) → IsAt x.class (InVariable x.number l.words) None to ids → l.picks ≡ None → inside.whole ≡ t → a.path ≡ l.front ++ l.words → a.picked ≡ None → ServesPlace to ids
   whole_serves to ids at none same path unpicked = record {
@@ -151,9 +172,12 @@ module _ (m : Module) (input : Input) (sections : Sections) (f : Frame m input s
 
   picked_serves : (q : Picked) (c : Chosen) → q.shape ≡ c.shape → q.positions ≡ c.positions → l.picks ≡ Some c → IsPicked inside.whole t (l.front ++ l.words) (Some c) a.path a.picked → (to : Reached) (ids : Ids)
       → Serves m input sections x.class q c.word (InVariable x.number l.words) to ids → ServesPlace to ids
+  unfolding part
   picked_serves q c is_shape is_positions chosen y to ids serves = record {
-    reads = λ b s state good keeps. picked_read b s state good q c is_shape is_positions chosen y to ids serves keeps;
-    stores = λ b s state value v typed good keeps stands. picked_stored b s state good q c is_shape is_positions chosen y to ids serves keeps value v typed stands;
+    reads = λ b s state good keeps. picked_read b s state good q c is_shape is_positions chosen y to
+        (serves.reads state b.sections (place b s state good) keeps (place_holds b s state good q c is_shape is_positions chosen y) (place_lies b s state good q c is_shape is_positions chosen y));
+    stores = λ b s state value v typed good keeps stands. picked_stored b s state good q c is_shape is_positions chosen y to value v typed
+        (λ of. serves.stores state b.sections x.number l.words (was b s state good) (place b s state good) v value keeps x.outside refl (was_there b s state good) refl (place_of b s state good q c is_shape is_positions chosen y) of stands);
   }
 
   -- a pointer to it serves, and nothing else has changed
@@ -166,24 +190,21 @@ module _ (m : Module) (input : Input) (sections : Sections) (f : Frame m input s
     abbrev to_place : Value
     to_place = part m input sections f p around are loose t sound_t b s state r a l good x inside
 
-    served : {Is : Reached → Ids → Type 0} → law.Does m input sections Is state.choices state b.sections (pointed shape r) → ((to : Reached) (ids : Ids) → Is to ids → ServesPlace to ids) → Does m input sections f p 0 units state (IsServed b s state) none_waits (Got tt s units) (lift (pointed shape r) b)
-    served {Is} does so =
-        does_lift m input sections f p around units b s state Is (drawing state state.choices) (IsServed b s state) none_waits tt s (pointed shape r) good does
+    served : {Is : Reached → Ids → Type 0} (step : Step Reached) → law.Does m input sections Is state.choices state b.sections step → ((to : Reached) (ids : Ids) → Is to ids → ServesPlace to ids) → Does m input sections f p 0 units state (IsServed b s state) none_waits (Got tt s units) (lift step b)
+    served {Is} step does so =
+        does_lift m input sections f p around units b s state Is (drawing state state.choices) (IsServed b s state) none_waits tt s step good does
         (λ to later q within extends. record { after = after_step m input sections f p around Is b s state to later good within q; still = refl; serves = so to q.ids q.is })
+
+    from_variable : (o : Option Picked) → r.picked ≡ o → r ≡ record { base = Variable x.id x.class; path = r.path; picked = o }
+    from_variable o e = ap (λ base. record r { base = base }) x.is ∙ ap (λ o. record r { base = Variable x.id x.class; picked = o }) e
 
     pub place_pointed : Does m input sections f p 0 units state (IsServed b s state) none_waits (Got tt s units) (lift (pointed shape r) b)
     unfolding pointed part
     place_pointed = by r.picked refl l.picks refl is.picks inside.picks
       where
-        it : Reached → Reached
-        it q = q
-
-        from_variable : (o : Option Picked) → r.picked ≡ o → r ≡ record { base = Variable x.id x.class; path = r.path; picked = o }
-        from_variable o e = ap (λ base. record r { base = base }) x.is ∙ ap (λ o. record r { base = Variable x.id x.class; picked = o }) e
-
         by : (o : Option Picked) → r.picked ≡ o → (c : Option Chosen) → l.picks ≡ c → PicksBy (λ id v. HeldAs m input sections f false id v b state) o c → IsPicked inside.whole t (l.front ++ l.words) c a.path a.picked → Does m input sections f p 0 units state (IsServed b s state) none_waits (Got tt s units) (lift (pointed shape r) b)
         by None e None g picks (same, path, unpicked) =
-            served {Is = λ to ids. IsAt x.class (InVariable x.number l.words) None to ids}
+            served {Is = λ to ids. IsAt x.class (InVariable x.number l.words) None to ids} (pointed shape r)
             (subst (λ q. law.Does m input sections (λ to ids. IsAt x.class (InVariable x.number l.words) None to ids) state.choices state b.sections (pointed shape q)) (sym (from_variable None e))
             (whole_pointed m input sections x.id x.class shape r.path l.words (InVariable x.number []) (InVariable x.number l.words) state b.sections (points m input sections f p around are loose t sound_t b s state r a l good x inside) (numbers_stand state.ids r.path l.words is.numbers)
             (leads m input sections f p around are loose t sound_t b s state r a l good x inside)))
@@ -193,7 +214,7 @@ module _ (m : Module) (input : Input) (sections : Sections) (f : Frame m input s
         by (Some q) e (Some c) g picks y =
             let alone = once m input sections f p around are loose t sound_t b s state r a l good x inside c g in
             let of : IsOf q.shape to_place = subst (λ s. IsOf s to_place) (sym picks.0) (part_shape m input sections f p around are loose t sound_t b s state r a l good x inside c y) in
-            served {Is = λ to ids. Serves m input sections x.class q c.word (InVariable x.number l.words) to ids}
+            served {Is = λ to ids. Serves m input sections x.class q c.word (InVariable x.number l.words) to ids} (pointed shape r)
             (subst (λ z. law.Does m input sections (λ to ids. Serves m input sections x.class q c.word (InVariable x.number l.words) to ids) state.choices state b.sections (pointed shape z)) (sym (from_variable (Some q) e))
             (pointed_serves m input sections x.id x.class r.path q c.word l.words (InVariable x.number []) (InVariable x.number l.words) to_place state b.sections (points m input sections f p around are loose t sound_t b s state r a l good x inside) (numbers_stand state.ids r.path l.words is.numbers)
             (leads m input sections f p around are loose t sound_t b s state r a l good x inside)
@@ -203,3 +224,53 @@ module _ (m : Module) (input : Input) (sections : Sections) (f : Frame m input s
             (subst (AreStored c.word) (sym picks.1) (are_stored c.shape.1 c.word c.positions y.within alone y.some))
             (subst (λ (shape : Shape). length q.positions ≤ shape.1) (sym picks.0) (subst (λ ps. length ps ≤ c.shape.1) (sym picks.1) (are_few c.shape.1 c.word c.positions y.within alone y.some))) shape))
             (λ to ids serves. picked_serves q c picks.0 picks.1 g y to ids serves)
+
+    -- ---- several components, which have no pointer
+
+    module _ (q : Picked) (c : Chosen) (picks : PicksBy (λ id v. HeldAs m input sections f false id v b state) (Some q) (Some c)) (y : IsPicked inside.whole t (l.front ++ l.words) (Some c) a.path a.picked) (later : Ids) (keeps : Keeps state.ids later) where
+      numbers_later : NumberEach later r.path l.words
+      numbers_later = still_number state.ids later keeps r.path l.words (numbers_stand state.ids r.path l.words is.numbers)
+
+      picks_later : Picks later q c.word
+      picks_later = let now = picks_stand m input sections f p around b state q c picks y.some y.within in record { by_word = chooses_later q.by c.word now.by_word; some = now.some; within = now.within }
+        where
+          chooses_later : (by : Option Part) (word : Option ℕ) → Chooses state.ids by word → Chooses later by word
+          chooses_later None None chooses = tt
+          chooses_later None (Some word) chooses = absurd chooses
+          chooses_later (Some part) None chooses = absurd chooses
+          chooses_later (Some part) (Some word) chooses = (still_number state.ids later keeps (part ∷ []) (word ∷ []) (chooses, tt)).0
+
+    own_serves : (q : Picked) (c : Chosen) → r.picked ≡ Some q → l.picks ≡ Some c → PicksBy (λ id v. HeldAs m input sections f false id v b state) (Some q) (Some c) → IsPicked inside.whole t (l.front ++ l.words) (Some c) a.path a.picked → ServesPlace r state.ids
+    unfolding part
+    own_serves q c e g picks y = record {
+      reads = λ b2 s2 state2 good2 keeps.
+          picked_read b2 s2 state2 good2 q c picks.0 picks.1 g y r
+          (subst (λ z. Computes m input sections (picks_of (converted_value q.shape.0 (place b2 s2 state2 good2)) c.word q.positions, state2.choices) state2 b2.sections (read (q.shape.0, length q.positions) z)) (sym (from_variable (Some q) e))
+          (variables_read m input sections x.id x.class r.path q l.words (InVariable x.number []) (InVariable x.number l.words) (place b2 s2 state2 good2) state2 b2.sections (points m input sections f p around are loose t sound_t b2 s2 state2 r a l good2 x inside)
+          (numbers_later q c picks y state2.ids keeps) (leads m input sections f p around are loose t sound_t b2 s2 state2 r a l good2 x inside) (place_holds b2 s2 state2 good2 q c picks.0 picks.1 g y) (place_lies b2 s2 state2 good2 q c picks.0 picks.1 g y)
+          (q.shape.0, length q.positions) c.word (picks_later q c picks y state2.ids keeps)));
+      stores = λ b2 s2 state2 value v typed good2 keeps stands.
+          let alone = once m input sections f p around are loose t sound_t b s state r a l good x inside c g in
+          picked_stored b2 s2 state2 good2 q c picks.0 picks.1 g y r value v typed
+          (λ of. subst (λ z. IsStored b2 s2 state2 good2 q c picks.0 picks.1 g y z value v) (sym (from_variable (Some q) e))
+          (variables_stored m input sections x.id x.class r.path q l.words (InVariable x.number []) x.number l.words (was b2 s2 state2 good2) (place b2 s2 state2 good2) v value state2 b2.sections x.outside (points m input sections f p around are loose t sound_t b2 s2 state2 r a l good2 x inside)
+          (numbers_later q c picks y state2.ids keeps) (leads m input sections f p around are loose t sound_t b2 s2 state2 r a l good2 x inside) (was_there b2 s2 state2 good2) refl (place_of b2 s2 state2 good2 q c picks.0 picks.1 g y) of stands
+          (q.shape.0, length q.positions) c.word (picks_later q c picks y state2.ids keeps)
+          (subst (AreStored c.word) (sym picks.1) (are_stored c.shape.1 c.word c.positions y.within alone y.some))
+          (subst (λ (shape : Shape). length q.positions ≤ shape.1) (sym picks.0) (subst (λ ps. length ps ≤ c.shape.1) (sym picks.1) (are_few c.shape.1 c.word c.positions y.within alone y.some)))));
+    }
+
+    -- what is made ready to be read and stored serves
+    pub place_renewed : Does m input sections f p 0 units state (IsServed b s state) none_waits (Got tt s units) (lift (to_renew shape r) b)
+    unfolding to_renew
+    place_renewed = by (picks_several r.picked) refl
+      where
+        as_it_is : (o : Option Picked) → r.picked ≡ o → picks_several o ≡ true → (c : Option Chosen) → l.picks ≡ c → PicksBy (λ id v. HeldAs m input sections f false id v b state) o c → IsPicked inside.whole t (l.front ++ l.words) c a.path a.picked
+            → Does m input sections f p 0 units state (IsServed b s state) none_waits (Got tt s units) (lift (given r) b)
+        as_it_is None e several c g picks y = absurd (true≢false (sym several))
+        as_it_is (Some q) e several None g picks y = absurd picks
+        as_it_is (Some q) e several (Some c) g picks y = served {Is = ServesPlace} (given r) (given_does m input sections ServesPlace r state b.sections (own_serves q c e g picks y)) (λ to ids serves. serves)
+
+        by : (several : Bool) → picks_several r.picked ≡ several → Does m input sections f p 0 units state (IsServed b s state) none_waits (Got tt s units) (lift (if several then given r else pointed shape r) b)
+        by true several = as_it_is r.picked refl several l.picks refl is.picks inside.picks
+        by false several = place_pointed

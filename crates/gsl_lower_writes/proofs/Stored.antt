@@ -26,11 +26,10 @@ use Rattle.gsl_lower_places.specs.declared.reached.Base.TheVariants.{Variable}
 use Rattle.gsl_lower_places.specs.declared.reached.Picked.{Picked}
 use Rattle.gsl_lower_places.specs.declared.reached.Reached.{Reached}
 use Rattle.gsl_lower_law.specs.Computing.{Acts, drawing}
-use Rattle.gsl_lower_law.specs.Operands.{replaced_value}
 use Rattle.gsl_lower_law.specs.Values.{IsOf, Stands}
 use Rattle.gsl_lower_law_places.specs.Components.{AreWithin, Picks}
 use Rattle.gsl_lower_law_places.specs.Leading.{LeadsTo}
-use Rattle.gsl_lower_law_places.specs.Storing.{AreStored, Stores, goes_to}
+use Rattle.gsl_lower_law_places.specs.Storing.{AreStored, Stores, goes_to, with_components}
 use Rattle.gsl_lower_law_places.proofs.Chains.{pointer_does}
 use Rattle.gsl_lower_law_places.proofs.Kept.{lies_same, variables_stored}
 use Rattle.gsl_lower_law_places.proofs.Stored.{Nothing, put_acts, store_acts, stored_left}
@@ -118,7 +117,7 @@ module _ (m : Module) (input : Input) (sections : Sections) (f : Frame m input s
           let of = new_shape m input sections f p around are loose t sound_t b s state r a l good x inside v typed (c.shape.0, length c.positions) y.gives in
           let was_of = part_shape m input sections f p around are loose t sound_t b s state r a l good x inside c y in
           let alone = once m input sections f p around are loose t sound_t b s state r a l good x inside c e in
-          subst (λ ps. Acts m input sections Nothing (stored_left m input sections state (Having (replaced_value place (goes_to c.word ps) v)) state.buffers) state b.sections (put_in (Variable x.id x.class) r.path shape value (Some q))) picks.1
+          subst (λ ps. Acts m input sections Nothing (stored_left m input sections state (Having (with_components place (goes_to c.word ps) v)) state.buffers) state b.sections (put_in (Variable x.id x.class) r.path shape value (Some q))) picks.1
           (variables_stored m input sections x.id x.class r.path q l.words (InVariable x.number []) x.number l.words was place v value state b.sections x.outside it_points (numbers_stand state.ids r.path l.words is.numbers) it_leads was_there refl
           (subst (λ s. IsOf s place) (sym picks.0) was_of)
           (subst (λ (shape : Shape). IsOf (shape.0, length q.positions) v) (sym picks.0) (subst (λ ps. IsOf (c.shape.0, length ps) v) (sym picks.1) of)) stands shape c.word (picks_stand b state q c picks y.some y.within)

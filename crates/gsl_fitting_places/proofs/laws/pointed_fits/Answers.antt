@@ -1,4 +1,4 @@
-use Rattle.gsl_fitting_places.proofs.Pointing.{pointed_comes, pointed_sorts, updates_come}
+use Rattle.gsl_fitting_places.proofs.Pointing.{pointed_comes, pointed_sorts}
 use Rattle.gsl_fitting_places.proofs.laws.pointed_fits.Goals as goal
 
 pub returns-clause-sorts : goal.returns-clause-sorts
@@ -6,6 +6,3 @@ returns-clause-sorts c = pointed_sorts
 
 pub returns-clause-comes : goal.returns-clause-comes
 returns-clause-comes c = pointed_comes
-
-pub returns-clause-updates : goal.returns-clause-updates
-returns-clause-updates c = updates_come
