@@ -1,11 +1,11 @@
 #!/usr/bin/env python3
-"""driver.py CASES WANTED HOST: runs the compute shaders of the cases in CASES through glslang and a Vulkan device, and compares the buffers
-with the listings in WANTED. HOST is the program of vulkan_host.c. The one invocation that a case runs is picked by a `main` that stands in front of
-the shader's own, so that cases with many invocations can be compared too; and private variables without an initialiser are given zeros.
+"""driver.py CASES WANTED HOST [GSL]: runs the compute shaders of the cases in CASES on a Vulkan device, compiled by glslang or by the program GSL, and compares the
+buffers with the listings in WANTED. HOST is the program of vulkan_host.c. The one invocation that a case runs is picked by a `main` that stands in front of
+the shader's own, so that cases with many invocations can be compared too; and for glslang private variables without an initialiser are given zeros.
 
 Left out are the shaders of other stages; those of which nothing is listed (a fault, an index out of bounds, a budget that is spent); and those that draw
 choices, which are the cases with `given choice`: a device chooses for itself there. KNOWN has the cases in which glslang or the device are known to give
-other words, each with the reason. The status is 1 where another case differs, or one of those does not."""
+other words, each with the reason, and OURS those of them in which the device does for a module of GSL too. The status is 1 where another case differs, or one of those does not."""
 import os
 import re
 import struct
@@ -13,9 +13,12 @@ import subprocess
 import sys
 import tempfile
 
+from cases import listed, read_both
+
 LATE_VALUE = "glslang reads an argument that is a variable behind all arguments, and not in its turn"
 LATE_READ = "glslang reads the old value of `op=` behind the right side"
 NO_ZEROS = "glslang leaves open what is zeros here: variables whose declaration has no initialiser or did not run, and `out` parameters"
+OURS = {"a loop without a test, and one without a header": "Mesa 22.3.6 forgets what the first of the two loops put into the buffer"}
 KNOWN = {
     "op= reads the old value before its right side": LATE_READ,
     "op= keeps the value that its right side overwrites": LATE_READ,
@@ -31,7 +34,7 @@ KNOWN = {
     "a constant belongs to its source, a block to all": "glslang refuses two constants of one name in two sources",
     "quotients go toward 0, and a rest has the sign of its divisor": "glslang gives the rest of two constants the sign of the dividend",
     "a word of a bool that is not 0 is true, and is stored as 1": "glslang compares and copies structs in blocks word by word",
-    "a loop without a test, and one without a header": "Mesa 22.3.6 forgets what the first of the two loops put into the buffer",
+    **OURS,
 }
 
 WRAPPER = """
@@ -41,87 +44,6 @@ void main() {
   if (gl_WorkGroupID == uvec3(%d, %d, %d) && gl_LocalInvocationID == uvec3(%d, %d, %d)) shader_main();
 }
 """
-
-
-def hex_bytes(text):
-    out = b""
-    for word in text.split():
-        out += struct.pack("<I", int(word, 16)) if len(word) == 8 else bytes([int(word, 16)])
-    return out
-
-
-class Case:
-    def __init__(self, stage, title):
-        self.stage, self.title, self.sources, self.buffers = stage, title, [], {}
-        self.push, self.given = None, {}
-
-    def begin(self, size="layout(local_size_x = 1) in;"):
-        self.sources.append("#version 450\n" + (size + "\n" if self.stage == "comp" else ""))
-
-    def put(self, line):
-        if not self.sources:
-            self.begin()
-        self.sources[-1] += line + "\n"
-
-    def take(self, word, rest):
-        if word == "|":
-            self.put(rest)
-        elif word == "members":
-            self.put("layout(set = 0, binding = 0, std430) buffer B { %s };" % rest)
-        elif word == "main":
-            self.put("void main() { %s }" % rest)
-        elif word == "unit":
-            self.begin()
-        elif word == "size":
-            x, y, z = (rest.split() + ["1", "1"])[:3]
-            self.begin("layout(local_size_x = %s, local_size_y = %s, local_size_z = %s) in;" % (x, y, z))
-        elif word == "buffer":
-            number, binding, digits = (rest.split(" ", 2) + [""])[:3]
-            self.buffers[int(number), int(binding)] = hex_bytes(digits)
-        elif word == "push":
-            self.push = hex_bytes(rest)
-        elif word == "given":
-            self.given[rest.split()[0]] = rest.split()[1:]
-
-    def three(self, word, default):
-        return tuple(int(n, 0) for n in self.given.get(word, [default] * 3))
-
-
-def read_cases(path):
-    cases = []
-    for line in open(path).read().split("\n"):
-        word, _, rest = line.partition(" ")
-        if word in ("comp", "vert", "frag"):
-            cases.append(Case(word, rest))
-        elif cases:
-            cases[-1].take(word, rest)
-    return cases
-
-
-def read_wanted(path):
-    """The lines of each case by its title, in their order."""
-    wanted = []
-    for line in open(path).read().split("\n"):
-        if line.startswith("case "):
-            wanted.append((line[5:], []))
-        elif line:
-            wanted[-1][1].append(line)
-    return wanted
-
-
-def listed(lines):
-    """The buffers that a listing shows, or None where it is none."""
-    buffers, now = {}, None
-    for line in lines:
-        word, _, rest = line.partition(" ")
-        if word == "buffer":
-            now = tuple(int(n) for n in rest.split())
-            buffers[now] = b""
-        elif word == "bytes" or re.fullmatch("[0-9a-f]{8}", word):
-            buffers[now] += hex_bytes(rest if word == "bytes" else line)
-        else:
-            return None
-    return buffers
 
 
 def places(module):
@@ -144,21 +66,27 @@ def places(module):
     return found
 
 
-def compiled(case, folder):
-    """The module that glslang makes of the case, or why there is none."""
+def picked(case, given_zeros):
+    """The sources of a case with the `main` that picks its invocation; and with zeros for the private variables that have no initialiser, where they are to be given."""
     group, local = case.three("group", "0"), case.three("local", "0")
-    names, begun = [], re.findall(r"(?m)^int (\w+) =", "".join(case.sources))
-    for number, source in enumerate(case.sources):
-        name = os.path.join(folder, "%d.comp" % number)
+    texts, begun = [], re.findall(r"(?m)^int (\w+) =", "".join(case.sources))
+    for source in case.sources:
         head, _, rest = source.partition("\n")
-        rest = re.sub(r"(?m)^int (\w+);$", lambda m: m[0] if m[1] in begun else "int %s = 0;" % m[1], rest)
-        text = head + "\n#define main shader_main\n" + rest
-        if number == 0:
-            text += WRAPPER % (group + local)
-        open(name, "w").write(text)
-        names.append(name)
-    out = os.path.join(folder, "out.spv")
-    done = subprocess.run(["glslangValidator", "-V", "--target-env", "vulkan1.0", "-o", out] + names, stdout=subprocess.PIPE, stderr=subprocess.STDOUT, text=True)
+        if given_zeros:
+            rest = re.sub(r"(?m)^int (\w+);$", lambda m: m[0] if m[1] in begun else "int %s = 0;" % m[1], rest)
+        texts.append(head + "\n#define main shader_main\n" + rest)
+    texts[0] += WRAPPER % (group + local)
+    return texts
+
+
+def compiled(case, folder, gsl):
+    """The module that glslang or GSL makes of the case, or why there is none."""
+    names, out = [], os.path.join(folder, "out.spv")
+    for number, text in enumerate(picked(case, not gsl)):
+        names.append(os.path.join(folder, "%d.comp" % number))
+        open(names[-1], "w").write(text)
+    words = [gsl, "compile", "comp", out] if gsl else ["glslangValidator", "-V", "--target-env", "vulkan1.0", "-o", out]
+    done = subprocess.run(words + names, stdout=subprocess.PIPE, stderr=subprocess.STDOUT, text=True)
     if done.returncode != 0:
         return None, " ".join(line for line in done.stdout.split("\n") if "ERROR" in line)[:300]
     return out, ""
@@ -206,12 +134,12 @@ def shown(buffers):
     return "; ".join("%d %d: %s" % (*place, got.hex(" ", 4)) for place, got in sorted(buffers.items()))
 
 
-def compare(case, wanted, host):
+def compare(case, wanted, host, gsl):
     """What became of a case: the same, other words, no module, or no end."""
     with tempfile.TemporaryDirectory() as folder:
-        module, why = compiled(case, folder)
+        module, why = compiled(case, folder, gsl)
         if module is None:
-            return "glslang refuses it", why
+            return "it is refused", why
         got, why = on_device(case, module, host, folder)
     if got is None:
         return "the device failed", why
@@ -220,20 +148,18 @@ def compare(case, wanted, host):
     return "other words", "\n  wanted %s\n  device %s" % (shown(wanted), shown(got))
 
 
-def main(cases, wanted, host):
+def main(cases, wanted, host, gsl=None):
     counts, news = {}, 0
-    cases, wanted = read_cases(cases), read_wanted(wanted)
-    if [c.title for c in cases] != [title for title, _ in wanted]:
-        sys.exit("driver.py: the cases are not those of the listings")
-    for case, (title, lines) in zip(cases, wanted):
+    known = OURS if gsl else KNOWN
+    for case, lines in read_both(cases, wanted):
         buffers = listed(lines)
         what = left_out(case, buffers)
         if what is None:
-            what, why = compare(case, buffers, host)
-            if (what != "the same words") != (title in KNOWN):
+            what, why = compare(case, buffers, host, gsl)
+            if (what != "the same words") != (case.title in known):
                 news += 1
-                print("%s: %s: %s" % (title, what, why))
-            if title in KNOWN:
+                print("%s: %s: %s" % (case.title, what, why))
+            if case.title in known:
                 what += ", as is known"
         else:
             what = "left out: " + what
@@ -244,4 +170,4 @@ def main(cases, wanted, host):
 
 
 if __name__ == "__main__":
-    sys.exit(main(*sys.argv[1:4]))
+    sys.exit(main(*sys.argv[1:5]))

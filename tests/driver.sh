@@ -1,5 +1,5 @@
 #!/usr/bin/env bash
-# Runs the compute shaders of the cases of `gsl_reference` through glslang and Mesa's software Vulkan driver, where they are installed, and compares the
+# Runs the compute shaders of the cases of `gsl_reference` on Mesa's software Vulkan driver, compiled by glslang and then by the program, where all are installed, and compares the
 # words of their buffers with those of the cases.
 set -eu
 top=$(cd "$(dirname "$0")/.." && pwd)
@@ -12,4 +12,8 @@ made=$(mktemp -d)
 trap 'rm -rf "$made"' EXIT
 cc -O1 -Wall -o "$made/host" "$top/tests/vulkan_host.c" -lvulkan
 reference="$top/crates/gsl_reference"
-VK_ICD_FILENAMES=$driver VK_DRIVER_FILES=$driver python3 "$top/tests/driver.py" "$reference/data/reference.cases" "$reference/stdout" "$made/host"
+export VK_ICD_FILENAMES=$driver VK_DRIVER_FILES=$driver
+for compiler in "" "${1-$top/gsl}"; do
+  echo "compiled by $(basename "${compiler:-glslang}"):"
+  python3 "$top/tests/driver.py" "$reference/data/reference.cases" "$reference/stdout" "$made/host" ${compiler:+"$compiler"}
+done
