@@ -77,12 +77,15 @@ def read_cases(path):
 
 
 def read_wanted(path):
-    """The lines of each case by its title, in their order."""
-    wanted = []
+    """The lines of each case by its title, in their order, without those of its module where that gives something else: they stand behind `run`."""
+    wanted, of_shader = [], True
     for line in open(path).read().split("\n"):
         if line.startswith("case "):
             wanted.append((line[5:], []))
-        elif line:
+            of_shader = True
+        elif line == "run":
+            of_shader = False
+        elif line and of_shader:
             wanted[-1][1].append(line)
     return wanted
 
