@@ -117,10 +117,22 @@ fn each_command_has_its_operands(rt: HostRuntime) -> Result<(), Fail> {
 /// Lines with options or `--`, and the commands that they are.
 const DASHES: &[(&str, &str)] = &[
     ("compile -- comp -o -f", "compile comp -o -f"),
-    ("compile --target 1.3 comp o.spv a.comp", "compile 1.3 comp o.spv a.comp"),
-    ("compile comp --target=1.3 o.spv a.comp", "compile 1.3 comp o.spv a.comp"),
-    ("compile comp o.spv a.comp --target 1.0", "compile comp o.spv a.comp"),
-    ("compile comp o.spv -- --target 1.3", "compile comp o.spv --target 1.3"),
+    (
+        "compile --target 1.3 comp o.spv a.comp",
+        "compile 1.3 comp o.spv a.comp",
+    ),
+    (
+        "compile comp --target=1.3 o.spv a.comp",
+        "compile 1.3 comp o.spv a.comp",
+    ),
+    (
+        "compile comp o.spv a.comp --target 1.0",
+        "compile comp o.spv a.comp",
+    ),
+    (
+        "compile comp o.spv -- --target 1.3",
+        "compile comp o.spv --target 1.3",
+    ),
     ("compile comp o.spv -- -f", "compile comp o.spv -f"),
     ("dis -- -- o.txt", "dis -- o.txt"),
     ("asm m.txt o.spv --", "asm m.txt o.spv"),
