@@ -1,3 +1,4 @@
+pub mod Aimed
 pub mod Planned
 pub mod Understood
 pub mod Walked

@@ -17,13 +17,13 @@ use Rattle.clap.specs.declared.parser.matches.ArgMatches.{ArgMatches}
 use Rattle.clap.specs.declared.parser.matches.Found.{Found}
 use Rattle.clap.proofs.OnLiterals.{clap_on_literals}
 use Rattle.clap.proofs.WalkLemmas.{raw_values-rows}
-use Rattle.gsl_plan.specs.Plan.{Name, Plan, given, named, no_plan, operands, plan_in, plan_of}
+use Rattle.gsl_plan.specs.Plan.{Arguments, Name, Plan, arguments, given, named, no_plan, plan_in, plan_of}
 use Rattle.gsl_plan.specs.declared.command.Command.{Command}
 use Rattle.gsl_base.specs.declared.memory.Memory.{Memory}
 use Rattle.std.proofs.lemmas.Result.{IfOk-weaker}
-use Rattle.gsl_plan.specs.Found.{found_in, grammar, operands_in, taken}
+use Rattle.gsl_plan.specs.Found.{arguments_in, found_in, grammar, operands_in, taken}
 use Rattle.gsl_plan.proofs.Understood.{Understands, understood}
-use Rattle.gsl_plan.proofs.Walked.{fails, given_rows}
+use Rattle.gsl_plan.proofs.Walked.{fails}
 
 simple : is_simple grammar ≡ true
 unfolding clap_on_literals
@@ -33,17 +33,12 @@ simple_and_free : is_simple_and_free grammar ≡ true
 unfolding clap_on_literals
 simple_and_free = refl
 
-given_back : (given : List Name) → operands_in (given_rows given) ≡ given
-given_back [] = refl
-given_back (x ∷ xs) = refl
-
-found_is : (o : Option (Name × List Name)) (kinds : Kinds) (sub : Option (Text × List Row)) (m : ArgMatches) → Understands o kinds sub → kinds ≡ [] → subcommand_rows_of m ≡ sub
+found_is : (o : Option (Name × Arguments)) (kinds : Kinds) (sub : Option (Text × List Row)) (m : ArgMatches) → Understands o kinds sub → kinds ≡ [] → subcommand_rows_of m ≡ sub
     → found_in m ≡ o
 found_is None kinds sub m is none met = absurd (true≢false (sym is ∙ ap fails none))
-found_is (Some p) kinds sub m is none met =
-    ap (option_map (λ (q : Text × List Row). (q.0, operands_in q.1))) (met ∙ is.1) ∙ ap (λ given. Some (p.0, given)) (given_back p.1)
+found_is (Some p) kinds sub m is none met = ap (option_map (λ (q : Text × List Row). (q.0, arguments_in q.1))) met ∙ is.1
 
-refused_is : (o : Option (Name × List Name)) (kinds : Kinds) (sub : Option (Text × List Row)) (e : Error) → Understands o kinds sub → HasKind kinds e
+refused_is : (o : Option (Name × Arguments)) (kinds : Kinds) (sub : Option (Text × List Row)) (e : Error) → Understands o kinds sub → HasKind kinds e
     → (kind_of e ≡ OutOfMemory) ⊎ (o ≡ None)
 refused_is o kinds sub e is (inl memory) = inl memory
 refused_is None kinds sub e is (inr among) = inr refl
@@ -77,8 +72,8 @@ operands_are f o is = ap (λ (x : Option (List Name)). unwrap_or x []) (is ∙ r
 turned : (known word : Name) → bytes_eq word known ≡ bytes_eq known word
 turned known word = one_answer _ _ (bytes_eq-Decides word known) (λ is. sym ((bytes_eq-Decides known word).0 is), λ is. (bytes_eq-Decides known word).1 (sym is))
 
-abbrev pub planned : Option (Name × List Name) → Option Plan
-planned = option_and_then (λ p. named p.0 p.1)
+abbrev pub planned : Option (Name × Arguments) → Option Plan
+planned = option_and_then (λ p. named p.0 p.1.0 p.1.1)
 
 pub planned_is : (words : List Name) → planned (taken words) ≡ plan_of words
 planned_is [] = refl
@@ -87,31 +82,31 @@ planned_is (name ∷ command ∷ words) =
     go (bytes_eq (codes "compile") command) (bytes_eq (codes "dis") command) (bytes_eq (codes "asm") command) (bytes_eq (codes "check") command)
     (bytes_eq (codes "exec") command) (bytes_eq (codes "run") command) refl refl refl refl refl refl
   where
-    each : (o : Option (List Name)) → planned (option_map (λ more. (command, more)) o) ≡ given o (named command)
+    each : (o : Option Arguments) → planned (option_map (λ p. (command, p)) o) ≡ given o (named command)
     each None = refl
-    each (Some more) = refl
+    each (Some p) = refl
 
-    no_other : (o : Option (List Name)) → ((more : List Name) → named command more ≡ None) → None ≡ given o (named command)
+    no_other : (o : Option Arguments) → ((value : Option Name) (more : List Name) → named command value more ≡ None) → None ≡ given o (named command)
     no_other None none = refl
-    no_other (Some more) none = sym (none more)
+    no_other (Some p) none = sym (none p.0 p.1)
 
     not_named : (known : Name) → bytes_eq known command ≡ false → bytes_eq command known ≡ false
     not_named known is = turned known command ∙ is
 
     go : (c d a k x r : Bool) → bytes_eq (codes "compile") command ≡ c → bytes_eq (codes "dis") command ≡ d → bytes_eq (codes "asm") command ≡ a
         → bytes_eq (codes "check") command ≡ k → bytes_eq (codes "exec") command ≡ x → bytes_eq (codes "run") command ≡ r → planned (taken (name ∷ command ∷ words)) ≡ plan_of (name ∷ command ∷ words)
-    go true d a k x r is_c is_d is_a is_k is_x is_r = rw is_c (each (operands words))
-    go false true a k x r is_c is_d is_a is_k is_x is_r = rw (is_c, is_d) (each (operands words))
-    go false false true k x r is_c is_d is_a is_k is_x is_r = rw (is_c, is_d, is_a) (each (operands words))
-    go false false false true x r is_c is_d is_a is_k is_x is_r = rw (is_c, is_d, is_a, is_k) (each (operands words))
-    go false false false false true r is_c is_d is_a is_k is_x is_r = rw (is_c, is_d, is_a, is_k, is_x) (each (operands words))
-    go false false false false false true is_c is_d is_a is_k is_x is_r = rw (is_c, is_d, is_a, is_k, is_x, is_r) (each (operands words))
+    go true d a k x r is_c is_d is_a is_k is_x is_r = rw is_c (each (arguments command words))
+    go false true a k x r is_c is_d is_a is_k is_x is_r = rw (is_c, is_d) (each (arguments command words))
+    go false false true k x r is_c is_d is_a is_k is_x is_r = rw (is_c, is_d, is_a) (each (arguments command words))
+    go false false false true x r is_c is_d is_a is_k is_x is_r = rw (is_c, is_d, is_a, is_k) (each (arguments command words))
+    go false false false false true r is_c is_d is_a is_k is_x is_r = rw (is_c, is_d, is_a, is_k, is_x) (each (arguments command words))
+    go false false false false false true is_c is_d is_a is_k is_x is_r = rw (is_c, is_d, is_a, is_k, is_x, is_r) (each (arguments command words))
     go false false false false false false is_c is_d is_a is_k is_x is_r =
-        rw (is_c, is_d, is_a, is_k, is_x, is_r) (no_other (operands words) (λ more.
+        rw (is_c, is_d, is_a, is_k, is_x, is_r) (no_other (arguments command words) (λ value more.
         rw (not_named (codes "compile") is_c, not_named (codes "dis") is_d, not_named (codes "asm") is_a, not_named (codes "check") is_k, not_named (codes "exec") is_x, not_named (codes "run") is_r)
         refl))
 
-pub found_plan : (words : List Name) (r : Result Command Memory) (o : Option (Name × List Name)) → o ≡ taken words → IfOk r (λ found. plan_in found ≡ planned o)
+pub found_plan : (words : List Name) (r : Result Command Memory) (o : Option (Name × Arguments)) → o ≡ taken words → IfOk r (λ found. plan_in found ≡ planned o)
     → IfOk r (λ found. plan_in found ≡ plan_of words)
 found_plan words r o is made = IfOk-weaker r _ _ (λ found here. here ∙ ap planned is ∙ planned_is words) made
 

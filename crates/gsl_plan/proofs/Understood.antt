@@ -6,14 +6,15 @@ use Rattle.std.specs.Str.{IsUtf8, bytes_eq}
 use Rattle.std.proofs.lemmas.Slice.Eq.{bytes_eq-Decides}
 use Rattle.clap.specs.Kinds.{Kinds, or_else}
 use Rattle.clap.specs.Faults.{check_fault, defaults_fault, entered_fault, fault_of, level_fault, settle_fault, turn_fault, walk_fault, word_fault}
-use Rattle.clap.specs.Simple.{App, built, entered, label_of, names_of, subcommand_of}
+use Rattle.clap.specs.Simple.{App, Shape, built, entered, label_of, names_of, subcommand_of}
 use Rattle.clap.specs.Walk.{Names, Row, Text, Walk, answers_to, finished, idle, nothing_held, rows_after, settled, subcommand_met, walk, walk_from, walked}
 use Rattle.clap.proofs.FaultLemmas.{stopped_fault}
 use Rattle.clap.proofs.WalkLemmas.{walk_stopped}
 use Rattle.clap.proofs.OnLiterals.{clap_on_literals}
-use Rattle.gsl_plan.specs.Plan.{Name, is_option, operands}
-use Rattle.gsl_plan.specs.Found.{grammar, taken}
-use Rattle.gsl_plan.proofs.Walked.{Gives, KnowsHelp, fails, first_fails, given_rows, known, level_gives, no_flag, option_fails, rules, shape}
+use Rattle.gsl_plan.specs.Plan.{Arguments, Name, aimed, is_option, operands}
+use Rattle.gsl_plan.specs.Found.{arguments_in, grammar, taken}
+use Rattle.gsl_plan.proofs.Aimed.{Gives, aiming_gives, aiming_shape}
+use Rattle.gsl_plan.proofs.Walked.{GivesOperands, KnowsHelp, fails, first_fails, given_rows, known, level_gives, no_flag, option_fails, rules, shape}
 
 abbrev app : App
 app = built grammar
@@ -24,10 +25,10 @@ names = names_of app
 knows_help : KnowsHelp app.top.rules
 knows_help = (λ name. known (bytes_eq (codes "help") name), λ x. known (104 == x))
 
--- the words fail where they are no command, and are entered with its operands else
-abbrev pub Understands : Option (Name × List Name) → Kinds → Option (Text × List Row) → Type 0
+-- the words fail where they are no command, and are entered with its arguments else
+abbrev pub Understands : Option (Name × Arguments) → Kinds → Option (Text × List Row) → Type 0
 Understands None kinds sub = fails kinds ≡ true
-Understands (Some p) kinds sub = (kinds ≡ []) × (sub ≡ Some (p.0, given_rows p.1))
+Understands (Some p) kinds sub = (kinds ≡ []) × (option_map (λ q. (q.0, arguments_in q.1)) sub ≡ Some p)
 
 abbrev start : Walk
 start = walk_from nothing_held
@@ -44,7 +45,7 @@ whole_is name words = refl
 -- ---- a command
 
 module _ (command : Name) (met : subcommand_met names idle command ≡ Some command) (is_help : bytes_eq command (codes "help") ≡ false)
-    (enters : find (λ s. answers_to command (label_of s)) app.subs ≡ Some (shape command)) where
+    (s : Shape) (is_named : s.name ≡ command) (enters : find (λ s. answers_to command (label_of s)) app.subs ≡ Some s) where
   entered_walk : (words : List Name) → walk app.top.rules names nothing_held (command ∷ words) ≡ record start { stopped = Some (command, words) }
   unfolding walked
   entered_walk words = ap (λ (w : Walk). fold (walked app.top.rules names) w words) met_walk ∙ sym (walk_stopped app.top.rules names start command [] words)
@@ -56,27 +57,36 @@ module _ (command : Name) (met : subcommand_met names idle command ≡ Some comm
   unfolding walk_fault walked
   entered_well words = rw (met, is_help) (stopped_fault app.top names start (command, []) words)
 
-  below : (words : List Name) → whole [] (record start { stopped = Some (command, words) }) ≡ or_else (level_fault (shape command) [] nothing_held words false []) []
+  below : (words : List Name) → whole [] (record start { stopped = Some (command, words) }) ≡ or_else (level_fault s [] nothing_held words false []) []
   unfolding defaults_fault
   below words = rw enters refl
 
-  fault_is : (name : Name) (words : List Name) → fault_of grammar (name ∷ command ∷ words) ≡ or_else (level_fault (shape command) [] nothing_held words false []) []
+  fault_is : (name : Name) (words : List Name) → fault_of grammar (name ∷ command ∷ words) ≡ or_else (level_fault s [] nothing_held words false []) []
   fault_is name words = ap₂ whole (entered_well words) (entered_walk words) ∙ below words
 
-  subcommand_is : (name : Name) (words : List Name) → subcommand_of grammar (name ∷ command ∷ words) ≡ Some (command, rows_after rules [] words)
+  subcommand_is : (name : Name) (words : List Name) → subcommand_of grammar (name ∷ command ∷ words) ≡ Some (s.name, rows_after s.rules [] words)
   subcommand_is name words = ap (λ (w : Walk). entered app w.stopped) (entered_walk words) ∙ rw enters refl
 
-  enters_with : (name : Name) (words : List Name) → All IsUtf8 words
-      → Understands (option_map (λ more. (command, more)) (operands words)) (fault_of grammar (name ∷ command ∷ words)) (subcommand_of grammar (name ∷ command ∷ words))
-  enters_with name words utf8 = go (operands words) (level_gives command words utf8)
-    where
-      go : (o : Option (List Name)) → Gives o (level_fault (shape command) [] nothing_held words false []) (rows_after rules [] words)
-          → Understands (option_map (λ more. (command, more)) o) (fault_of grammar (name ∷ command ∷ words)) (subcommand_of grammar (name ∷ command ∷ words))
-      go None is = ap fails (fault_is name words) ∙ first_fails _ _ is
-      go (Some given) is = (
-        fault_is name words ∙ ap (λ kinds. or_else kinds []) is.0,
-        subcommand_is name words ∙ ap (λ rows. Some (command, rows)) is.1,
-      )
+  enters_with : (name : Name) (words : List Name) (o : Option Arguments) → Gives o (level_fault s [] nothing_held words false []) (rows_after s.rules [] words)
+      → Understands (option_map (λ p. (command, p)) o) (fault_of grammar (name ∷ command ∷ words)) (subcommand_of grammar (name ∷ command ∷ words))
+  enters_with name words None is = ap fails (fault_is name words) ∙ first_fails _ _ is
+  enters_with name words (Some p) is = (
+    fault_is name words ∙ ap (λ kinds. or_else kinds []) is.0,
+    ap (option_map (λ q. (q.0, arguments_in q.1))) (subcommand_is name words) ∙ ap₂ (λ n a. Some (n, a)) is_named is.1,
+  )
+
+given_back : (given : List Name) → arguments_in (given_rows given) ≡ (None, given)
+given_back [] = refl
+given_back (x ∷ xs) = refl
+
+-- a command that takes operands alone
+operands_give : (command : Name) (words : List Name) → All IsUtf8 words
+    → Gives (option_map (λ more. (None, more)) (operands words)) (level_fault (shape command) [] nothing_held words false []) (rows_after rules [] words)
+operands_give command words utf8 = go (operands words) _ _ (level_gives command words utf8)
+  where
+    go : (o : Option (List Name)) (kinds : Kinds) (rows : List Row) → GivesOperands o kinds rows → Gives (option_map (λ more. (None, more)) o) kinds rows
+    go None kinds rows is = is
+    go (Some given) kinds rows is = (is.0, ap arguments_in is.1 ∙ given_back given)
 
 -- ---- any other word
 
@@ -125,14 +135,19 @@ by_command name command words first utf8 =
     named : (known : Name) → bytes_eq known command ≡ true → At name known words → At name command words
     named known is here = subst (λ w. At name w words) ((bytes_eq-Decides known command).0 is) here
 
+    with_operands : (known : Name) → subcommand_met names idle known ≡ Some known → bytes_eq known (codes "help") ≡ false
+        → find (λ s. answers_to known (label_of s)) app.subs ≡ Some (shape known)
+        → Understands (option_map (λ p. (known, p)) (option_map (λ more. (None, more)) (operands words))) (fault_of grammar (name ∷ known ∷ words)) (subcommand_of grammar (name ∷ known ∷ words))
+    with_operands known met is_help enters = enters_with known met is_help (shape known) refl enters name words _ (operands_give known words utf8)
+
     go : (c d a k x r h : Bool) → bytes_eq (codes "compile") command ≡ c → bytes_eq (codes "dis") command ≡ d → bytes_eq (codes "asm") command ≡ a
         → bytes_eq (codes "check") command ≡ k → bytes_eq (codes "exec") command ≡ x → bytes_eq (codes "run") command ≡ r → bytes_eq (codes "help") command ≡ h → At name command words
-    go true d a k x r h is_c is_d is_a is_k is_x is_r is_h = named (codes "compile") is_c (enters_with (codes "compile") refl refl refl name words utf8)
-    go false true a k x r h is_c is_d is_a is_k is_x is_r is_h = named (codes "dis") is_d (enters_with (codes "dis") refl refl refl name words utf8)
-    go false false true k x r h is_c is_d is_a is_k is_x is_r is_h = named (codes "asm") is_a (enters_with (codes "asm") refl refl refl name words utf8)
-    go false false false true x r h is_c is_d is_a is_k is_x is_r is_h = named (codes "check") is_k (enters_with (codes "check") refl refl refl name words utf8)
-    go false false false false true r h is_c is_d is_a is_k is_x is_r is_h = named (codes "exec") is_x (enters_with (codes "exec") refl refl refl name words utf8)
-    go false false false false false true h is_c is_d is_a is_k is_x is_r is_h = named (codes "run") is_r (enters_with (codes "run") refl refl refl name words utf8)
+    go true d a k x r h is_c is_d is_a is_k is_x is_r is_h = named (codes "compile") is_c (enters_with (codes "compile") refl refl aiming_shape refl refl name words (aimed false words) (aiming_gives words utf8))
+    go false true a k x r h is_c is_d is_a is_k is_x is_r is_h = named (codes "dis") is_d (with_operands (codes "dis") refl refl refl)
+    go false false true k x r h is_c is_d is_a is_k is_x is_r is_h = named (codes "asm") is_a (with_operands (codes "asm") refl refl refl)
+    go false false false true x r h is_c is_d is_a is_k is_x is_r is_h = named (codes "check") is_k (with_operands (codes "check") refl refl refl)
+    go false false false false true r h is_c is_d is_a is_k is_x is_r is_h = named (codes "exec") is_x (with_operands (codes "exec") refl refl refl)
+    go false false false false false true h is_c is_d is_a is_k is_x is_r is_h = named (codes "run") is_r (with_operands (codes "run") refl refl refl)
     go false false false false false false true is_c is_d is_a is_k is_x is_r is_h =
         let met : subcommand_met names idle command ≡ Some (codes "help") = rw (is_c, is_d, is_a, is_k, is_x, is_r, is_h) refl in
         rw (is_c, is_d, is_a, is_k, is_x, is_r) (turn_first name command words (helps command met))

@@ -1,4 +1,4 @@
--- What clap makes of the words behind a command.
+-- What clap makes of the words behind a command that takes operands alone.
 use Rattle.std.proofs.Common.{◌∙◌, ◌≡◌, ◌||◌, ◌==◌, ℕ, Bool, cond, true, false, suc, refl, sym, ap, ap₂, subst, arith, List, [], ◌∷◌, ◌++◌, length, Option, Some, None, true≢false, codes, append-nil, append_assoc}
 use Rattle.std.specs.Prelude.{slice_get, fold, option_and_then, option_map, if◌then◌else◌}
 use Rattle.std.specs.List.{All}
@@ -7,7 +7,7 @@ use Rattle.std.proofs.lemmas.Bool.Decides.{Decides-eqb}
 use Rattle.std.proofs.lemmas.Str.{IsCharBoundary-after_ascii, IsUtf8-drop, chars_from_encodes}
 use Rattle.clap.specs.Kinds.{Kinds, or_else}
 use Rattle.clap.specs.Faults.{bundle_fault, check_fault, defaults_fault, flag_word_fault, level_fault, long_fault, settle_fault, short_fault, turn_fault, walk_fault, word_fault}
-use Rattle.clap.specs.Lexer.{long_of, long_of_rest, short_of, short_of_rest, strip_byte}
+use Rattle.clap.specs.Lexer.{long_of, long_of_rest, name_and_value, short_of, short_of_rest, strip_byte}
 use Rattle.clap.specs.Simple.{Shape, built_leaf, filled, help_rule, inherited, marked_built, with_index, with_leaf_noted}
 use Rattle.clap.specs.Walk.{Held, Row, Rule, Text, Waiting, Walk, arg_by_long, arg_by_short, finished, idle, positional, nothing_held, rows_after, settled, walk, walk_from, walked}
 use Rattle.clap.specs.declared.builder.value_parser.Reading.TheVariants.{AsWritten}
@@ -125,21 +125,28 @@ second_fails (k ∷ ks) b is = refl
 abbrev pub help : Rule
 help = with_index 1 (filled help_rule)
 
+-- no flag of one letter is known but that of help
+abbrev pub KnowsLetter : List Rule → Type 0
+KnowsLetter c = (x : ℕ) → arg_by_short c x ≡ (if 104 == x then Some help else None)
+
 -- no flag is known but that of help
 abbrev pub KnowsHelp : List Rule → Type 0
-KnowsHelp c = ((name : Text) → arg_by_long c name ≡ (if bytes_eq (codes "help") name then Some help else None))
-    × ((x : ℕ) → arg_by_short c x ≡ (if 104 == x then Some help else None))
+KnowsHelp c = ((name : Text) → arg_by_long c name ≡ (if bytes_eq (codes "help") name then Some help else None)) × KnowsLetter c
+
+-- the word fails where it has a long name
+abbrev pub FailsByName : List Rule → Name → Held → Type 0
+FailsByName c word h = (name : Text) (v : Option Text) → long_of word ≡ Some (name, v) → fails (long_fault c false (arg_by_long c name) v h) ≡ true
+
+pub help_fails : (c : List Rule) (t : Bool) (v : Option Text) (h : Held) → fails (long_fault c false (cond t (Some help) None) v h) ≡ true
+help_fails c false v h = refl
+help_fails c true (Some v) h = refl
+help_fails c true None h = second_fails (settle_fault c false h) _ refl
 
 long_fails : (c : List Rule) (name : Text) (v : Option Text) (h : Held) → KnowsHelp c → fails (long_fault c false (arg_by_long c name) v h) ≡ true
-long_fails c name v h knows = ap (λ o. fails (long_fault c false o v h)) (knows.0 name) ∙ go (bytes_eq (codes "help") name) v
-  where
-    go : (t : Bool) (v : Option Text) → fails (long_fault c false (cond t (Some help) None) v h) ≡ true
-    go false v = refl
-    go true (Some v) = refl
-    go true None = second_fails (settle_fault c false h) _ refl
+long_fails c name v h knows = ap (λ o. fails (long_fault c false o v h)) (knows.0 name) ∙ help_fails c (bytes_eq (codes "help") name) v h
 
-short_fails : (c : List Rule) (x : ℕ) (rest : Text) (h : Held) (next : Held → Kinds) → KnowsHelp c → fails (short_fault c false (arg_by_short c x) rest h next) ≡ true
-short_fails c x rest h next knows = ap (λ o. fails (short_fault c false o rest h next)) (knows.1 x) ∙ go (104 == x)
+short_fails : (c : List Rule) (x : ℕ) (rest : Text) (h : Held) (next : Held → Kinds) → KnowsLetter c → fails (short_fault c false (arg_by_short c x) rest h next) ≡ true
+short_fails c x rest h next knows = ap (λ o. fails (short_fault c false o rest h next)) (knows x) ∙ go (104 == x)
   where
     go : (t : Bool) → fails (short_fault c false (cond t (Some help) None) rest h next) ≡ true
     go false = refl
@@ -156,7 +163,7 @@ first_character b bs utf8 = go utf8.0 utf8.1.1 refl
 behind_dash : (b : ℕ) (rest : List ℕ) → IsUtf8 (b ∷ rest) → b ≡ 45 → IsUtf8 rest
 behind_dash b rest utf8 dash = IsUtf8-drop (b ∷ rest) 1 utf8 (IsCharBoundary-after_ascii (b ∷ rest) 0 utf8 (omega arith) (omega arith))
 
-bundle_fails : (c : List Rule) (b : ℕ) (bs : List ℕ) (h : Held) → h.skip ≡ 0 → KnowsHelp c → IsUtf8 (b ∷ bs) → fails (bundle_fault c false (b ∷ bs) h) ≡ true
+bundle_fails : (c : List Rule) (b : ℕ) (bs : List ℕ) (h : Held) → h.skip ≡ 0 → KnowsLetter c → IsUtf8 (b ∷ bs) → fails (bundle_fault c false (b ∷ bs) h) ≡ true
 unfolding clap_on_literals
 bundle_fails c b bs h none knows utf8 =
     let first = first_character b bs utf8 in
@@ -166,22 +173,28 @@ short_flag : (b n : ℕ) (more : List ℕ) → (b == 45) ≡ true → (n == 45) 
     → (long_of (b ∷ n ∷ more) ≡ None) × (short_of (b ∷ n ∷ more) ≡ Some (n ∷ more))
 short_flag b n more first second = (rw (first, second) refl, rw (first, second) refl)
 
--- a word that begins with `-` and goes on is refused, but for `--`
-pub option_fails : (c : List Rule) (word : Name) (h : Held) → h.skip ≡ 0 → KnowsHelp c → IsUtf8 word → bytes_eq word (codes "--") ≡ false → is_option word ≡ true
-    → fails (flag_word_fault c false (long_of word) word h) ≡ true
-option_fails c [] h none knows utf8 dashes is = absurd (true≢false (sym is))
-option_fails c (b ∷ []) h none knows utf8 dashes is = absurd (true≢false (sym is))
-option_fails c (b ∷ n ∷ more) h none knows utf8 dashes is = go (n == 45) refl more utf8 dashes
+-- a word that begins with `-` and goes on is refused, but for `--` and long names that are known
+pub named_option_fails : (c : List Rule) (word : Name) (h : Held) → h.skip ≡ 0 → KnowsLetter c → FailsByName c word h → IsUtf8 word → bytes_eq word (codes "--") ≡ false
+    → is_option word ≡ true → fails (flag_word_fault c false (long_of word) word h) ≡ true
+named_option_fails c [] h none knows by_name utf8 dashes is = absurd (true≢false (sym is))
+named_option_fails c (b ∷ []) h none knows by_name utf8 dashes is = absurd (true≢false (sym is))
+named_option_fails c (b ∷ n ∷ more) h none knows by_name utf8 dashes is = go (n == 45) refl more by_name utf8 dashes
   where
-    go : (t : Bool) → (n == 45) ≡ t → (more : List ℕ) → IsUtf8 (b ∷ n ∷ more) → bytes_eq (b ∷ n ∷ more) (codes "--") ≡ false
+    go : (t : Bool) → (n == 45) ≡ t → (more : List ℕ) → FailsByName c (b ∷ n ∷ more) h → IsUtf8 (b ∷ n ∷ more) → bytes_eq (b ∷ n ∷ more) (codes "--") ≡ false
         → fails (flag_word_fault c false (long_of (b ∷ n ∷ more)) (b ∷ n ∷ more) h) ≡ true
-    go false second more utf8 dashes =
+    go false second more by_name utf8 dashes =
         let flag = short_flag b n more is second in
         rw (flag.0, flag.1) (bundle_fails c n more h none knows (behind_dash b (n ∷ more) utf8 ((Decides-eqb b 45).0 is)))
-    go true second [] utf8 dashes =
+    go true second [] by_name utf8 dashes =
         let both : true ≡ false = rw (is, second) at dashes in
         absurd (true≢false both)
-    go true second (m ∷ more) utf8 dashes = rw (is, second) (long_fails c _ _ h knows)
+    go true second (m ∷ more) by_name utf8 dashes =
+        let long : long_of (b ∷ n ∷ m ∷ more) ≡ Some (name_and_value (m ∷ more)) = rw (is, second) refl in
+        rw long (by_name _ _ long)
+
+pub option_fails : (c : List Rule) (word : Name) (h : Held) → h.skip ≡ 0 → KnowsHelp c → IsUtf8 word → bytes_eq word (codes "--") ≡ false → is_option word ≡ true
+    → fails (flag_word_fault c false (long_of word) word h) ≡ true
+option_fails c word h none knows utf8 dashes is = named_option_fails c word h none knows.1 (λ name v _. long_fails c name v h knows) utf8 dashes is
 
 pub known : (t : Bool) → cond (t || false) (Some help) None ≡ cond t (Some help) None
 known true = refl
@@ -261,15 +274,15 @@ finishes [] (Some last) = refl
 finishes (x ∷ xs) (Some last) = refl
 
 -- the words fail where they are no operands, and give them else
-abbrev pub Gives : Option (List Name) → Kinds → List Row → Type 0
-Gives None kinds rows = fails kinds ≡ true
-Gives (Some given) kinds rows = (kinds ≡ []) × (rows ≡ given_rows given)
+abbrev pub GivesOperands : Option (List Name) → Kinds → List Row → Type 0
+GivesOperands None kinds rows = fails kinds ≡ true
+GivesOperands (Some given) kinds rows = (kinds ≡ []) × (rows ≡ given_rows given)
 
 pub level_gives : (name : Name) (words : List Name) → All IsUtf8 words
-    → Gives (operands words) (level_fault (shape name) [] nothing_held words false []) (rows_after rules [] words)
+    → GivesOperands (operands words) (level_fault (shape name) [] nothing_held words false []) (rows_after rules [] words)
 level_gives name words utf8 = go (operands words) (walk_fault (shape name) [] (walk_from nothing_held) words) (walk rules [] nothing_held words) (walks name [] None words utf8)
   where
-    go : (o : Option (List Name)) (kinds : Kinds) (end : Walk) → Ends o [] kinds end → Gives o (or_else kinds (later_fault name end.held)) (finished rules end.held)
+    go : (o : Option (List Name)) (kinds : Kinds) (end : Walk) → Ends o [] kinds end → GivesOperands o (or_else kinds (later_fault name end.held)) (finished rules end.held)
     go None kinds end is = first_fails kinds _ is
     go (Some given) kinds end is = (
       ap₂ (λ k (w : Walk). or_else k (later_fault name w.held)) is.0 is.1.3 ∙ ends_well name is.1.1 is.1.2,

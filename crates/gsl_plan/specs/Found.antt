@@ -2,10 +2,10 @@
 use Rattle.std.specs.Prelude.{Bool, true, ◌||◌, List, [], ◌∷◌, Option, Some, None, codes, if◌then◌else◌, option_map, unwrap_or}
 use Rattle.std.specs.Str.{bytes_eq}
 use Rattle.clap.specs.Simple.{App, new_app, new_rule, on_top, subcommand_rows_of, with_rule, with_subcommand}
-use Rattle.clap.specs.Walk.{Row, Rule, all_of}
-use Rattle.clap.specs.declared.builder.action.ArgAction.TheVariants.{Append}
+use Rattle.clap.specs.Walk.{Row, Rule, all_of, first_of}
+use Rattle.clap.specs.declared.builder.action.ArgAction.TheVariants.{Append, Set}
 use Rattle.clap.specs.declared.parser.matches.ArgMatches.{ArgMatches}
-use Rattle.gsl_plan.specs.Plan.{Name, operands}
+use Rattle.gsl_plan.specs.Plan.{Arguments, Name, arguments}
 
 -- operands, as many as there are
 abbrev pub operands_rule : Rule
@@ -15,13 +15,21 @@ operands_rule = record (new_rule (codes "operands")) { action = Some Append }
 abbrev pub operated : Name → App
 operated name = with_rule (new_app name) operands_rule
 
+-- an option with one value, which stands once
+abbrev pub target_rule : Rule
+target_rule = record (new_rule (codes "target")) { long = Some (codes "target"); action = Some Set; value_names = 1 }
+
+-- the command that takes this option beside its operands
+abbrev pub aiming : App
+aiming = with_rule (with_rule (new_app (codes "compile")) target_rule) operands_rule
+
 -- the program, which takes one of its commands
 abbrev pub program : App
 program = on_top (λ s. record s { subcommand_required = true }) (new_app (codes "gsl"))
 
 -- the program with the commands that write a file
 abbrev pub writing : App
-writing = with_subcommand (with_subcommand (with_subcommand program (operated (codes "compile")).top) (operated (codes "dis")).top) (operated (codes "asm")).top
+writing = with_subcommand (with_subcommand (with_subcommand program aiming.top) (operated (codes "dis")).top) (operated (codes "asm")).top
 
 -- and the one that judges a module
 abbrev pub judging : App
@@ -33,15 +41,18 @@ grammar = with_subcommand (with_subcommand judging (operated (codes "exec")).top
 abbrev pub operands_in : List Row → List Name
 operands_in rows = unwrap_or (all_of (codes "operands") rows) []
 
--- the command that was found, with its operands
-abbrev pub found_in : ArgMatches → Option (Name × List Name)
-found_in m = option_map (λ p. (p.0, operands_in p.1)) (subcommand_rows_of m)
+abbrev pub arguments_in : List Row → Arguments
+arguments_in rows = (first_of (codes "target") rows, operands_in rows)
+
+-- the command that was found, with its arguments
+abbrev pub found_in : ArgMatches → Option (Name × Arguments)
+found_in m = option_map (λ p. (p.0, arguments_in p.1)) (subcommand_rows_of m)
 
 abbrev pub is_command : Name → Bool
 is_command word =
     bytes_eq (codes "compile") word || (bytes_eq (codes "dis") word || (bytes_eq (codes "asm") word || (bytes_eq (codes "check") word || (bytes_eq (codes "exec") word || bytes_eq (codes "run") word))))
 
--- a command with its operands, where the words have one and no option stands before the first `--`
-abbrev pub taken : List Name → Option (Name × List Name)
-taken (name ∷ command ∷ words) = if is_command command then option_map (λ more. (command, more)) (operands words) else None
+-- a command with its arguments, where the words have one
+abbrev pub taken : List Name → Option (Name × Arguments)
+taken (name ∷ command ∷ words) = if is_command command then option_map (λ p. (command, p)) (arguments command words) else None
 taken _ = None

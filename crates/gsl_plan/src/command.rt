@@ -1,14 +1,16 @@
 //! The commands of the program.
 
 use gsl_base::{Bytes, Stage, Text, Words};
+use gsl_words::Target;
 
 /// What the words of a command line ask for.
 #[derive(Drop)]
 pub enum Command {
     /// The words are no command. This text says how the program is called.
     Usage(Bytes),
-    /// Compiles one source file or more, of which there are at most 64.
+    /// Compiles one source file or more, of which there are at most 64, to a module for the target.
     Compile {
+        target: Target,
         stage: Stage,
         out: Text,
         files: Words,

@@ -3,7 +3,7 @@
 ghost use Rattle.std.specs.Prelude.{◌≡◌, ◌⊎◌, IfOk, IfErr, None, false};
 ghost use Rattle.std.specs.List.{All};
 ghost use Rattle.std.specs.Str.{IsUtf8};
-ghost use Rattle.clap.specs.Walk.{texts};
+ghost use Rattle.clap.specs.Walk.{rule_of, texts};
 ghost use Rattle.clap.specs.Words.{app_of, kind_of};
 ghost use Rattle.clap.specs.declared.builder.command.Command.TheViews.{out-Command};
 ghost use Rattle.gsl_plan.specs.Found as spec;
@@ -58,12 +58,7 @@ fn judging<'a>(alloc: Global) -> Result<Command<'a>, AllocError>
 fn writing<'a>(alloc: Global) -> Result<Command<'a>, AllocError>
     ensures { IfOk result (λ c. app_of c ≡ spec.writing) }
 {
-    let compile = operated(
-        alloc,
-        "compile",
-        "Compiles a shader to a module",
-        "gsl compile STAGE OUT FILE..",
-    )?;
+    let compile = aiming(alloc)?;
     let disassemble = operated(alloc, "dis", "Shows a module as text", "gsl dis MODULE OUT")?;
     let assemble = operated(
         alloc,
@@ -84,6 +79,23 @@ fn program<'a>(alloc: Global) -> Command<'a>
     Command::new(alloc, "gsl").subcommand_required(true)
 }
 
+/// The command that takes a target beside its operands.
+fn aiming<'a>(alloc: Global) -> Result<Command<'a>, AllocError>
+    ensures app { IfOk result (λ c. app_of c ≡ spec.aiming) }
+    ensures local { IfOk result (λ c. (out-Command c).has_globals ≡ false) }
+{
+    let target = Arg::new(alloc, "target")
+        .long("target")
+        .action(ArgAction::Set)
+        .value_name("V")
+        .help("The version of SPIR-V, 1.0 or 1.3, and 1.0 without the option");
+    Command::new(alloc, "compile")
+        .about("Compiles a shader to a module")
+        .override_usage("gsl compile [--target V] STAGE OUT FILE..")
+        .arg(target)?
+        .arg(operands(alloc))
+}
+
 /// A command that takes operands alone, which its usage names.
 fn operated<'a>(
     alloc: Global,
@@ -94,11 +106,18 @@ fn operated<'a>(
     ensures app { IfOk result (λ c. app_of c ≡ spec.operated name.entry.now) }
     ensures local { IfOk result (λ c. (out-Command c).has_globals ≡ false) }
 {
-    let operands = Arg::new(alloc, "operands")
-        .action(ArgAction::Append)
-        .hide(true);
     Command::new(alloc, name)
         .about(about)
         .override_usage(usage)
-        .arg(operands)
+        .arg(operands(alloc))
+}
+
+/// Operands, as many as there are.
+fn operands<'a>(alloc: Global) -> Arg<'a>
+    ensures rule { rule_of result ≡ spec.operands_rule }
+    ensures local { result.global ≡ false }
+{
+    Arg::new(alloc, "operands")
+        .action(ArgAction::Append)
+        .hide(true)
 }

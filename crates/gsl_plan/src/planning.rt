@@ -1,10 +1,10 @@
 //! From words to a command.
 
-ghost use Rattle.std.specs.Prelude.{◌≡◌, ◌≢◌, map, IfOk};
+ghost use Rattle.std.specs.Prelude.{◌≡◌, ◌≢◌, map, codes, IfOk};
 ghost use Rattle.std.specs.List.{All};
-ghost use Rattle.std.specs.Option.{option_and_then};
+ghost use Rattle.std.specs.Option.{option_and_then, option_map};
 ghost use Rattle.std.specs.Str.{IsUtf8};
-ghost use Rattle.clap.specs.Walk.{rows_of, texts};
+ghost use Rattle.clap.specs.Walk.{first_of, rows_of, texts};
 ghost use Rattle.clap.specs.Words.{found_of, kind_of};
 ghost use Rattle.gsl_plan.specs.Plan as spec;
 ghost use Rattle.gsl_plan.specs.Plan.{plan_in, plan_of};
@@ -15,6 +15,7 @@ use crate::matching::matches_of;
 use clap::error::ErrorKind;
 use clap::{ArgMatches, Error};
 use gsl_base::{Bytes, Memory, Stage, Text, Words};
+use gsl_words::Target;
 use std::alloc::Global;
 
 /// The most source files of a command.
@@ -43,9 +44,9 @@ fn texts_of<'a>(alloc: Global, words: &'a [Text]) -> Result<Vec<&'a str>, Memory
     Ok(texts)
 }
 
-/// The command that was found, with its operands.
+/// The command that was found, with its arguments.
 fn command_in(alloc: Global, matches: &ArgMatches<'_>) -> Result<Command, Memory>
-    ensures { IfOk result (λ found. plan_in found ≡ option_and_then (λ p. spec.named p.0 p.1) (found_in matches.now)) }
+    ensures { IfOk result (λ found. plan_in found ≡ option_and_then (λ p. spec.named p.0 p.1.0 p.1.1) (found_in matches.now)) }
 {
     match matches.subcommand() {
         Some((name, found)) => command_for(alloc, name, found),
@@ -53,22 +54,28 @@ fn command_in(alloc: Global, matches: &ArgMatches<'_>) -> Result<Command, Memory
     }
 }
 
-/// The command of this name with the operands that were found.
+/// The command of this name with the arguments that were found.
 fn command_for(alloc: Global, name: &str, found: &ArgMatches<'_>) -> Result<Command, Memory>
-    ensures { IfOk result (λ command. plan_in command ≡ spec.named name.now (operands_in (rows_of (found_of found.now)))) }
+    ensures { IfOk result (λ command. plan_in command ≡ spec.named name.now (first_of (codes "target") (rows_of (found_of found.now))) (operands_in (rows_of (found_of found.now)))) }
 {
+    let value = found.get_str("target");
     match found.get_strs("operands") {
-        Some(operands) => named(alloc, name, operands),
-        None => named(alloc, name, &[]),
+        Some(operands) => named(alloc, name, value, operands),
+        None => named(alloc, name, value, &[]),
     }
 }
 
-/// The command of this name with its operands.
-fn named(alloc: Global, name: &str, operands: &[&str]) -> Result<Command, Memory>
-    ensures { IfOk result (λ found. plan_in found ≡ spec.named name.now (texts operands.now)) }
+/// The command of this name with the value of its `--target` and its operands.
+fn named(
+    alloc: Global,
+    name: &str,
+    value: Option<&str>,
+    operands: &[&str],
+) -> Result<Command, Memory>
+    ensures { IfOk result (λ found. plan_in found ≡ spec.named name.now (option_map (λ s. s.now) value.entry) (texts operands.now)) }
 {
     if name == "compile" {
-        return compile_of(alloc, operands);
+        return compile_of(alloc, value, operands);
     }
     if name == "dis" {
         return disassemble_of(alloc, operands);
@@ -88,25 +95,56 @@ fn named(alloc: Global, name: &str, operands: &[&str]) -> Result<Command, Memory
     usage(alloc)
 }
 
-fn compile_of(alloc: Global, operands: &[&str]) -> Result<Command, Memory>
-    ensures { IfOk result (λ found. plan_in found ≡ spec.compile_of (texts operands.now)) }
+fn compile_of(alloc: Global, value: Option<&str>, operands: &[&str]) -> Result<Command, Memory>
+    ensures { IfOk result (λ found. plan_in found ≡ spec.compile_of (option_map (λ s. s.now) value.entry) (texts operands.now)) }
 {
     match operands {
-        [stage, out, files @ ..] => compile_for(alloc, stage, out, files),
+        [stage, out, files @ ..] => {
+            compile_for(alloc, target_of(value), staged(stage, files), out, files)
+        }
         _ => usage(alloc),
     }
 }
 
-fn compile_for(alloc: Global, stage: &str, out: &str, files: &[&str]) -> Result<Command, Memory>
-    ensures { IfOk result (λ found. plan_in found ≡ spec.compile_in (spec.staged stage.now (texts files.now)) out.now (texts files.now)) }
+fn compile_for(
+    alloc: Global,
+    target: Option<Target>,
+    stage: Option<Stage>,
+    out: &str,
+    files: &[&str],
+) -> Result<Command, Memory>
+    ensures { IfOk result (λ found. plan_in found ≡ spec.compile_in target stage out.now (texts files.now)) }
 {
-    match staged(stage, files) {
-        Some(stage) => Ok(Command::Compile {
+    match (target, stage) {
+        (Some(target), Some(stage)) => Ok(Command::Compile {
+            target,
             stage,
             out: Text::from_str(alloc, out)?,
             files: names_of(alloc, files)?,
         }),
-        None => usage(alloc),
+        _ => usage(alloc),
+    }
+}
+
+/// The target that the value of `--target` names.
+fn target_of(value: Option<&str>) -> Option<Target>
+    ensures { result ≡ spec.target_of (option_map (λ s. s.now) value.entry) }
+{
+    match value {
+        None => Some(Target::V10),
+        Some(word) => known_target(word),
+    }
+}
+
+fn known_target(word: &str) -> Option<Target>
+    ensures { result ≡ spec.known_target word.now }
+{
+    if word == "1.0" {
+        Some(Target::V10)
+    } else if word == "1.3" {
+        Some(Target::V13)
+    } else {
+        None
     }
 }
 
