@@ -61,7 +61,7 @@ with_target value = option_and_then (λ p. with_first value p.0 p.1)
 abbrev pub attached : Name → Option Name
 attached word = if bytes_eq (take 9 word) (codes "--target=") then Some (drop 9 word) else None
 
--- a word that has a value, is an operand or an option that is not known
+-- a word that attaches a value, or an operand; there is no other option
 abbrev pub with_word : Option Name → Name → Option Arguments → Option Arguments
 with_word (Some value) word more = with_target value more
 with_word None word more = if is_option word then None else with_operand word more
