@@ -17,7 +17,8 @@ use gsl_instr::op;
 use gsl_lower_holders::{FlowPlace, holder, keep, type_id};
 use gsl_lower_leaves::{Leaf, Leaves, leaves_of, read_whole, store_whole};
 use gsl_lower_places::{
-    Base, Part, Picked, Reached, extracted, is_block_class, pointed, pointer, read, stored, to_renew,
+    Base, Part, Picked, Reached, extracted, is_block_class, pointed, pointer, read, stored,
+    to_renew,
 };
 use gsl_lower_values::{Operand, Shape, give};
 use gsl_spv::{BuildRefusal, Builder};
