@@ -31,7 +31,7 @@ use Rattle.gsl_lower_expr.specs.Parts.{store_block, store_by, store_composite, s
 use Rattle.gsl_lower_follows.specs.Giving.{Adds}
 use Rattle.gsl_lower_follows.proofs.Fetching.{adds_put, adds_type_id, no_state}
 use Rattle.gsl_lower_follows.proofs.Growing.{adds_given, adds_lift, adds_then}
-use Rattle.gsl_lower_law_expr.proofs.Steps.{Always, always_converted, always_given, always_giving, always_then, always_type}
+use Rattle.gsl_lower_law_expr.proofs.Steps.{Always, always_given, always_then, always_type}
 use Rattle.gsl_lower_reads.proofs.Adding.{always_each, always_extracted, always_pointer, always_put}
 
 module _ (m : Module) (input : Input) (whole : Sections) where
