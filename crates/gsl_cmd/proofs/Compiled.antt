@@ -21,7 +21,7 @@ use Rattle.gsl_cmd.specs.Lowering.{module_of}
 use Rattle.gsl_valid.specs.Portable.{Portable}
 use Rattle.gsl_valid.specs.Valid.{Valid}
 use Rattle.gsl_cmd.specs.Carries.{Carries}
-use Rattle.gsl_cmd.specs.Verdict.{Accepts, AreOfForm, Compiles, FaultWhere, HasModule, IsCarried, IsOfForm, IsOther, IsPromised, Makes, MakesLinked, MakesOther, linked_of}
+use Rattle.gsl_cmd.specs.Verdict.{Accepts, AreOfForm, Compiles, FaultWhere, HasModule, IsOfForm, IsPromised, Makes, MakesLinked, linked_of}
 use Rattle.gsl_cmd.specs.Weight.{IsSmall}
 use Rattle.gsl_cmd.proofs.Counts.{statements_light}
 use Rattle.gsl_cmd.proofs.Carried.{program_carries}
@@ -76,16 +76,6 @@ module _ (target : Target) (stage : Stage) (sources : List (List ℕ)) where
 pub other_not : (target : Target) (stage : Stage) (linked : Linked) → ((p : Program) → IsOfForm target stage linked p → ⊥) → ((m : Module) → IsLowered target linked m → ⊥) → (m : Module) → HasModule target stage linked m → ⊥
 other_not target stage linked none never m (inl (p, formed, same)) = none p formed
 other_not target stage linked none never m (inr (others, lowered)) = never m lowered
-
--- a program that is not of the form has the module that it is lowered to, and no other
-pub other : (target : Target) (stage : Stage) (linked : Linked) (result : Result Module Refusal) → ((p : Program) → IsOfForm target stage linked p → ⊥) → MakesOther target linked result → MakesLinked target stage linked result
-other target stage linked (Ok m) none lowered = inr (none, lowered)
-other target stage linked (Err (refusal.Source fault)) none (is, never) = (is, other_not target stage linked none never)
-other target stage linked (Err refusal.Memory) none made = tt
-
--- one that is has its own
-pub own : (target : Target) (stage : Stage) (linked : Linked) (p : Program) (m : Module) → IsOfForm target stage linked p → m ≡ module_of p → HasModule target stage linked m
-own target stage linked p m formed same = inl (p, formed, same)
 
 -- a program's module has few words
 pub words_fit : (p : Program) → IsProgram p → count_of_words (module_of p) < 2 ^ 32
