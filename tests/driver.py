@@ -30,9 +30,12 @@ KNOWN = {
     "an out struct begins as zeros": NO_ZEROS,
     "a variable whose declaration never ran is zeros": NO_ZEROS,
     "a declaration without an initialiser sets zeros each time": NO_ZEROS,
+    "a variable of a loop's body is zeros each turn": NO_ZEROS,
     "the end of a function gives zeros": "glslang refuses a function that may come to its end without a value",
     "a constant belongs to its source, a block to all": "glslang refuses two constants of one name in two sources",
     "quotients go toward 0, and a rest has the sign of its divisor": "glslang gives the rest of two constants the sign of the dividend",
+    "an int below a uint, a quotient and a rest of negative words": "Mesa gives the rest the sign of the dividend, which the language leaves open",
+    "the same quotients where there is nothing to draw": "the language leaves quotients by 0 open: Mesa gives words of ones where zeros are drawn here",
     "a word of a bool that is not 0 is true, and is stored as 1": "glslang compares and copies structs in blocks word by word",
     **OURS,
 }
