@@ -12,6 +12,7 @@ pub mod Ends
 pub mod Unique
 pub mod RunJobs
 pub mod AllJobs
+pub mod Planned
 pub mod Known
 pub mod Parts
 pub mod Walks
