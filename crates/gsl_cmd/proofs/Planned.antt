@@ -54,8 +54,8 @@ module _ (target : Target) (stage : Stage) (out : Name) (files : List Name) wher
   compile_by value words true dis asm check exec run is = compile_few value words is
   compile_by value words false true asm check exec run is = absurd ((two_not words).0 is)
   compile_by value words false false true check exec run is = absurd ((two_not words).1 is)
-  compile_by value words false false false true exec run is = absurd ((two_not words).2.1 is)
-  compile_by value words false false false false true run is = absurd ((two_not words).2.0 is)
+  compile_by value words false false false true exec run is = absurd ((two_not words).3 is)
+  compile_by value words false false false false true run is = absurd ((two_not words).2 is)
   compile_by value words false false false false false true is = absurd (run_not words is)
   compile_by value words false false false false false false is = absurd (is_none is)
 
@@ -103,8 +103,8 @@ module _ (stage : Stage) (inputs : Name) (files : List Name) where
   run_by value words true dis asm check exec run is = absurd (compile_not value words is)
   run_by value words false true asm check exec run is = absurd ((others_not words).0 is)
   run_by value words false false true check exec run is = absurd ((others_not words).1 is)
-  run_by value words false false false true exec run is = absurd ((others_not words).2.1 is)
-  run_by value words false false false false true run is = absurd ((others_not words).2.0 is)
+  run_by value words false false false true exec run is = absurd ((others_not words).3 is)
+  run_by value words false false false false true run is = absurd ((others_not words).2 is)
   run_by value words false false false false false true is = run_few words is
   run_by value words false false false false false false is = absurd (is_none is)
 
