@@ -14,7 +14,6 @@ Struct = namedtuple("Struct", "name members")
 Var = namedtuple("Var", "name type reads writes shared")
 Fun = namedtuple("Fun", "name result params pure")
 INT, UINT, BOOL, VOID = Vec("int", 1), Vec("uint", 1), Vec("bool", 1), None
-MOST_LEAVES = 40
 LETTERS = ("xyzw", "rgba", "stpq")
 
 
@@ -143,7 +142,9 @@ class Maker:
         self.rng = random.Random("%s %s" % (seed, plain))
         self.plain, self.stage = plain, stage or ("comp" if plain else self.one("comp", "comp", "comp", "vert", "frag"))
         self.program, self.structs, self.functions, self.scopes = Program(self.stage), [], [], [[]]
-        self.defined, self.strays = [], 0.05 if not plain and self.chance(0.1) else 0
+        self.scale = self.one(1, 1, 1, 1, 2, 4)
+        self.defined, self.strays = [], 0 if plain else self.one(0, 0, 0, 0, 0, 0, 0, 0, 0.05, 0.3)
+        self.discards = self.one(0, 0.3, 1)
         self.count, self.pure, self.loops, self.switches, self.result, self.fuel = 0, False, 0, 0, VOID, 0
         self.inside = False
 
@@ -166,7 +167,7 @@ class Maker:
         pick = self.rng.random()
         if high and pick < 0.2:
             made = Arr(self.type(high - 1), self.one(1, 2, 3, 4))
-            return made if leaves(made) <= MOST_LEAVES else self.vec()
+            return made if leaves(made) <= 12 * self.scale else self.vec()
         if high and pick < 0.35 and self.structs:
             return self.rng.choice(self.structs)
         return self.vec()
@@ -174,7 +175,7 @@ class Maker:
     def struct(self):
         members = tuple((self.name("m"), self.type(2)) for _ in range(self.rng.randint(1, 4)))
         made = Struct(self.name("S"), members)
-        if leaves(made) > MOST_LEAVES:
+        if leaves(made) > 12 * self.scale:
             return
         self.program.units[0].append(Stmt("struct %s { %s };" % (made.name, " ".join(declared(of, name, self.rng) + ";" for name, of in members))))
         self.structs.append(made)
@@ -271,12 +272,12 @@ class Maker:
 
     # ---- expressions
 
-    def value(self, type, effects=True):
+    def value(self, type):
         """An expression of a type."""
         self.fuel -= 1
         makers = [self.read] * 6
         if self.fuel > 0:
-            makers += [self.choice, self.called, self.called]
+            makers += [self.choice, self.called, self.called, self.guarded]
             if not self.plain:
                 makers += [self.stored, self.comma]
             if isinstance(type, Vec):
@@ -319,10 +320,26 @@ class Maker:
         return self.place(type) if self.chance(0.85) else self.written(type)
 
     def choice(self, type):
-        return Expr(type, "(", self.value(BOOL), " ? ", self.value(type), " : ", self.value(type), ")")
+        test, sides = self.value(BOOL), [self.value(type), self.whole(type)]
+        self.rng.shuffle(sides)
+        return Expr(type, "(", test, " ? ", sides[0], " : ", sides[1], ")")
+
+    def guarded(self, type):
+        """An element by the word of a variable, where this is in bounds."""
+        arrays = [v for v in self.variables() if v.reads and isinstance(v.type, Arr) and v.type.count and self.holds(v.type.of, type, False)]
+        by = self.place(self.one(INT, UINT), writing=True)
+        if not arrays or by is None or "++" in by.text() or "=" in by.text() or "--" in by.text() or "(" in by.text():
+            return None
+        var = self.rng.choice(arrays)
+        found = self.down(Expr(var.type.of, var.name, "[", by.text(), "]"), type, False)
+        test = Expr(BOOL, "(uint(", by, ") < %du" % var.type.count, self.one("", " && true"), ")")
+        if type == BOOL and self.chance(0.6):
+            return Expr(BOOL, "(", test, " && ", found, ")") if self.chance(0.5) else Expr(BOOL, "(!", test, " || ", found, ")")
+        return Expr(type, "(", test, " ? ", found, " : ", self.value(type), ")")
 
     def comma(self, type):
-        return Expr(type, "(", self.value(self.type()), ", ", self.value(type), ")")
+        first = self.called(VOID) if self.chance(0.3) else None
+        return Expr(type, "(", first or self.value(self.type()), ", ", self.value(type), ")")
 
     def constructed(self, type):
         if type.size == 1:
@@ -360,6 +377,9 @@ class Maker:
         return self.down(made, type, False)
 
     def length(self, type):
+        endless = [v for v in self.variables() if isinstance(v.type, Arr) and v.type.count is None]
+        if endless and self.chance(0.5):
+            return Expr(INT, self.rng.choice(endless).name + ".length()")
         kind = self.type()
         if isinstance(kind, (Struct,)) or kind.__class__ is Vec and kind.size == 1:
             return None
@@ -488,19 +508,19 @@ class Maker:
         self.scopes.pop()
         return made
 
-    def top(self, type, most=12):
+    def top(self, type):
         """An expression that stands in a statement."""
-        self.fuel = self.rng.randint(1, most)
+        self.fuel = self.rng.randint(1, 4 * self.scale)
         return self.whole(type)
 
     def test(self):
-        self.fuel = self.rng.randint(1, 8)
+        self.fuel = self.rng.randint(1, 3 * self.scale)
         return self.value(BOOL)
 
     def statement(self):
         self.fuel = 8
         pick = self.rng.random()
-        nested = len(self.scopes) > 5
+        nested = len(self.scopes) > 3 + self.scale
         if pick < 0.2:
             return self.local()
         if pick < 0.5 or nested:
@@ -524,7 +544,7 @@ class Maker:
         type, name = self.type(), self.name("v")
         constant = self.chance(0.15)
         head = ("const " if constant else "") + declared(type, name, self.rng)
-        self.fuel = self.rng.randint(1, 10)
+        self.fuel = self.rng.randint(1, 4 * self.scale)
         if not constant and not self.plain and self.chance(0.15):
             made = Stmt(head + ";")
         elif not isinstance(type, Vec) and self.chance(0.4):
@@ -544,7 +564,7 @@ class Maker:
         return ["{ "] + parts + [" }"]
 
     def assignment(self):
-        self.fuel = self.rng.randint(2, 14)
+        self.fuel = self.rng.randint(2, 6 * self.scale)
         type = self.type()
         place = self.place(type, writing=True, reading=self.chance(0.9))
         if place is None:
@@ -586,7 +606,12 @@ class Maker:
         if kind == "for":
             step = self.one("%s++", "++%s", "%s += 1") % name
             steps = [", ", self.stored(self.vec()) or Expr(INT, "0")] if not self.plain and self.chance(0.2) else []
-            made = [Stmt("for (int %s = 0; %s < %d" % (name, name, turns), *more, "; " + step, *steps, ") ", self.body(self.rng.randint(1, 4)))]
+            other = []
+            if self.chance(0.2):
+                second = self.name("i")
+                other = [", %s = " % second, self.value(INT)]
+                self.scopes[-1].append(Var(second, INT, True, True, False))
+            made = [Stmt("for (int %s = 0" % name, *other, "; %s < %d" % (name, turns), *more, "; " + step, *steps, ") ", self.body(self.rng.randint(1, 4)))]
         elif kind == "while":
             made = [Stmt("int %s = 0;" % name), Stmt("while (%s++ < %d" % (name, turns), *more, ") ", self.body(self.rng.randint(1, 4)))]
         elif kind == "do":
@@ -605,6 +630,8 @@ class Maker:
         if self.chance(0.7):
             test = Expr(kind, "(", test, ") & 3" + ("u" if kind == UINT else ""))
         default = self.rng.randrange(len(labels) + 1) if self.chance(0.6) else None
+        if self.chance(0.05):
+            return [Stmt("switch (", test, ") ", [])]
         self.switches += 1
         self.scopes.append([])
         arms = []
@@ -640,7 +667,7 @@ class Maker:
             ways += ["continue;"]
         ways += ["return"] if self.inside or self.chance(0.15) else []
         if self.stage == "frag":
-            ways += ["discard;"] if self.chance(0.3) else []
+            ways += ["discard;"] if self.chance(self.discards) else []
         if not ways:
             return self.assignment()
         way = self.rng.choice(ways)
@@ -670,7 +697,7 @@ class Maker:
         saved = self.pure, self.result, self.inside, self.scopes
         self.pure, self.result, self.inside = pure, result, True
         self.scopes = [self.scopes[0], scope]
-        body = first + self.body(self.rng.randint(1, 4))
+        body = first + self.body(self.rng.randint(1, 2 + self.scale))
         if result and (self.plain or self.chance(0.95)):
             body.append(Stmt("return ", self.top(result), ";"))
         self.pure, self.result, self.inside, self.scopes = saved
@@ -699,23 +726,38 @@ class Maker:
             out += word.to_bytes(4, "little")
         return out
 
+    def moved(self, at, to):
+        """A place for a member of this alignment that would stand at a place, further on, and what says so."""
+        if self.chance(0.5):
+            at = aligned(at + 4 * self.rng.randint(0, 9), to)
+            return at, "layout(offset = %d) " % at
+        more = self.one(4, 8, 16, 32)
+        return aligned(at, max(to, more)), "layout(align = %d) " % more
+
     def block(self, binding):
         kind = self.one("buffer", "buffer", "readonly buffer", "writeonly buffer", "uniform", "push") if binding else "buffer"
         if kind == "push" and any(line.startswith("push") for line in self.program.lines):
             kind = "uniform"
         std140 = kind == "uniform" or kind != "push" and self.chance(0.3)
-        members = [(self.name("b"), self.type(3)) for _ in range(self.rng.randint(1, 5))]
+        members = [(self.name("b"), self.type(3)) for _ in range(self.rng.randint(1, 2 + self.scale))]
         if binding == 0:
             members += [(self.name("b"), kind_) for kind_ in (INT, UINT, BOOL, Vec("int", 4))]
         if "buffer" in kind and self.chance(0.3):
             members.append((self.name("b"), Arr(self.type(1), None)))
         instance = self.name("B") if self.chance(0.4) else ""
-        whole, last = Struct("", tuple(members)), members[-1][1]
-        size = measured(whole, std140)[1]
+        heads, size, places = [], 0, set()
+        for name, of in members:
+            to, its = measured(of, std140)
+            size, head = aligned(size, to), ""
+            if self.chance(0.1):
+                size, head = self.moved(size, to)
+            places |= set(bools(of, std140, size))
+            size += its
+            heads.append(head + declared(of, name, self.rng) + ";")
+        last = members[-1][1]
         if isinstance(last, Arr) and last.count is None:
             size += self.rng.randint(1, 3) * measured(Arr(last.of, 1), std140)[1]
-        places = set(bools(whole, std140, 0))
-        given = self.words(size // 4 + self.rng.randint(0, 3), places)
+        given = self.words(aligned(size, 16) // 4 + self.rng.randint(0, 3), places)
         set_ = self.one(0, 0, 1)
         if kind == "push":
             head, line = "layout(push_constant) uniform", "push push"
@@ -724,8 +766,7 @@ class Maker:
             line = "buffer %d %d block%d" % (set_, binding, binding)
         self.program.lines.append(line)
         self.program.files[line.split()[-1]] = given
-        body = " ".join(declared(of, name, self.rng) + ";" for name, of in members)
-        self.program.units[0].append(Stmt("%s %s { %s } %s;" % (head, self.name("K"), body, instance)))
+        self.program.units[0].append(Stmt("%s %s { %s } %s;" % (head, self.name("K"), " ".join(heads), instance)))
         reads, writes = kind != "writeonly buffer", kind in ("buffer", "writeonly buffer")
         for name, of in members:
             self.scopes[0].append(Var(instance + "." + name if instance else name, of, reads, writes, True))
@@ -780,17 +821,17 @@ class Maker:
             self.invocation()
         else:
             self.interfaces()
-        for _ in range(self.rng.randint(0, 3)):
+        for _ in range(self.rng.randint(0, self.scale)):
             self.struct()
         for binding in range(self.rng.randint(1, 3)):
             self.block(binding)
-        for _ in range(self.rng.randint(0, 3)):
+        for _ in range(self.rng.randint(0, 1 + self.scale)):
             self.global_variable()
-        for _ in range(self.rng.randint(0, 3)):
+        for _ in range(self.rng.randint(0, 1 + self.scale)):
             self.function()
         if not self.plain and self.chance(0.2):
             self.divide()
-        unit.append(Stmt("void main() ", self.body(self.rng.randint(3, 6))))
+        unit.append(Stmt("void main() ", self.body(self.rng.randint(2, 3 + self.scale))))
         if not self.plain and self.chance(0.8):
             self.program.lines.append("choice " + " ".join("0x%x" % self.word() for _ in range(self.rng.randint(1, 20))))
         return self.program
