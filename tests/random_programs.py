@@ -143,7 +143,8 @@ class Maker:
         self.plain, self.stage = plain, stage or ("comp" if plain else self.one("comp", "comp", "comp", "vert", "frag"))
         self.program, self.structs, self.functions, self.scopes = Program(self.stage), [], [], [[]]
         self.scale = self.one(1, 1, 1, 1, 2, 4)
-        self.defined, self.strays = [], 0.05 if not plain and self.chance(0.1) else 0
+        self.defined, self.strays = [], 0 if plain else self.one(0, 0, 0, 0, 0, 0, 0, 0, 0.05, 0.3)
+        self.discards = self.one(0, 0.3, 1)
         self.count, self.pure, self.loops, self.switches, self.result, self.fuel = 0, False, 0, 0, VOID, 0
         self.inside = False
 
@@ -276,7 +277,7 @@ class Maker:
         self.fuel -= 1
         makers = [self.read] * 6
         if self.fuel > 0:
-            makers += [self.choice, self.called, self.called]
+            makers += [self.choice, self.called, self.called, self.guarded]
             if not self.plain:
                 makers += [self.stored, self.comma]
             if isinstance(type, Vec):
@@ -322,6 +323,19 @@ class Maker:
         test, sides = self.value(BOOL), [self.value(type), self.whole(type)]
         self.rng.shuffle(sides)
         return Expr(type, "(", test, " ? ", sides[0], " : ", sides[1], ")")
+
+    def guarded(self, type):
+        """An element by the word of a variable, where this is in bounds."""
+        arrays = [v for v in self.variables() if v.reads and isinstance(v.type, Arr) and v.type.count and self.holds(v.type.of, type, False)]
+        by = self.place(self.one(INT, UINT), writing=True)
+        if not arrays or by is None or "++" in by.text() or "=" in by.text() or "--" in by.text() or "(" in by.text():
+            return None
+        var = self.rng.choice(arrays)
+        found = self.down(Expr(var.type.of, var.name, "[", by.text(), "]"), type, False)
+        test = Expr(BOOL, "(uint(", by, ") < %du" % var.type.count, self.one("", " && true"), ")")
+        if type == BOOL and self.chance(0.6):
+            return Expr(BOOL, "(", test, " && ", found, ")") if self.chance(0.5) else Expr(BOOL, "(!", test, " || ", found, ")")
+        return Expr(type, "(", test, " ? ", found, " : ", self.value(type), ")")
 
     def comma(self, type):
         first = self.called(VOID) if self.chance(0.3) else None
@@ -594,8 +608,9 @@ class Maker:
             steps = [", ", self.stored(self.vec()) or Expr(INT, "0")] if not self.plain and self.chance(0.2) else []
             other = []
             if self.chance(0.2):
-                self.scopes[-1].append(Var(self.name("i"), INT, True, True, False))
-                other = [", %s = " % self.scopes[-1][-1].name, self.value(INT)]
+                second = self.name("i")
+                other = [", %s = " % second, self.value(INT)]
+                self.scopes[-1].append(Var(second, INT, True, True, False))
             made = [Stmt("for (int %s = 0" % name, *other, "; %s < %d" % (name, turns), *more, "; " + step, *steps, ") ", self.body(self.rng.randint(1, 4)))]
         elif kind == "while":
             made = [Stmt("int %s = 0;" % name), Stmt("while (%s++ < %d" % (name, turns), *more, ") ", self.body(self.rng.randint(1, 4)))]
@@ -652,7 +667,7 @@ class Maker:
             ways += ["continue;"]
         ways += ["return"] if self.inside or self.chance(0.15) else []
         if self.stage == "frag":
-            ways += ["discard;"] if self.chance(0.3) else []
+            ways += ["discard;"] if self.chance(self.discards) else []
         if not ways:
             return self.assignment()
         way = self.rng.choice(ways)
