@@ -132,7 +132,7 @@ def fewer(stmts, still):
             at -= size
         size //= 2
     for at in reversed(range(len(stmts))):
-        for part in stmts[at].parts:
+        for part in getattr(stmts[at], "parts", []):
             if isinstance(part, list):
                 kept = stmts[at]
                 stmts[at : at + 1] = part
