@@ -3,14 +3,18 @@ use Rattle.std.proofs.Common.{◌≡◌, refl, sym, ap, ◌∙◌, ℕ, zero, su
 use Rattle.std.specs.List.{list_all}
 use Rattle.std.proofs.lemmas.Bool.{and_from, and_parts, false≢true}
 use Rattle.gsl_words.specs.declared.module.Module.{Module}
+use Rattle.gsl_values.specs.Operators.{unary_word}
+use Rattle.gsl_values.specs.declared.function.Builtin.{Builtin}
+use Rattle.gsl_values.specs.declared.op.UnaryOp.{UnaryOp}
 use Rattle.gsl_values.specs.declared.value.Value.{Value}
 use Rattle.gsl_values.specs.declared.value.Value.TheOpen.{Value-F}
 use Rattle.gsl_values.specs.declared.value.Value.TheVariants.{Word, Many, outs-Many, outs-Word, rolls-Many, rolls-Word}
 use Rattle.gsl_values.specs.declared.value.Value.TheViews.{out-Value, roll-Value, roll-out-Value}
-use Rattle.gsl_tree.specs.Operations.{all_components, value_at, with_value_at}
+use Rattle.gsl_tree.specs.Operations.{all_components, binary_words, builtin_value, builtin_words, unary_value, value_at, with_value_at}
 use Rattle.gsl_tree.specs.Values.{all_pass, components_in, components_layer, of_components, parts_in, parts_layer, word_in, word_layer}
 use Rattle.gsl_valid.specs.Kinds.{Shape, OfBool, OfInt, OfVector, shape_of}
 use Rattle.gsl_valid.specs.Types.{Lanes, Scalar, defined_as, lanes_in, lanes_of, lanes_with, scalar_in}
+use Rattle.gsl_machine.specs.Operations.{Operator, binary}
 use Rattle.gsl_sound_code.proofs.Looks.{Kept}
 use Rattle.gsl_sound_values.specs.Shaped.{is_shaped, is_word, is_word_layer, shaped_as}
 use Rattle.gsl_sound_values.proofs.Constants.{word_is}
@@ -24,7 +28,7 @@ use Rattle.gsl_operations_law.specs.Lanes.{is_lanes, lanes_layer}
 
 -- ---- words
 
-one_flat : (v : Value) (layer : Value-F Value) → out-Value v ≡ layer → is_word_layer layer ≡ true → flat v ≡ word_in v ∷ []
+pub one_flat : (v : Value) (layer : Value-F Value) → out-Value v ≡ layer → is_word_layer layer ≡ true → flat v ≡ word_in v ∷ []
 one_flat v (Value-F.Word word) e is = ap flat (sym (roll-out-Value v) ∙ ap roll-Value e ∙ rolls-Word word) ∙ flat_word word ∙ ap (λ l. word_layer l ∷ []) (sym e)
 one_flat v (Value-F.Many vs) e is = absurd (false≢true is)
 
@@ -109,6 +113,21 @@ pub args_flat : (args : List Value) → list_all is_lanes args ≡ true → map 
 args_flat [] all = refl
 args_flat (v ∷ args) all =
     let parts = and_parts (is_lanes v) (list_all is_lanes args) all in ap (λ w. w ∷ map components_in args) (components_are v parts.0) ∙ ap (λ l. flat v ∷ l) (args_flat args parts.1)
+
+pub unary_flat : (op : UnaryOp) (v : Value) → is_lanes v ≡ true → flat (unary_value op v) ≡ map (unary_word op) (flat v)
+unary_flat op v is = made_flat (map (unary_word op) (components_in v)) ∙ ap (map (unary_word op)) (components_are v is)
+
+pub binary_flat : (operator : Operator) (a b : Value) (choices : List ℕ) → is_lanes a ≡ true → is_lanes b ≡ true → flat (binary operator a b choices).0 ≡ (binary_words operator.0 operator.1 (flat a) (flat b) choices).0
+binary_flat operator a b choices first second =
+    made_flat (binary_words operator.0 operator.1 (components_in a) (components_in b) choices).0
+    ∙ ap (λ xs. (binary_words operator.0 operator.1 xs (components_in b) choices).0) (components_are a first) ∙ ap (λ ys. (binary_words operator.0 operator.1 (flat a) ys choices).0) (components_are b second)
+
+pub binary_drawn : (operator : Operator) (a b : Value) (choices : List ℕ) → is_lanes a ≡ true → is_lanes b ≡ true → (binary operator a b choices).1 ≡ (binary_words operator.0 operator.1 (flat a) (flat b) choices).1
+binary_drawn operator a b choices first second =
+    ap (λ xs. (binary_words operator.0 operator.1 xs (components_in b) choices).1) (components_are a first) ∙ ap (λ ys. (binary_words operator.0 operator.1 (flat a) ys choices).1) (components_are b second)
+
+pub builtin_flat : (which : Builtin) (signed : Bool) (args : List Value) (choices : List ℕ) → list_all is_lanes args ≡ true → builtin_value which signed args choices ≡ builtin_words which signed (map flat args) choices
+builtin_flat which signed args choices all = ap (λ l. builtin_words which signed l choices) (args_flat args all)
 
 pub all_flat : (vs : List Value) → list_all is_lanes vs ≡ true → all_components vs ≡ flat_all vs
 all_flat [] all = refl

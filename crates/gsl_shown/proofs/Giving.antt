@@ -107,10 +107,10 @@ module _ (m : Module) (kept : Kept m) (input : Input) (f : Standing) (callers : 
       let same = ap (λ (t : Taken). t.most) (in_all_behind m f callers slots words buffers choices state shows p more comes (Gives type) gives refl) in
       omega (arith, grown, low, same, size)
 
-  room : f.slots + T.top + length New ≤ length slots
+  pub room : f.slots + T.top + length New ≤ length slots
   room = let fits = top_fits in let most = shows.ids.room in omega (arith, fits, most)
 
-  place_is : place m id ≡ T.top
+  pub place_is : place m id ≡ T.top
   place_is = place_given m kept f.at id p.instr (drop (f.at + 1) m.instrs) stood.here result_is ∙ ap (λ k. in_front k T) gives
 
   abbrev W : Held → List ℕ

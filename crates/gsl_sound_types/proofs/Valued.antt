@@ -35,16 +35,16 @@ use Rattle.gsl_sound_types.proofs.Moving.{TypedOut, any_value, shaped_value, typ
 
 -- ---- sizes
 
-same_itself : (test : Scalar → Bool) (o : Option Lanes) → has_lanes test o ≡ true → same_size o o ≡ true
+pub same_itself : (test : Scalar → Bool) (o : Option Lanes) → has_lanes test o ≡ true → same_size o o ≡ true
 same_itself test None is = absurd (false≢true is)
 same_itself test (Some lanes) is = eq-eqb lanes.size lanes.size refl
 
-same_back : (a b : Option Lanes) → same_size a b ≡ true → same_size b a ≡ true
+pub same_back : (a b : Option Lanes) → same_size a b ≡ true → same_size b a ≡ true
 same_back None b is = absurd (false≢true is)
 same_back (Some a) None is = absurd (false≢true is)
 same_back (Some a) (Some b) is = eq-eqb b.size a.size (sym (eqb-true a.size b.size is))
 
-same_second : (a b : Option Lanes) → same_size a b ≡ true → same_size b b ≡ true
+pub same_second : (a b : Option Lanes) → same_size a b ≡ true → same_size b b ≡ true
 same_second None b is = absurd (false≢true is)
 same_second (Some a) None is = absurd (false≢true is)
 same_second (Some a) (Some b) is = eq-eqb b.size b.size refl

@@ -46,12 +46,12 @@ each_counted which signed args (suc count) from choices = ap suc (each_counted w
 
 -- ---- functions that go component by component
 
-abbrev joins : Builtin → Bool
+abbrev pub joins : Builtin → Bool
 joins f.Any = true
 joins f.All = true
 joins _ = false
 
-each_words : (which : Builtin) (signed : Bool) (args : List (List ℕ)) (choices : List ℕ) → joins which ≡ false → builtin_words which signed args choices ≡ of_words (builtin_each which signed args (first_count args) 0 choices)
+pub each_words : (which : Builtin) (signed : Bool) (args : List (List ℕ)) (choices : List ℕ) → joins which ≡ false → builtin_words which signed args choices ≡ of_words (builtin_each which signed args (first_count args) 0 choices)
 each_words f.Any signed args choices is = absurd (true≢false is)
 each_words f.All signed args choices is = absurd (true≢false is)
 each_words _ signed args choices is = refl
@@ -60,7 +60,7 @@ either : (b : Bool) (x y : Builtin × Bool) → joins x.0 ≡ false → joins y.
 either true x y first second = first
 either false x y first second = second
 
-extended_each : (number : ℕ) → joins (function_of number).0 ≡ false
+pub extended_each : (number : ℕ) → joins (function_of number).0 ≡ false
 extended_each number =
     either (number == extended.S_ABS) _ _ refl (either (number == extended.S_SIGN) _ _ refl (either (number == extended.U_MIN) _ _ refl (either (number == extended.S_MIN) _ _ refl
     (either (number == extended.U_MAX) _ _ refl (either (number == extended.S_MAX) _ _ refl (either (number == extended.U_CLAMP) _ _ refl (either (number == extended.S_CLAMP) _ _ refl

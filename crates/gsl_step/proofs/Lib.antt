@@ -1,0 +1,4 @@
+pub mod Operands
+pub mod Giving
+pub mod Passing
+pub mod Leading
