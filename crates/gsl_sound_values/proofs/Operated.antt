@@ -40,7 +40,7 @@ spread_counted count [] n is same = is
 spread_counted count (word ∷ []) n is same = repeated_counted word count ∙ same
 spread_counted count (word ∷ next ∷ words) n is same = is
 
-each_counted : (which : Builtin) (signed : Bool) (args : List (List ℕ)) (count from : ℕ) (choices : List ℕ) → length (builtin_each which signed args count from choices).0 ≡ count
+pub each_counted : (which : Builtin) (signed : Bool) (args : List (List ℕ)) (count from : ℕ) (choices : List ℕ) → length (builtin_each which signed args count from choices).0 ≡ count
 each_counted which signed args zero from choices = refl
 each_counted which signed args (suc count) from choices = ap suc (each_counted which signed args count (from + 1) _)
 
@@ -121,12 +121,12 @@ module _ (m : Module) (kept : Kept m) where
   -- ---- operations on one value
 
   -- An operation gives as many components as it takes, and joins none.
-  record Alike (code type other : ℕ) : Type 0 where
-    has : HasLanes m type
-    had : HasLanes m other
-    same : Size m type ≡ Size m other
-    any : (code == op.ANY) ≡ false
-    all : (code == op.ALL) ≡ false
+  pub record Alike (code type other : ℕ) : Type 0 where
+    pub has : HasLanes m type
+    pub had : HasLanes m other
+    pub same : Size m type ≡ Size m other
+    pub any : (code == op.ANY) ≡ false
+    pub all : (code == op.ALL) ≡ false
 
   alike_itself : (code type other : ℕ) (test : ℕ → Bool) → ((t : ℕ) → test t ≡ true → HasLanes m t) → (code == op.ANY || code == op.ALL) ≡ false → (test type && type == other) ≡ true → Alike code type other
   alike_itself code type other test lanes none is =
@@ -148,7 +148,7 @@ module _ (m : Module) (kept : Kept m) where
         all = elim (or_cases (code == op.BITCAST) (code == op.BIT_COUNT) cast) [ inl e ↦ ap (λ n. n == op.ALL) (eqb-true code op.BITCAST e) | inr e ↦ ap (λ n. n == op.ALL) (eqb-true code op.BIT_COUNT e) ];
       }
 
-  unary_alike : (code type other : ℕ) → is_unary_of m code type other ≡ true → Alike code type other ⊎ (((code == op.ANY || code == op.ALL) ≡ true) × (bool_type (defined_as m type) ≡ true))
+  pub unary_alike : (code type other : ℕ) → is_unary_of m code type other ≡ true → Alike code type other ⊎ (((code == op.ANY || code == op.ALL) ≡ true) × (bool_type (defined_as m type) ≡ true))
   unary_alike code type other is = by_cast (code == op.BITCAST || code == op.BIT_COUNT) refl is
     where
       by_not : (b : Bool) → (code == op.ANY || code == op.ALL) ≡ false → (if b then is_truth m type && type == other else (is_ints m type && type == other)) ≡ true → Alike code type other
@@ -166,6 +166,16 @@ module _ (m : Module) (kept : Kept m) where
           → Alike code type other ⊎ (((code == op.ANY || code == op.ALL) ≡ true) × (bool_type (defined_as m type) ≡ true))
       by_cast true e is = inl (alike_ints code type other e is)
       by_cast false e is = by_any (code == op.ANY || code == op.ALL) refl is
+
+  -- what joins components takes a vector of them
+  pub joined_lanes : (code type other : ℕ) → is_unary_of m code type other ≡ true → (code == op.ANY || code == op.ALL) ≡ true → HasLanes m other
+  joined_lanes code type other is which = elim (or_cases (code == op.ANY) (code == op.ALL) which) [
+    | inl e ↦ of_truths (subst (λ n. is_unary_of m n type other ≡ true) (eqb-true code op.ANY e) is)
+    | inr e ↦ of_truths (subst (λ n. is_unary_of m n type other ≡ true) (eqb-true code op.ALL e) is)
+  ]
+    where
+      of_truths : (bool_type (defined_as m type) && is_truth m other && is_vector (shape_of (defined_as m other))) ≡ true → HasLanes m other
+      of_truths rule = lanes_there m is_truths other (and_parts (bool_type (defined_as m type)) (is_truth m other) (and_parts (bool_type (defined_as m type) && is_truth m other) _ rule).0).1
 
   one_of : (type : ℕ) (b : Bool) (x y : Value) → is_shaped m type x ≡ true → is_shaped m type y ≡ true → is_shaped m type (if b then x else y) ≡ true
   one_of type true x y first second = first

@@ -1,0 +1,3 @@
+pub mod Two
+pub mod Serving
+pub mod Built
