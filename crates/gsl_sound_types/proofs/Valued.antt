@@ -49,7 +49,7 @@ same_second None b is = absurd (false≢true is)
 same_second (Some a) None is = absurd (false≢true is)
 same_second (Some a) (Some b) is = eq-eqb b.size b.size refl
 
-part_is : (type : ℕ) (o : Option ℕ) → is_part type o ≡ true → o ≡ Some type
+pub part_is : (type : ℕ) (o : Option ℕ) → is_part type o ≡ true → o ≡ Some type
 part_is type None is = absurd (false≢true is)
 part_is type (Some part) is = ap Some (eqb-true part type is)
 

@@ -1,6 +1,6 @@
 //! Built-in functions on operands, where there is room.
 
-ghost use Rattle.std.specs.Prelude.{◌≡◌, ◌+◌, ◌<◌, ◌≤◌, length, map, nat_le, true};
+ghost use Rattle.std.specs.Prelude.{◌≡◌, ◌+◌, ◌<◌, ◌≤◌, Some, ℕ, length, map, nat_le, slice_get, take, true};
 ghost use Rattle.std.specs.List.{list_all};
 ghost use Rattle.gsl_instr.specs.declared.instruction.Instruction.TheVariants as instruction;
 ghost use Rattle.gsl_lanes.specs.Operands.{words_at};
@@ -12,6 +12,7 @@ ghost use Rattle.gsl_step_values.specs.Values as spec;
 ghost use Rattle.gsl_tree.specs.Operations.{builtin_each};
 
 use gsl_base::List;
+use gsl_enact_values::function_of;
 use gsl_instr::op;
 use gsl_lanes::{Operand, builtin_lanes};
 use gsl_operands::Operands;
@@ -174,6 +175,61 @@ pub fn bit_field_extract(
         at,
         count,
         &mut machine.choices,
+    );
+    pass(&mut machine.standing);
+}
+
+/// An operand of so many components, by its number among ids.
+fn nth_part(operands: &Operands<'_>, slots: u64, ids: &[u32], k: usize, count: u64) -> Operand
+    ensures { (id : ℕ) → slice_get ids.now k ≡ Some id → id < operands.now.bound → stands operands.now slots id ≤ most → result ≡ record { place = stands operands.now slots id; count = count } }
+{
+    match ids.get(k) {
+        Some(id) => part(operands, slots, *id, count),
+        None => Operand { place: 0, count: 0 },
+    }
+}
+
+/// The first of some operands.
+fn first_of(parts: &[Operand], count: usize) -> &[Operand]
+    ensures { count ≤ length parts.now → result.now ≡ take count parts.now }
+{
+    if count <= parts.len() {
+        &parts[..count]
+    } else {
+        parts
+    }
+}
+
+/// An extended instruction, which has three operands at most.
+pub fn extended(
+    alloc: Global,
+    operands: &Operands<'_>,
+    machine: &mut Machine,
+    type_: u32,
+    result_id: u32,
+    set: u32,
+    number: u32,
+    values: &[u32],
+)
+    ensures { Does operands.now (instruction.ExtInst type_ result_id set number values.now) machine.old machine.new }
+{
+    let _set = set;
+    let function = function_of(number);
+    let slots = machine.standing.slots;
+    let count = operands.frames().leaves().leaves(type_);
+    let at = operands.place(slots, result_id);
+    let first = nth_part(operands, slots, values, 0, count);
+    let second = nth_part(operands, slots, values, 1, count);
+    let third = nth_part(operands, slots, values, 2, count);
+    let mut none = Choices::new(List::new(alloc));
+    put_given(
+        &mut machine.slots,
+        function.0,
+        function.1,
+        first_of(&[first, second, third], values.len()),
+        at,
+        count,
+        &mut none,
     );
     pass(&mut machine.standing);
 }

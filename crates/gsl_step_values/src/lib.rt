@@ -5,5 +5,5 @@ mod functions;
 mod lanes;
 mod operators;
 
-pub use functions::{bit_field_extract, bit_field_insert, select};
+pub use functions::{bit_field_extract, bit_field_insert, extended, select};
 pub use operators::{arithmetic, comparison, logical, shift};
