@@ -1,3 +1,4 @@
+pub mod Yielding
 pub mod Steps
 pub mod Operands
 pub mod Constants

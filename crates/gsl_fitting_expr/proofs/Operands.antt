@@ -1,6 +1,5 @@
 -- Operators and conversions of scalars and vectors, and of truth values.
 use Rattle.std.proofs.Common.{◌≡◌, ℕ, ◌+◌, Bool, true, ◌||◌, List, [], ◌∷◌, ◌++◌, length, Some, sym, ap, subst, suc, arith}
-use Rattle.std.proofs.lemmas.List.{length-append}
 use Rattle.gsl_types.specs.declared.ty.Scalar.{Scalar}
 use Rattle.gsl_types.specs.declared.ty.Scalar.TheVariants.{Bool as Boolean}
 use Rattle.gsl_types.specs.declared.ty.StructType.{StructType}
@@ -26,7 +25,7 @@ use Rattle.gsl_fitting_operators.proofs.Operators.{converted_fits, converted_sor
 use Rattle.gsl_fitting_operators.proofs.Pairs.{binary_fits, binary_sorts, logical_fits, logical_sorts}
 use Rattle.gsl_fitting_flow.specs.Flowing.{IsTypeFor, IsTypeIn, asked_if}
 use Rattle.gsl_fitting_flow.proofs.Choice.{choice_flows, choice_stays}
-use Rattle.gsl_fitting_flow.proofs.Following.{same_then, taken_is}
+use Rattle.gsl_fitting_flow.proofs.Following.{later_then}
 use Rattle.gsl_fitting_flow.proofs.Holding.{type_on}
 use Rattle.gsl_fitting_flow.proofs.Short.{short_flows, short_stays}
 use Rattle.gsl_fitting_expr.specs.Evaluating.{Evaluates, IsPlain}
@@ -72,19 +71,17 @@ module _ (whole : Sections) (main : ℕ) (local_size : List ℕ) (rank : ℕ →
 
   pub short_evaluates : (s : Flow) (asks more : List ℕ) (deep : ℕ) (one_splits two_splits : Bool) (type : ℕ) (which : LogicOp) (a b : Lower) → P flag type → E s asks (suc deep) one_splits type a.value → E s more deep two_splits type b.value → E s (asks ++ type ∷ more) (suc deep) true type (short which a b)
   short_evaluates s asks more deep one_splits two_splits type which a b plain first_value second_value = record {
-    stays = λ u. taken_is (length asks + (1 + length more)) (length (asks ++ type ∷ more)) (let e = length-append asks (type ∷ more) in omega (arith, e)) u (short which a b u)
-        (short_stays which (ty.One Boolean) b.value (length asks) (length more) u (a.value u) (first_value.stays u) second_value.stays);
+    stays = λ u. short_stays which (ty.One Boolean) b.value u (a.value u) (first_value.stays u) second_value.stays;
     flows = λ given u here.
-        short_flows whole main local_size rank f sorted which (ty.One Boolean) b.value type (length more) deep asks more one_splits two_splits given u (a.value u) plain.of (truths_for u.place type plain) (first_value.stays u) (first_value.flows given u here) second_value.stays
-        (λ v also. second_value.flows [] v (same_then s u v here also));
+        short_flows whole main local_size rank f sorted which (ty.One Boolean) b.value type deep asks more one_splits two_splits given u (a.value u) plain.of (truths_for u.place type plain) (first_value.stays u) (first_value.flows given u here) second_value.stays
+        (λ v also. second_value.flows [] v (later_then s u v here also));
   }
 
   pub forked_evaluates : (s : Flow) (tests asks more : List ℕ) (deep : ℕ) (splits one_splits two_splits : Bool) (truth type : ℕ) (t : Ty) (test a b : Lower) → P flag truth → IsTypeFor whole main local_size rank f s.place t type → E s tests (suc deep) splits truth test.value → E s asks deep one_splits type a.value
       → E s more deep two_splits type b.value → E s (tests ++ type ∷ (asks ++ more)) (suc deep) true type (forked t test a b)
   forked_evaluates s tests asks more deep splits one_splits two_splits truth type t test a b plain same test_value first_value second_value = record {
-    stays = λ u. taken_is (length tests + (1 + (length asks + length more))) (length (tests ++ type ∷ (asks ++ more))) (let e = length-append tests (type ∷ (asks ++ more)) in let g = length-append asks more in omega (arith, e, g)) u (forked t test a b u)
-        (choice_stays t a.value b.value (length tests) (length asks) (length more) u (test.value u) (test_value.stays u) first_value.stays second_value.stays);
+    stays = λ u. choice_stays t a.value b.value u (test.value u) (test_value.stays u) first_value.stays second_value.stays;
     flows = λ given u here.
-        choice_flows whole main local_size rank f sorted t a.value b.value truth type (length more) deep tests asks more splits one_splits two_splits given u (test.value u) plain.of (type_on whole main local_size rank f sorted s u t type here same) (test_value.stays u) (test_value.flows given u here) first_value.stays second_value.stays
-        (λ v also. first_value.flows [] v (same_then s u v here also)) (λ v also. second_value.flows [] v (same_then s u v here also));
+        choice_flows whole main local_size rank f sorted t a.value b.value truth type deep tests asks more splits one_splits two_splits given u (test.value u) plain.of (type_on whole main local_size rank f sorted s u t type here same) (test_value.stays u) (test_value.flows given u here) first_value.stays second_value.stays
+        (λ v also. first_value.flows [] v (later_then s u v here also)) (λ v also. second_value.flows [] v (later_then s u v here also));
   }

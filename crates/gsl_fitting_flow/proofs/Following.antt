@@ -1,6 +1,7 @@
 -- Parts of lowering in a row, and steps of the builder as parts.
 use Rattle.std.proofs.Common.{◌≡◌, ℕ, ◌+◌, ◌≤◌, Bool, true, false, ◌||◌, List, [], ◌∷◌, ◌++◌, length, refl, sym, ap, ◌∙◌, subst, suc, append_assoc, append-nil, arith}
 use Rattle.std.proofs.lemmas.Bool.{or_parts, true≢false}
+use Rattle.std.proofs.lemmas.List.{length-append}
 use Rattle.gsl_words.specs.declared.module.Module.{Module}
 use Rattle.gsl_spv.specs.Growing.{Extends}
 use Rattle.gsl_spv.specs.Sections.{Sections}
@@ -12,40 +13,39 @@ use Rattle.gsl_fitting.specs.Fits.{Fits, Frame, In}
 use Rattle.gsl_fitting_shapes.proofs.Labels.{later}
 use Rattle.gsl_fitting_types.specs.Making.{Comes, Sorts, made}
 use Rattle.gsl_fitting_types.proofs.Sorting.{stays_same, stays_then}
-use Rattle.gsl_fitting_flow.specs.Flowing.{Crosses, EmitStays, FlowStays, Flows, Hold, SamePlace, Widens}
+use Rattle.gsl_fitting_flow.specs.Flowing.{Crosses, EmitStays, FlowStays, Flows, Hold, IsLater, Widens}
 
 -- ---- what stays
 
-unused : (p : FlowPlace) → p ≡ record p { label = p.label; used = p.used + 0 }
-unused p = ap (λ n. record p { label = p.label; used = n }) (let e : p.used ≡ p.used + 0 = omega arith in e)
+pub flow_same : (s : Flow) → FlowStays s s
+flow_same s = record { sections = stays_same s.sections; place = refl; used = omega arith }
 
-pub flow_same : (s : Flow) → FlowStays 0 s s
-flow_same s = record { sections = stays_same s.sections; place = unused s.place }
-
-pub flow_then : {n k : ℕ} {a b c : Flow} → FlowStays n a b → FlowStays k b c → FlowStays (n + k) a c
-flow_then {n} {k} {a} {b} {c} p q = record {
+pub flow_then : {a b c : Flow} → FlowStays a b → FlowStays b c → FlowStays a c
+flow_then {a} {b} {c} p q = record {
   sections = stays_then p.sections q.sections;
-  place =
-      q.place ∙ ap (λ (x : FlowPlace). record x { label = c.place.label; used = x.used + k }) p.place
-      ∙ ap (λ u. record a.place { label = c.place.label; used = u }) (let e : (a.place.used + n) + k ≡ a.place.used + (n + k) = omega arith in e);
+  place = q.place ∙ ap (λ (x : FlowPlace). record x { label = c.place.label; used = c.place.used }) p.place;
+  used = let first = p.used in let second = q.used in omega (arith, first, second);
 }
 
-pub same_of : {n : ℕ} {a b : Flow} → FlowStays n a b → SamePlace a b
-same_of {n} {a} {b} p = p.place ∙ ap (λ u. record a.place { label = b.place.label; used = u }) (sym (ap (λ (x : FlowPlace). x.used) p.place))
+pub later_of : {a b : Flow} → FlowStays a b → IsLater a b
+later_of p = record { sections = p.sections.extends; place = p.place }
 
-pub same_then : (a b c : Flow) → SamePlace a b → SamePlace b c → SamePlace a c
-same_then a b c p q = q ∙ ap (λ (x : FlowPlace). record x { label = c.place.label; used = c.place.used }) p
+pub later_then : (a b c : Flow) → IsLater a b → IsLater b c → IsLater a c
+later_then a b c p q = record { sections = extends_then p.sections q.sections; place = q.place ∙ ap (λ (x : FlowPlace). record x { label = c.place.label; used = c.place.used }) p.place }
 
-pub stays_on : {B : Type 0} {n : ℕ} {a b : Flow} (k : ℕ) → FlowStays n a b → (lowered : Lowered B) → EmitStays k b lowered → EmitStays (n + k) a lowered
-stays_on k p (Gives x c) q = flow_then p q
-stays_on k p Lacks q = tt
+pub stays_on : {B : Type 0} {a b : Flow} → FlowStays a b → (lowered : Lowered B) → EmitStays b lowered → EmitStays a lowered
+stays_on p (Gives x c) q = flow_then p q
+stays_on p Lacks q = tt
 
-pub emit_then : {A B : Type 0} (n k : ℕ) (before : Flow) (first : Lowered A) (next : A → Emit B) → EmitStays n before first → ((a : A) (s : Flow) → EmitStays k s (next a s)) → EmitStays (n + k) before (behind first next)
-emit_then n k before (Gives a s) next stays more = stays_on k stays (next a s) (more a s)
-emit_then n k before Lacks next stays more = tt
+pub emit_then : {A B : Type 0} (before : Flow) (first : Lowered A) (next : A → Emit B) → EmitStays before first → ((a : A) (s : Flow) → EmitStays s (next a s)) → EmitStays before (behind first next)
+emit_then before (Gives a s) next stays more = stays_on stays (next a s) (more a s)
+emit_then before Lacks next stays more = tt
 
-pub taken_is : {A : Type 0} (n k : ℕ) → n ≡ k → (before : Flow) (lowered : Lowered A) → EmitStays n before lowered → EmitStays k before lowered
-taken_is n k e before lowered stays = subst (λ z. EmitStays z before lowered) e stays
+pub taken_behind : (a b c n : ℕ) → b ≡ a + n → c ≡ b + 0 → c ≡ a + n
+taken_behind a b c n first second = omega (arith, first, second)
+
+pub taken_both : (a b c n k : ℕ) → b ≡ a + n → c ≡ b + k → c ≡ a + (n + k)
+taken_both a b c n k first second = omega (arith, first, second)
 
 -- ---- code
 
@@ -85,41 +85,51 @@ module _ (whole : Sections) (main : ℕ) (local_size : List ℕ) (rank : ℕ →
   hold_back holders used (type ∷ types) more h =
       subst (λ n. Hold whole main local_size rank f holders n more) (let k = length types in let e : (used + 1) + k ≡ used + suc k = omega arith in e) (hold_back holders (used + 1) types more h.1)
 
-  pub hold_on : (before after : Flow) (n : ℕ) (types : List ℕ) → FlowStays n before after → Hold whole main local_size rank f before.place.holders (before.place.used + n) types → Hold whole main local_size rank f after.place.holders after.place.used types
-  hold_on before after n types stays h = subst (λ (p : FlowPlace). Hold whole main local_size rank f p.holders p.used types) (sym stays.place) h
+  pub hold_on : (before after : Flow) (n : ℕ) (types : List ℕ) → FlowStays before after → after.place.used ≡ before.place.used + n → Hold whole main local_size rank f before.place.holders (before.place.used + n) types
+      → Hold whole main local_size rank f after.place.holders after.place.used types
+  hold_on before after n types stays taken h =
+      subst (λ holders. Hold whole main local_size rank f holders after.place.used types) (sym (ap (λ (p : FlowPlace). p.holders) stays.place)) (subst (λ used. Hold whole main local_size rank f before.place.holders used types) (sym taken) h)
+
+  none_taken : (used : ℕ) → used ≡ used + length {A = ℕ} []
+  none_taken used = let e : used ≡ used + 0 = omega arith in e
 
   -- ---- in a row
 
   pub given_flows : {A : Type 0} (deep : ℕ) (given : List ℕ) (Is : A → List ℕ → Flow → Type 0) (a : A) (s : Flow) → (Extends s.sections whole → Is a given s) → Flows whole main local_size rank f [] deep false given Is s (give a s)
-  given_flows deep given Is a s is = λ inside hold. record { now = given; crosses = crosses_same m rank f deep given s; is = is inside }
+  given_flows deep given Is a s is = λ inside hold. record { now = given; crosses = crosses_same m rank f deep given s; taken = none_taken s.place.used; is = is inside }
 
-  pub flows_then : {A B : Type 0} (asks more : List ℕ) (k deep : ℕ) (first second : Bool) (given : List ℕ) (Is : A → List ℕ → Flow → Type 0) (Then : B → List ℕ → Flow → Type 0) (before : Flow) (lowered : Lowered A) (next : A → Emit B) → EmitStays (length asks) before lowered
-      → Flows whole main local_size rank f asks deep first given Is before lowered → ((a : A) (s : Flow) → EmitStays k s (next a s))
-      → ((a : A) (s : Flow) (now : List ℕ) → Is a now s → (first ≡ false → Widens given now) → FlowStays (length asks) before s → Extends s.sections whole → Flows whole main local_size rank f more deep second now Then s (next a s))
+  pub flows_then : {A B : Type 0} (asks more : List ℕ) (deep : ℕ) (first second : Bool) (given : List ℕ) (Is : A → List ℕ → Flow → Type 0) (Then : B → List ℕ → Flow → Type 0) (before : Flow) (lowered : Lowered A) (next : A → Emit B) → EmitStays before lowered
+      → Flows whole main local_size rank f asks deep first given Is before lowered → ((a : A) (s : Flow) → EmitStays s (next a s))
+      → ((a : A) (s : Flow) (now : List ℕ) → Is a now s → (first ≡ false → Widens given now) → FlowStays before s → Extends s.sections whole → Flows whole main local_size rank f more deep second now Then s (next a s))
       → Flows whole main local_size rank f (asks ++ more) deep (first || second) given Then before (behind lowered next)
-  flows_then {A} {B} asks more k deep first second given Is Then before (Gives a s) next stays flows sorts later =
+  flows_then {A} {B} asks more deep first second given Is Then before (Gives a s) next stays flows sorts later =
       by (next a s) (sorts a s) (λ inside hold. let x = flows inside hold in later a s x.now x.is (λ e. (x.crosses.same e).1) stays inside)
     where
-      by : (lowered : Lowered B) → EmitStays k s lowered
+      by : (lowered : Lowered B) → EmitStays s lowered
           → ((inside : Extends s.sections whole) (hold : Hold whole main local_size rank f before.place.holders before.place.used asks) → Flows whole main local_size rank f more deep second (flows inside hold).now Then s lowered)
           → Flows whole main local_size rank f (asks ++ more) deep (first || second) given Then before lowered
       by (Gives b after) on go = λ inside hold.
           let between = extends_then on.sections.extends inside in
           let front = hold_front before.place.holders before.place.used asks more hold in
           let x = flows between front in
-          let y = go between front inside (hold_on before s (length asks) more stays (hold_back before.place.holders before.place.used asks more hold)) in
-          record { now = y.now; crosses = crosses_then m rank f deep first second given x.now y.now before s after stays.sections.extends.last x.crosses y.crosses; is = y.is }
+          let y = go between front inside (hold_on before s (length asks) more stays x.taken (hold_back before.place.holders before.place.used asks more hold)) in
+          record {
+            now = y.now;
+            crosses = crosses_then m rank f deep first second given x.now y.now before s after stays.sections.extends.last x.crosses y.crosses;
+            taken = let j = x.taken in let k = y.taken in let e = length-append asks more in omega (arith, j, k, e);
+            is = y.is;
+          }
       by Lacks on go = tt
-  flows_then asks more k deep first second given Is Then before Lacks next stays flows sorts later = tt
+  flows_then asks more deep first second given Is Then before Lacks next stays flows sorts later = tt
 
   pub flows_so : {A : Type 0} (asks : List ℕ) (deep : ℕ) (splits : Bool) (given : List ℕ) (Is So : A → List ℕ → Flow → Type 0) (before : Flow) (lowered : Lowered A) → ((a : A) (now : List ℕ) (s : Flow) → Extends s.sections whole → (splits ≡ false → Widens given now) → Is a now s → So a now s)
       → Flows whole main local_size rank f asks deep splits given Is before lowered → Flows whole main local_size rank f asks deep splits given So before lowered
-  flows_so asks deep splits given Is So before (Gives a after) so flows = λ inside hold. let x = flows inside hold in record { now = x.now; crosses = x.crosses; is = so a x.now after inside (λ e. (x.crosses.same e).1) x.is }
+  flows_so asks deep splits given Is So before (Gives a after) so flows = λ inside hold. let x = flows inside hold in record { now = x.now; crosses = x.crosses; taken = x.taken; is = so a x.now after inside (λ e. (x.crosses.same e).1) x.is }
   flows_so asks deep splits given Is So before Lacks so flows = tt
 
   pub flows_deeper : {A : Type 0} (asks : List ℕ) (deep more : ℕ) (splits : Bool) (given : List ℕ) (Is : A → List ℕ → Flow → Type 0) (before : Flow) (lowered : Lowered A) → deep ≤ more → Flows whole main local_size rank f asks deep splits given Is before lowered
       → Flows whole main local_size rank f asks more splits given Is before lowered
-  flows_deeper asks deep more splits given Is before (Gives a after) le flows = λ inside hold. let x = flows inside hold in record { now = x.now; crosses = looser m rank f deep more splits given x.now before after le x.crosses; is = x.is }
+  flows_deeper asks deep more splits given Is before (Gives a after) le flows = λ inside hold. let x = flows inside hold in record { now = x.now; crosses = looser m rank f deep more splits given x.now before after le x.crosses; taken = x.taken; is = x.is }
   flows_deeper asks deep more splits given Is before Lacks le flows = tt
 
   -- ---- steps of the builder
@@ -130,10 +140,11 @@ module _ (whole : Sections) (main : ℕ) (local_size : List ℕ) (rank : ℕ →
       record {
         now = x.now;
         crosses = record { fine = x.goes.fine; code = x.goes.puts.code; puts = x.goes.puts.puts; fits = λ follows c due fresh low h. x.goes.puts.fits follows s.place.label c due h; same = λ e. (refl, x.goes.puts.wider) };
+        taken = none_taken s.place.used;
         is = x.is;
       }
   lift_flows deep given Is s Full comes = tt
 
-pub lift_stays : {A : Type 0} (s : Flow) (built : Built A) → Sorts s.sections built → EmitStays 0 s (built_in s.place built)
-lift_stays s (Made a after) stays = record { sections = stays; place = unused s.place }
+pub lift_stays : {A : Type 0} (s : Flow) (built : Built A) → Sorts s.sections built → EmitStays s (built_in s.place built)
+lift_stays s (Made a after) stays = record { sections = stays; place = refl; used = omega arith }
 lift_stays s Full stays = tt

@@ -1,5 +1,5 @@
 -- Values that wait in holders, and the types of the program's types.
-use Rattle.std.proofs.Common.{◌≡◌, ℕ, Bool, true, false, List, [], ◌∷◌, Option, Some, None, refl, sym, ap, ◌∙◌, subst, append-nil}
+use Rattle.std.proofs.Common.{◌≡◌, ℕ, Bool, true, false, List, [], ◌∷◌, Option, Some, None, refl, sym, ap, ◌∙◌, subst, append-nil, arith}
 use Rattle.std.specs.Prelude.{slice_get}
 use Rattle.std.proofs.lemmas.Bool.{eq-eqb, or_left, or_right}
 use Rattle.gsl_instr.specs.Forms.{form_of}
@@ -29,57 +29,57 @@ use Rattle.gsl_fitting_places.specs.Leading as leading
 use Rattle.gsl_fitting_places.proofs.Chains.{giving_made}
 use Rattle.gsl_fitting_places.proofs.Moves.{load_stands, putting_comes, store_sorts, store_works}
 use Rattle.gsl_fitting_places.proofs.Ways.{no_chain}
-use Rattle.gsl_fitting_flow.specs.Flowing.{EmitStays, Flows, GivesOf, IsHolder, IsOf, IsTypeFor, IsTypeIn, SamePlace, Waits, Widens, asked_if, taken_if}
+use Rattle.gsl_fitting_flow.specs.Flowing.{EmitStays, Flows, GivesOf, IsHolder, IsOf, IsTypeFor, IsTypeIn, IsLater, Waits, Widens, asked_if}
 use Rattle.gsl_fitting_flow.proofs.Following.{emit_then, flow_same, flows_then, flows_so, given_flows, lift_flows, lift_stays}
 
 -- ---- what stays
 
-pub holder_stays : (s : Flow) → EmitStays 1 s (holder s)
+pub holder_stays : (s : Flow) → EmitStays s (holder s)
 unfolding holder
 holder_stays s = by (slice_get s.place.holders s.place.used)
   where
-    by : (o : Option ℕ) → EmitStays 1 s (holder_at o s)
-    by (Some id) = record { sections = stays_same s.sections; place = refl }
+    by : (o : Option ℕ) → EmitStays s (holder_at o s)
+    by (Some id) = record { sections = stays_same s.sections; place = refl; used = omega arith }
     by None = tt
 
-pub store_stays : (h value : ℕ) (s : Flow) → EmitStays 0 s (putting_here op.STORE (h ∷ value ∷ []) s)
+pub store_stays : (h value : ℕ) (s : Flow) → EmitStays s (putting_here op.STORE (h ∷ value ∷ []) s)
 store_stays h value s = lift_stays s (putting op.STORE (h ∷ value ∷ []) s.sections) (store_sorts h value s.sections)
 
 abbrev stored_in : ℕ → ℕ → Emit ℕ
 stored_in value h t = behind (putting_here op.STORE (h ∷ value ∷ []) t) (λ done. give h)
 
-stored_stays : (value h : ℕ) (s : Flow) → EmitStays 0 s (stored_in value h s)
-stored_stays value h s = emit_then 0 0 s (putting_here op.STORE (h ∷ value ∷ []) s) (λ done. give h) (store_stays h value s) (λ done t. flow_same t)
+stored_stays : (value h : ℕ) (s : Flow) → EmitStays s (stored_in value h s)
+stored_stays value h s = emit_then s (putting_here op.STORE (h ∷ value ∷ []) s) (λ done. give h) (store_stays h value s) (λ done t. flow_same t)
 
-pub keep_stays : (value : ℕ) (s : Flow) → EmitStays 1 s (keep value s)
+pub keep_stays : (value : ℕ) (s : Flow) → EmitStays s (keep value s)
 unfolding keep
-keep_stays value s = emit_then 1 0 s (holder s) (stored_in value) (holder_stays s) (λ h t. stored_stays value h t)
+keep_stays value s = emit_then s (holder s) (stored_in value) (holder_stays s) (λ h t. stored_stays value h t)
 
-pub take_stays : (h type : ℕ) (s : Flow) → EmitStays 0 s (take_back h type s)
+pub take_stays : (h type : ℕ) (s : Flow) → EmitStays s (take_back h type s)
 unfolding form_of
 take_stays h type s = lift_stays s (giving op.LOAD (h ∷ []) type s.sections) (giving_sorts op.LOAD (h ∷ []) type s.sections (λ id. refl))
 
-pub type_stays : (t : Ty) (s : Flow) → EmitStays 0 s (type_id t s)
+pub type_stays : (t : Ty) (s : Flow) → EmitStays s (type_id t s)
 unfolding type_id
 type_stays t s = by (shape_of t)
   where
-    found : (o : Option ℕ) → EmitStays 0 s (id_at o s)
+    found : (o : Option ℕ) → EmitStays s (id_at o s)
     found (Some id) = flow_same s
     found None = tt
 
-    by : (o : Option Shape) → EmitStays 0 s (type_by t o s)
+    by : (o : Option Shape) → EmitStays s (type_by t o s)
     by None = found (find_type t s.place.composites)
     by (Some shape) = lift_stays s (types.type_of shape s.sections) (type_sorts shape s.sections)
 
-pub hold_stays : (b : Bool) (value : ℕ) (s : Flow) → EmitStays (taken_if b) s (hold b value s)
+pub hold_stays : (b : Bool) (value : ℕ) (s : Flow) → EmitStays s (hold b value s)
 unfolding hold
 hold_stays false value s = flow_same s
 hold_stays true value s = keep_stays value s
 
-pub fetch_stays : (b : Bool) (t : Ty) (kept : ℕ) (s : Flow) → EmitStays 0 s (fetch b t kept s)
+pub fetch_stays : (b : Bool) (t : Ty) (kept : ℕ) (s : Flow) → EmitStays s (fetch b t kept s)
 unfolding fetch
 fetch_stays false t kept s = flow_same s
-fetch_stays true t kept s = emit_then 0 0 s (type_id t s) (take_back kept) (type_stays t s) (λ type u. take_stays kept type u)
+fetch_stays true t kept s = emit_then s (type_id t s) (take_back kept) (type_stays t s) (λ type u. take_stays kept type u)
 
 module _ (whole : Sections) (main : ℕ) (local_size : List ℕ) (rank : ℕ → ℕ) (f : Frame) (sorted : AreSorted whole) where
   abbrev m : Module
@@ -113,6 +113,7 @@ module _ (whole : Sections) (main : ℕ) (local_size : List ℕ) (rank : ℕ →
           record {
             now = given;
             crosses = record { fine = λ h. h; code = []; puts = sym (append-nil s.sections.functions); fits = λ follows c due fresh low h. h; same = λ e. (refl, λ id h. h) };
+            taken = refl;
             is = (subst (IsHolder whole main local_size rank f type) (some_same other id (sym is ∙ e)) h, λ id h. h);
           }
       by None e = tt
@@ -129,9 +130,9 @@ module _ (whole : Sections) (main : ℕ) (local_size : List ℕ) (rank : ℕ →
   pub keep_flows : (deep : ℕ) (given : List ℕ) (type value : ℕ) (s : Flow) → IsOf whole main local_size rank f given type value → Flows whole main local_size rank f (type ∷ []) deep false given (λ h now after. IsHolder whole main local_size rank f type h) s (keep value s)
   unfolding keep
   keep_flows deep given type value s v =
-      flows_then whole main local_size rank f (type ∷ []) [] 0 deep false false given (λ h now after. IsHolder whole main local_size rank f type h × Widens given now) (λ h now after. IsHolder whole main local_size rank f type h) s (holder s) (stored_in value) (holder_stays s)
+      flows_then whole main local_size rank f (type ∷ []) [] deep false false given (λ h now after. IsHolder whole main local_size rank f type h × Widens given now) (λ h now after. IsHolder whole main local_size rank f type h) s (holder s) (stored_in value) (holder_stays s)
       (holder_flows deep given type s) (λ h t. stored_stays value h t)
-      (λ h t now is wider stays inside. flows_then whole main local_size rank f [] [] 0 deep false false now (λ done now after. Unit {0}) (λ h now after. IsHolder whole main local_size rank f type h) t (putting_here op.STORE (h ∷ value ∷ []) t) (λ done. give h) (store_stays h value t)
+      (λ h t now is wider stays inside. flows_then whole main local_size rank f [] [] deep false false now (λ done now after. Unit {0}) (λ h now after. IsHolder whole main local_size rank f type h) t (putting_here op.STORE (h ∷ value ∷ []) t) (λ done. give h) (store_stays h value t)
       (store_flows deep now type h value t is.0 (of_later given now type value is.1 v)) (λ done u. flow_same u)
       (λ done u later nothing wider stays inside. given_flows whole main local_size rank f deep later (λ h now after. IsHolder whole main local_size rank f type h) h u (λ inside. is.0)))
 
@@ -146,11 +147,11 @@ module _ (whole : Sections) (main : ℕ) (local_size : List ℕ) (rank : ℕ →
 
   -- ---- types
 
-  pub type_on : (a b : Flow) (t : Ty) (type : ℕ) → SamePlace a b → IsTypeFor whole main local_size rank f a.place t type → IsTypeFor whole main local_size rank f b.place t type
+  pub type_on : (a b : Flow) (t : Ty) (type : ℕ) → IsLater a b → IsTypeFor whole main local_size rank f a.place t type → IsTypeFor whole main local_size rank f b.place t type
   type_on a b t type same is = by (shape_of t) is
     where
       by : (o : Option Shape) → IsTypeIn whole main local_size rank f a.place t type o → IsTypeIn whole main local_size rank f b.place t type o
-      by None e = ap (λ (p : FlowPlace). find_type t p.composites) same ∙ e
+      by None e = ap (λ (p : FlowPlace). find_type t p.composites) same.place ∙ e
       by (Some shape) of = of
 
   pub type_flows : (deep : ℕ) (given : List ℕ) (t : Ty) (type : ℕ) (s : Flow) → IsTypeFor whole main local_size rank f s.place t type → Flows whole main local_size rank f [] deep false given (λ id now after. id ≡ type) s (type_id t s)
@@ -176,5 +177,5 @@ module _ (whole : Sections) (main : ℕ) (local_size : List ℕ) (rank : ℕ →
   unfolding fetch
   fetch_flows false deep given t type kept s is w = given_flows whole main local_size rank f deep given (GivesOf whole main local_size rank f type) kept s (λ inside. w)
   fetch_flows true deep given t type kept s is w =
-      flows_then whole main local_size rank f [] [] 0 deep false false given (λ id now after. id ≡ type) (GivesOf whole main local_size rank f type) s (type_id t s) (take_back kept) (type_stays t s) (type_flows deep given t type s is) (λ id u. take_stays kept id u)
+      flows_then whole main local_size rank f [] [] deep false false given (λ id now after. id ≡ type) (GivesOf whole main local_size rank f type) s (type_id t s) (take_back kept) (type_stays t s) (type_flows deep given t type s is) (λ id u. take_stays kept id u)
       (λ id u now same wider stays inside. subst (λ z. Flows whole main local_size rank f [] deep false now (GivesOf whole main local_size rank f type) u (take_back kept z u)) (sym same) (take_flows deep now type kept u w))

@@ -31,8 +31,8 @@ abbrev pub kept_in : ℕ → ℕ → Flow → Flow
 kept_in h value s = record { sections = call.put op.STORE (h ∷ value ∷ []) s.sections; place = s.place }
 
 -- what stays over a part of lowering, its value's holder, and the branch behind it
-pub arm_link : (k h value end next : ℕ) (a s : Flow) → FlowStays k a s → Link (next ∷ []) a.sections (jumped end next (kept_in h value s)).sections
-arm_link k h value end next a s stays =
+pub arm_link : (h value end next : ℕ) (a s : Flow) → FlowStays a s → Link (next ∷ []) a.sections (jumped end next (kept_in h value s)).sections
+arm_link h value end next a s stays =
     link_then [] (next ∷ []) a.sections s.sections (jumped end next (kept_in h value s)).sections (refl, tt) (part_link a.sections s.sections stays.sections)
     (link_then [] (next ∷ []) s.sections (kept_in h value s).sections (jumped end next (kept_in h value s)).sections (refl, tt) (part_link s.sections (kept_in h value s).sections (store_stays h value s).sections)
     (jumped_bridge (module_of s.sections 0 []) end next (kept_in h value s)).link)
@@ -47,13 +47,13 @@ module _ (whole : Sections) (main : ℕ) (local_size : List ℕ) (rank : ℕ →
     pub bridge : Bridge m code (next ∷ []) a.sections b.sections
     pub fits : (c d : Around) (due : List Due) → Fresh c (a.sections.last + 1) → end < a.sections.last + 1 → c.depth + suc deep ≤ most_constructs → FromTo m rank f code (In a.place.label (in_arm c end) [] (run next d ∷ due)) (In next d [] due)
 
-  pub arm_done : (k deep : ℕ) (splits : Bool) (now : List ℕ) (type h value end next : ℕ) (a s : Flow) → FlowStays k a s → Crosses m rank f deep splits [] now a s → IsHolder whole main local_size rank f type h → IsOf whole main local_size rank f now type value
+  pub arm_done : (deep : ℕ) (splits : Bool) (now : List ℕ) (type h value end next : ℕ) (a s : Flow) → FlowStays a s → Crosses m rank f deep splits [] now a s → IsHolder whole main local_size rank f type h → IsOf whole main local_size rank f now type value
       → Extends (jumped end next (kept_in h value s)).sections whole → is_mark m end ≡ true → Arm deep end next a (jumped end next (kept_in h value s))
-  arm_done k deep splits now type h value end next a s stays x is v inside mark = record {
+  arm_done deep splits now type h value end next a s stays x is v inside mark = record {
     code = x.code ++ (y.crosses.code ++ jumped_code end next);
     bridge =
-        bridge_then m x.code (y.crosses.code ++ jumped_code end next) [] (next ∷ []) a.sections s.sections (jumped end next kept).sections (refl, tt) (part_bridge m rank f deep k splits [] now a s stays x)
-        (bridge_then m y.crosses.code (jumped_code end next) [] (next ∷ []) s.sections kept.sections (jumped end next kept).sections (refl, tt) (part_bridge m rank f deep 0 false now y.now s kept (store_stays h value s) y.crosses) (jumped_bridge m end next kept));
+        bridge_then m x.code (y.crosses.code ++ jumped_code end next) [] (next ∷ []) a.sections s.sections (jumped end next kept).sections (refl, tt) (part_bridge m rank f deep splits [] now a s stays x)
+        (bridge_then m y.crosses.code (jumped_code end next) [] (next ∷ []) s.sections kept.sections (jumped end next kept).sections (refl, tt) (part_bridge m rank f deep false now y.now s kept (store_stays h value s) y.crosses) (jumped_bridge m end next kept));
     fits = λ c d due fresh lt low.
         let inner = arm_fresh c (a.sections.last + 1) end lt fresh in
         let more = stays.sections.extends.last in
@@ -67,7 +67,7 @@ module _ (whole : Sections) (main : ℕ) (local_size : List ℕ) (rank : ℕ →
       kept : Flow
       kept = kept_in h value s
 
-      y : Carries whole main local_size rank f deep false now (λ done now after. Unit {0}) s nothing (kept_in h value s)
+      y : Carries whole main local_size rank f [] deep false now (λ done now after. Unit {0}) s nothing (kept_in h value s)
       y = store_flows whole main local_size rank f sorted deep now type h value s is v (extends_then (jumped_bridge m end next (kept_in h value s)).link.extends inside) tt
 
       within : (c : Around) → c.depth + suc deep ≤ most_constructs → (c.depth + 1) + deep ≤ most_constructs

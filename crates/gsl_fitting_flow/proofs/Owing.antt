@@ -130,8 +130,8 @@ label_bridge m label s = record {
 pub part_link : (a b : Sections) → Stays a b → Link [] a b
 part_link a b stays = record { extends = stays.extends; sorted = λ o h. stays.sorted h; anew = λ id low other. stays.anew id low }
 
-pub part_bridge : (m : Module) (rank : ℕ → ℕ) (f : Frame) (deep taken : ℕ) (splits : Bool) (given now : List ℕ) (a b : Flow) → FlowStays taken a b → (x : Crosses m rank f deep splits given now a b) → Bridge m x.code [] a.sections b.sections
-part_bridge m rank f deep taken splits given now a b stays x = record { link = part_link a.sections b.sections stays.sections; puts = x.puts; fine = λ o h. x.fine h }
+pub part_bridge : (m : Module) (rank : ℕ → ℕ) (f : Frame) (deep : ℕ) (splits : Bool) (given now : List ℕ) (a b : Flow) → FlowStays a b → (x : Crosses m rank f deep splits given now a b) → Bridge m x.code [] a.sections b.sections
+part_bridge m rank f deep splits given now a b stays x = record { link = part_link a.sections b.sections stays.sections; puts = x.puts; fine = λ o h. x.fine h }
 
 -- ---- ids that are taken are owed
 

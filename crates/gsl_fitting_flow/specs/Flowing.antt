@@ -1,5 +1,5 @@
 -- What a part of lowering does to the code of the function that is open, whose blocks may end and begin on the way (SPIR-V 1.0, 2.11).
-use Rattle.std.specs.Prelude.{◌≡◌, ℕ, ◌+◌, ◌≤◌, Bool, true, false, List, [], ◌∷◌, ◌++◌, slice_get, Option, Some, None}
+use Rattle.std.specs.Prelude.{◌≡◌, ℕ, ◌+◌, ◌≤◌, Bool, true, false, List, [], ◌∷◌, ◌++◌, length, slice_get, Option, Some, None, unwrap_or}
 use Rattle.gsl_instr.specs.declared.enumerant.storage_class.TheConstants as storage_class
 use Rattle.gsl_types.specs.declared.ty.Ty.{Ty}
 use Rattle.gsl_tree.specs.Shapes.{Shape, shape_of}
@@ -14,8 +14,11 @@ use Rattle.gsl_valid.specs.LimitRules.{most_constructs}
 use Rattle.gsl_valid.specs.MemoryRules.{is_base, is_moved}
 use Rattle.gsl_valid.specs.Placed.{Code}
 use Rattle.gsl_valid.specs.Types.{defined_as, outside_of}
+use Rattle.gsl_spv.specs.Declarations as d
 use Rattle.gsl_spv.specs.Growing.{Extends}
+use Rattle.gsl_spv.specs.Once.{id_of}
 use Rattle.gsl_spv.specs.Sections.{Sections}
+use Rattle.gsl_spv.specs.declared.plain.PlainType.TheVariants as plain
 use Rattle.gsl_lower_holders.specs.Flow.{Flow, Lowered, Gives, Lacks, find_type}
 use Rattle.gsl_lower_holders.specs.declared.place.FlowPlace.{FlowPlace}
 use Rattle.gsl_fitting.specs.Fits.{Fits, Frame, In, is_known}
@@ -25,26 +28,24 @@ use Rattle.gsl_fitting_types.specs.Making.{IsSized, IsTypeOf, Stays, made}
 
 -- ---- what stays
 
--- What a builder held stays in its sections, and what the place tells, but for the block that is open and that so many holders more
--- were used.
-pub record FlowStays (taken : ℕ) (before after : Flow) : Type 0 where
+-- What a builder held stays in its sections, and what the place tells, but for the block that is open and that more holders were used.
+pub record FlowStays (before after : Flow) : Type 0 where
   pub sections : Stays before.sections after.sections
-  pub place : after.place ≡ record before.place { label = after.place.label; used = before.place.used + taken }
+  pub place : after.place ≡ record before.place { label = after.place.label; used = after.place.used }
+  pub used : before.place.used ≤ after.place.used
 
 -- A part of lowering leaves a flow so, where it comes to something.
-abbrev pub EmitStays : {A : Type 0} → ℕ → Flow → Lowered A → Type 0
-EmitStays taken before (Gives a after) = FlowStays taken before after
-EmitStays taken before Lacks = Unit {0}
+abbrev pub EmitStays : {A : Type 0} → Flow → Lowered A → Type 0
+EmitStays before (Gives a after) = FlowStays before after
+EmitStays before Lacks = Unit {0}
 
--- A place tells the same but for the block that is open and the holders that were used.
-abbrev pub SamePlace : Flow → Flow → Type 0
-SamePlace before after = after.place ≡ record before.place { label = after.place.label; used = after.place.used }
+-- A flow comes behind another: what that builder held stays in its sections, and the place tells the same, but for the block that is open and
+-- the holders that were used.
+pub record IsLater (before after : Flow) : Type 0 where
+  pub sections : Extends before.sections after.sections
+  pub place : after.place ≡ record before.place { label = after.place.label; used = after.place.used }
 
--- how many holders something takes that waits, or does not, and of which types
-abbrev pub taken_if : Bool → ℕ
-taken_if true = 1
-taken_if false = 0
-
+-- the types of the holders that something takes which waits, or does not
 abbrev pub asked_if : Bool → ℕ → List ℕ
 asked_if true type = type ∷ []
 asked_if false type = []
@@ -87,8 +88,13 @@ module _ (whole : Sections) (main : ℕ) (local_size : List ℕ) (rank : ℕ →
 
   -- ---- holders
 
+  -- the type of pointers to variables of functions that hold values of a type
+  abbrev pub pointer_id : ℕ → ℕ
+  pointer_id type = unwrap_or (id_of (d.plain_type (plain.Pointer storage_class.FUNCTION type)) whole.globals) 0
+
   -- A variable of the function holds a value of a type, without an array of unknown length.
   pub record IsHolder (type id : ℕ) : Type 0 where
+    pub typed : type_of (defined_as m id) ≡ Some (pointer_id type)
     pub base : is_base (kind (defined_as m id)) ≡ true
     pub leads : target m id ≡ Some (record { class = storage_class.FUNCTION; pointee = type })
     pub own : is_among f.own id ≡ true
@@ -107,16 +113,17 @@ module _ (whole : Sections) (main : ℕ) (local_size : List ℕ) (rank : ℕ →
 
   -- ---- parts of lowering
 
-  -- From one flow to the next what was put fits, and what was given is so behind it.
-  pub record Carries {A : Type 0} (deep : ℕ) (splits : Bool) (given : List ℕ) (Is : A → List ℕ → Flow → Type 0) (before : Flow) (a : A) (after : Flow) : Type 0 where
+  -- From one flow to the next what was put fits, as many holders were used as were asked for, and what was given is so behind it.
+  pub record Carries {A : Type 0} (asks : List ℕ) (deep : ℕ) (splits : Bool) (given : List ℕ) (Is : A → List ℕ → Flow → Type 0) (before : Flow) (a : A) (after : Flow) : Type 0 where
     pub now : List ℕ
     pub crosses : Crosses m rank f deep splits given now before after
+    pub taken : after.place.used ≡ before.place.used + length asks
     pub is : Is a now after
 
   -- Where what the builder holds then is part of what the module is made of, and the next holders are of the types that are asked for, a
   -- part of lowering that comes to something carries this on.
   abbrev pub Flows : {A : Type 0} → List ℕ → ℕ → Bool → List ℕ → (A → List ℕ → Flow → Type 0) → Flow → Lowered A → Type 0
-  Flows asks deep splits given Is before (Gives a after) = Extends after.sections whole → Hold before.place.holders before.place.used asks → Carries deep splits given Is before a after
+  Flows asks deep splits given Is before (Gives a after) = Extends after.sections whole → Hold before.place.holders before.place.used asks → Carries asks deep splits given Is before a after
   Flows asks deep splits given Is before Lacks = Unit {0}
 
   -- a part gives a value of a type

@@ -3,8 +3,8 @@ use Rattle.gsl_fitting_flow.specs.Flowing.{GivesOf}
 use Rattle.gsl_fitting_flow.proofs.laws.parts_follow.Goals as goal
 
 pub returns-clause-stays : goal.returns-clause-stays
-returns-clause-stays c n k before first next = emit_then n k before first next
+returns-clause-stays c before first next = emit_then before first next
 
 pub returns-clause-flows : goal.returns-clause-flows
-returns-clause-flows c whole main local_size rank f asks more k deep first second given type other before lowered next =
-    flows_then whole main local_size rank f asks more k deep first second given (GivesOf whole main local_size rank f type) (GivesOf whole main local_size rank f other) before lowered next
+returns-clause-flows c whole main local_size rank f asks more deep first second given type other before lowered next =
+    flows_then whole main local_size rank f asks more deep first second given (GivesOf whole main local_size rank f type) (GivesOf whole main local_size rank f other) before lowered next
