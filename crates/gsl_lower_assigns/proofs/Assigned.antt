@@ -38,7 +38,7 @@ use Rattle.gsl_lower_writes.proofs.Adding.{adds_stores}
 use Rattle.gsl_lower_writes.proofs.Outside.{store_strays}
 use Rattle.gsl_lower_writes.proofs.Stored.{trail_stored}
 use Rattle.gsl_lower_assigns.specs.Assigning.{Assigns, assign_means}
-use Rattle.gsl_lower_assigns.proofs.Probing.{IsTested, adds_probe, probe_in, probe_none, probe_out}
+use Rattle.gsl_lower_writes.proofs.Probing.{IsTested, adds_probe, probe_in, probe_none, probe_out}
 
 -- what comes to something goes on to stray
 comes_strays : {A : Type 0} (ran : Ran Value) → Comes ran → shader_run.behind {B = A} ran (λ v s left. Strays) ≡ Strays

@@ -1,5 +1,3 @@
-pub mod First
-pub mod Probing
 pub mod Assigned
 pub mod Finishing
 pub mod Stepping

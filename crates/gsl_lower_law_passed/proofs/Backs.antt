@@ -23,7 +23,7 @@ use Rattle.gsl_lower_places.specs.declared.reached.Reached.{Reached}
 use Rattle.gsl_lower_law.specs.Computing.{Computes}
 use Rattle.gsl_lower_law.specs.Values.{Stands}
 use Rattle.gsl_lower_law_operators.proofs.Conversions.{converted_computes}
-use Rattle.gsl_lower_holders.specs.Flow.{Emit, Flow, given, type_id, ◌>>=◌}
+use Rattle.gsl_lower_holders.specs.Flow.{Emit, Flow, type_id, ◌>>=◌}
 use Rattle.gsl_lower_holders.specs.Waiting.{fetch_reached, take_back}
 use Rattle.gsl_lower_expr.specs.Calls.{all_back, as_argument, back, back_if, back_to, tys}
 use Rattle.gsl_lower_expr.specs.Parts.{Lower, any_splits, scalar_of, stores}

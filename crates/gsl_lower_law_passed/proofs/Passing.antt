@@ -47,7 +47,7 @@ use Rattle.gsl_lower_reads.proofs.Holds.{adds_held, is_held}
 use Rattle.gsl_lower_reads.proofs.Adding.{adds_reads}
 use Rattle.gsl_lower_reads.proofs.Straying.{read_strays}
 use Rattle.gsl_lower_reads.proofs.Taking.{taken}
-use Rattle.gsl_lower_assigns.proofs.Probing.{IsTested, adds_probe, probe_in, probe_out}
+use Rattle.gsl_lower_writes.proofs.Probing.{IsTested, adds_probe, probe_in, probe_out}
 use Rattle.gsl_lower_law_passed.specs.Arguments.{AllServe, ComesBack, GoesIn, HasZeros, Serves}
 use Rattle.gsl_lower_law_passed.proofs.Fresh.{AreIds, FreshBy, PartIf, PartIs, PickedIf, does_with, held_fresh}
 use Rattle.gsl_lower_law_passed.proofs.Items.{AreItems, IsItem, Item, back_after, meant_of, way_of, ways_of}

@@ -153,7 +153,7 @@ module _ (m : Module) (input : Input) (whole : Sections) (f : Frame m input whol
       fits v typed = subst (λ u. is_value_of p.structs u v ≡ true) (sym x.typed) (back.fits v typed)
 
   zeros_serve : (t : Ty) → IsVariableType p.structs t → HasZeros m input whole f p around t
-  zeros_serve t is = record { typed = zero_is t is; gives = zeros_given m input whole f p around t knows.nulls (knows.zeros t) is.known (zero_is t is) }
+  zeros_serve t is = record { typed = zero_is t is; gives = zeros_given m input whole f p around t knows.nulls (λ composite. knows.zeros t composite is) is.known (zero_is t is) }
 
   serves_one : (way : Direction) (t : Ty) (e : Expr) → IsVariableType p.structs t → IsArgument around way t e → Is e → Serves m input whole f p around way t (low e) (means e)
   serves_one In t e is fits x = goes_in t e is fits x

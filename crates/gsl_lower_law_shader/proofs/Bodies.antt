@@ -100,7 +100,7 @@ module _ (m : Module) (input : Input) (whole : Sections) (f : Frame m input whol
         splits = false;
         gives = subst (λ u. GivesValue m input whole f p around false t (initial lower locals number None) (shader_run.given (zero_value p.structs u))) (sym (index_is locals number t is.1))
             (subst (λ u. GivesValue m input whole f p around false t (zeros u) (shader_run.given (zero_value p.structs t))) (sym (index_is locals number t is.1))
-            (zeros_given m input whole f p around t knows.nulls (knows.zeros t) v.known zero_is));
+            (zeros_given m input whole f p around t knows.nulls (λ composite. knows.zeros t composite v) v.known zero_is));
       }
   begins number (Some e) is typed reads asks = record {
     ty = is.0;

@@ -33,7 +33,7 @@ use Rattle.gsl_lower_law_shader.specs.Depths.{AllStand, body_of, call_of, stage_
 use Rattle.gsl_lower_law_shader.proofs.Ranked.{ranked_do}
 use Rattle.gsl_lower_law_shader.specs.Alike.{EndsAs, IsMain, around_main, main_begins}
 
-module _ (m : Module) (input : Input) (whole : Sections) (p : Program) (place : FlowPlace) (stages : List (Option Value)) (rank : ℕ → ℕ) (f : Frame m input whole) (tree : Function) (begin : Flow) (valid : Valid m) (written : Written m whole) (all : AllStand m input whole p place stages rank) (main : IsMain m input whole p place stages rank f tree begin) where
+module _ (m : Module) (input : Input) (whole : Sections) (p : Program) (place : FlowPlace) (stages : List (Option Value)) (rank : ℕ → ℕ) (f : Frame m input whole) (tree : Function) (begin : Flow) (valid : Valid m) (written : Written m whole) (all : AllStand m input whole p place stages rank most_calls) (main : IsMain m input whole p place stages rank f tree begin) where
   abbrev run : Run statement.Flow
   run = runs_all (setting_of p input (calls p input most_calls)) tree.locals tree.body
 
@@ -67,6 +67,6 @@ module _ (m : Module) (input : Input) (whole : Sections) (p : Program) (place : 
     shader_ends =
         subst (λ o. EndsAs m input units state (outcome_of p input (main_of p input o (begins p input) units))) (sym main.found) (ended (run (main_begins p input tree) units) follows)
 
-pub ends_as : (m : Module) (input : Input) (whole : Sections) (p : Program) (place : FlowPlace) (stages : List (Option Value)) (rank : ℕ → ℕ) (f : Frame m input whole) (tree : Function) (begin : Flow) (units : ℕ) (state : State) → Valid m → Written m whole → AllStand m input whole p place stages rank
+pub ends_as : (m : Module) (input : Input) (whole : Sections) (p : Program) (place : FlowPlace) (stages : List (Option Value)) (rank : ℕ → ℕ) (f : Frame m input whole) (tree : Function) (begin : Flow) (units : ℕ) (state : State) → Valid m → Written m whole → AllStand m input whole p place stages rank most_calls
     → IsMain m input whole p place stages rank f tree begin → Good m input whole f p (around_main p tree) begin (main_begins p input tree) state → EndsAs m input units state (shader.shader p units input)
 ends_as m input whole p place stages rank f tree begin units state valid written all main good = shader_ends m input whole p place stages rank f tree begin valid written all main units state good

@@ -1,5 +1,5 @@
 mod Bodies
 mod Arguments
 mod Called
-mod Ranked
-mod Ended
+pub mod Ranked
+pub mod Ended

@@ -65,7 +65,7 @@ module _ (m : Module) (input : Input) (whole : Sections) (p : Program) (place : 
         zeros_there is later grown u units state good =
             let t = subst (IsVariableType p.structs) (sym gives) is in
             let knows = s.knows g of_module in
-            (zeros_given m input whole g p inner g.result knows.nulls (knows.zeros g.result) t.known (zero_typed p.structs s.typed.program.structs (declared_plain p.structs s.typed.program.declared) g.result t.known t.plain)).does later u units state good
+            (zeros_given m input whole g p inner g.result knows.nulls (λ composite. knows.zeros g.result composite t) t.known (zero_typed p.structs s.typed.program.structs (declared_plain p.structs s.typed.program.declared) g.result t.known t.plain)).does later u units state good
 
         by : IsResult p.structs head.result → DoesBody m input whole g p inner s.begin (body_of p s.tree g.result) run
         by (inl none) = void_body_does m input whole g p inner (any_leaves (map (λ (s : LowerStmt). s.leaves) (statements_of p s.tree))) (in_turn (statements_of p s.tree)) run s.begin (statements_do g of_module gives) (gives ∙ none)
@@ -90,10 +90,11 @@ module _ (m : Module) (input : Input) (whole : Sections) (p : Program) (place : 
         subst (λ t. FunctionDoes m input whole p place stages (globals_of p) function head.params t (calls p input (suc depth) number)) result_is
         (call_does m input whole p place stages (globals_of p) function number depth head.params s.tree s.found outside)
 
-  pub at_each_depth : AllStand m input whole p place stages rank → (depth number : ℕ) → rank number < depth → CallsDo m input whole p place stages depth number
-  at_each_depth all zero number less = λ head function named there. absurd (omega (arith, less))
-  at_each_depth all (suc depth) number less = λ head function named there.
-      one_does depth number function head named (all number function head named there) (λ other below. at_each_depth all depth other (omega (arith, less, below)))
+  pub at_each_depth : (depth number : ℕ) → AllStand m input whole p place stages rank depth → rank number < depth → CallsDo m input whole p place stages depth number
+  at_each_depth zero number all less = λ head function named there. absurd (omega (arith, less))
+  at_each_depth (suc depth) number all less = λ head function named there.
+      one_does depth number function head named (all number function head named there less)
+      (λ other below. at_each_depth depth other (λ n f h is has low. all n f h is has (omega (arith, low))) (omega (arith, less, below)))
 
-pub ranked_do : (m : Module) (input : Input) (whole : Sections) (p : Program) (place : FlowPlace) (stages : List (Option Value)) (rank : ℕ → ℕ) (depth number : ℕ) → Valid m → Written m whole → AllStand m input whole p place stages rank → rank number < depth → CallsDo m input whole p place stages depth number
-ranked_do m input whole p place stages rank depth number valid written all less = at_each_depth m input whole p place stages rank valid written all depth number less
+pub ranked_do : (m : Module) (input : Input) (whole : Sections) (p : Program) (place : FlowPlace) (stages : List (Option Value)) (rank : ℕ → ℕ) (depth number : ℕ) → Valid m → Written m whole → AllStand m input whole p place stages rank depth → rank number < depth → CallsDo m input whole p place stages depth number
+ranked_do m input whole p place stages rank depth number valid written all less = at_each_depth m input whole p place stages rank valid written depth number all less

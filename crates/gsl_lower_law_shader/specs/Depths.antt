@@ -103,6 +103,6 @@ module _ (m : Module) (input : Input) (whole : Sections) (p : Program) (place : 
     pub knows : (g : Frame m input whole) → IsFrame m input whole place stages g → KnowsTypes m input whole g p
     pub asks : (depth : ℕ) (g : Frame m input whole) → IsFrame m input whole place stages g → AlongAll (AreAskedOf rank (rank number) depth g head.params tree.locals) (with_exits outside tree.body)
 
-  -- All functions that the module knows do so.
-  abbrev pub AllStand : (ℕ → ℕ) → Type 0
-  AllStand rank = (number function : ℕ) (head : Prototype) → slice_get p.prototypes number ≡ Some head → slice_get place.functions number ≡ Some function → Stands rank number function head
+  -- All functions that rank below a number do so. Those that main does not reach have an id as well, but no function stands under it: they rank higher.
+  abbrev pub AllStand : (ℕ → ℕ) → ℕ → Type 0
+  AllStand rank below = (number function : ℕ) (head : Prototype) → slice_get p.prototypes number ≡ Some head → slice_get place.functions number ≡ Some function → rank number < below → Stands rank number function head

@@ -1,3 +1,4 @@
 pub mod Typed
 pub mod Depths
+pub mod Asked
 pub mod Alike

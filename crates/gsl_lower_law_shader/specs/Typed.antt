@@ -9,6 +9,7 @@ use Rattle.gsl_words.specs.declared.module.Module.{Module}
 use Rattle.gsl_values.specs.declared.value.Value.{Value}
 use Rattle.gsl_tree.specs.Shapes.{shape_of}
 use Rattle.gsl_tree.specs.Trees.{Exits, Throughout, exprs_of, type_of}
+use Rattle.gsl_tree.specs.WellTyped.{IsVariableType}
 use Rattle.gsl_tree.specs.declared.expr.Expr.{Expr}
 use Rattle.gsl_tree.specs.declared.expr.StageVar.{StageVar}
 use Rattle.gsl_tree.specs.declared.program.Program.{Program}
@@ -31,8 +32,8 @@ module _ (m : Module) (input : Input) (whole : Sections) (f : Frame m input whol
   abbrev pub AsksOf : Exits → Stmt → Type 0
   AsksOf exits s = AllByRecursion AsksThroughout (exprs_of (out-Stmt s))
 
--- What a function knows of arrays and structs in the module: none is a vector there, and their zeros are those of the program.
+-- What a function knows of arrays and structs in the module: none is a vector there, and the zeros of those that variables may have are those of the program.
 pub record KnowsTypes (m : Module) (input : Input) (whole : Sections) (f : Frame m input whole) (p : Program) : Type 0 where
   pub vectors : NoVectors m input whole f
   pub nulls : Nulls m whole f.own
-  pub zeros : (t : Ty) → shape_of t ≡ None → KnowsZeros m p.structs t f.place
+  pub zeros : (t : Ty) → shape_of t ≡ None → IsVariableType p.structs t → KnowsZeros m p.structs t f.place

@@ -16,7 +16,7 @@ ghost use Rattle.gsl_lower_stmt.specs.Parts.{LowerStmt, in_turn};
 ghost use Rattle.gsl_lower_text.specs.Written.{Written};
 ghost use Rattle.gsl_machine.specs.State.{State};
 ghost use Rattle.gsl_meaning.specs.Expressions.{Calls};
-ghost use Rattle.gsl_meaning.specs.Shader.{shader};
+ghost use Rattle.gsl_meaning.specs.Shader.{most_calls, shader};
 ghost use Rattle.gsl_meaning.specs.Statements.{runs_all};
 ghost use Rattle.gsl_spv.specs.Sections.{Sections};
 ghost use Rattle.gsl_tree.specs.Statements.{IsBody};
@@ -38,13 +38,13 @@ pub fn typed_bodies_do()
     ensures { (m : Module) (input : Input) (whole : Sections) (f : Frame m input whole) (p : Program) (params : List (Direction × Ty)) (locals : List Ty) (call : ℕ → List Lower → Ty → Emit ℕ) (stage : StageVar → Value) (calls : Calls) (ss : List Stmt) → IsTyped p params locals → KnowsTypes m input whole f p → IsBody (around_body (program_lists p) params locals) f.result ss → AlongAll (AsksOf m input whole f p params locals call stage calls) (with_exits outside ss) → DoesStatement m input whole f p (around_body (program_lists p) params locals) (any_leaves (map (λ (s : LowerStmt). s.leaves) (map (lowers_stmt (lowered_in p call) locals) ss))) (in_turn (map (lowers_stmt (lowered_in p call) locals) ss)) (runs_all (meant_in p stage calls) locals ss) }
 {}
 
-/// Where the functions of a program stand in a valid module as they are lowered, each call of one that ranks below a depth does what it means, wherever in the module it is called.
+/// Where the functions of a program that rank below a depth stand in a valid module as they are lowered, each call of one does what it means, wherever in the module it is called.
 pub fn functions_do_at_each_depth()
-    ensures { (m : Module) (input : Input) (whole : Sections) (p : Program) (place : FlowPlace) (stages : List (Option Value)) (rank : ℕ → ℕ) (depth number : ℕ) → Valid m → Written m whole → AllStand m input whole p place stages rank → rank number < depth → CallsDo m input whole p place stages depth number }
+    ensures { (m : Module) (input : Input) (whole : Sections) (p : Program) (place : FlowPlace) (stages : List (Option Value)) (rank : ℕ → ℕ) (depth number : ℕ) → Valid m → Written m whole → AllStand m input whole p place stages rank depth → rank number < depth → CallsDo m input whole p place stages depth number }
 {}
 
 /// From where the body of main begins, the module ends as the shader does on the input: with the same output, astray where an index is out of bounds, or still going after as many instructions as
 /// there are units.
 pub fn modules_end_as_shaders()
-    ensures { (m : Module) (input : Input) (whole : Sections) (p : Program) (place : FlowPlace) (stages : List (Option Value)) (rank : ℕ → ℕ) (f : Frame m input whole) (tree : Function) (begin : Flow) (units : ℕ) (state : State) → Valid m → Written m whole → AllStand m input whole p place stages rank → IsMain m input whole p place stages rank f tree begin → Good m input whole f p (around_main p tree) begin (main_begins p input tree) state → EndsAs m input units state (shader p units input) }
+    ensures { (m : Module) (input : Input) (whole : Sections) (p : Program) (place : FlowPlace) (stages : List (Option Value)) (rank : ℕ → ℕ) (f : Frame m input whole) (tree : Function) (begin : Flow) (units : ℕ) (state : State) → Valid m → Written m whole → AllStand m input whole p place stages rank most_calls → IsMain m input whole p place stages rank f tree begin → Good m input whole f p (around_main p tree) begin (main_begins p input tree) state → EndsAs m input units state (shader p units input) }
 {}

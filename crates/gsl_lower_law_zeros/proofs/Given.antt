@@ -54,7 +54,7 @@ use Rattle.gsl_lower_law_stmt.proofs.Declared.{declared_does}
 use Rattle.gsl_lower_law_zeros.specs.Nulls.{KnowsZeros, Nulls}
 
 -- the zeros of a scalar or vector
-abbrev zero_of : Shape → Value
+abbrev pub zero_of : Shape → Value
 zero_of shape = if shape.1 == 1 then Word 0 else Many (replicate shape.1 (Word 0))
 
 shape_zero : (structs : List StructType) (shape : Shape) → zero_value structs (of_shape shape) ≡ zero_of shape
@@ -64,7 +64,7 @@ shape_zero structs shape = by (nat_eq shape.1 1)
     by true = over_one zero_meaning (numbered zero_meaning structs) shape.0
     by false = over_vector zero_meaning (numbered zero_meaning structs) shape.0 shape.1
 
-zero_is : (structs : List StructType) (t : Ty) (shape : Shape) → IsSound (length structs) t → shape_of t ≡ Some shape → zero_value structs t ≡ zero_of shape
+pub zero_is : (structs : List StructType) (t : Ty) (shape : Shape) → IsSound (length structs) t → shape_of t ≡ Some shape → zero_value structs t ≡ zero_of shape
 zero_is structs t shape sound is = ap (zero_value structs) (sym (shape_again (length structs) t shape sound is)) ∙ shape_zero structs shape
 
 adds_zeros : (m : Module) (input : Input) (whole : Sections) (t : Ty) → Adds (zeros t)

@@ -57,7 +57,7 @@ use Rattle.gsl_lower_writes.proofs.Outside.{pointed_strays}
 use Rattle.gsl_lower_writes.proofs.Pointed.{IsServed, place_pointed}
 use Rattle.gsl_lower_writes.proofs.Renewed.{has_words, old, part, there, whole_typed}
 use Rattle.gsl_lower_writes.proofs.Stored.{at_variable}
-use Rattle.gsl_lower_assigns.proofs.First.{HasFirst, fixed_numbers, value_first}
+use Rattle.gsl_lower_writes.proofs.First.{HasFirst, fixed_numbers, value_first}
 
 -- steps that are lifted one behind the other
 pub lift_then : {A B : Type 0} (first : Step A) (next : A → Step B) (b : Flow) → lift (steps.◌>>=◌ first next) b ≡ (lift first >>= (λ a. lift (next a))) b

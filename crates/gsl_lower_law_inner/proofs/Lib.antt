@@ -1,0 +1,11 @@
+pub mod Steps
+pub mod Values
+pub mod Built
+pub mod Places
+pub mod Leaves
+pub mod Flows
+pub mod Parts
+pub mod Calls
+pub mod Whole
+pub mod Statements
+pub mod Declaring

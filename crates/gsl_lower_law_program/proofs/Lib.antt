@@ -1,0 +1,10 @@
+pub mod Codes
+pub mod Zeros
+pub mod Names
+pub mod Put
+pub mod Stood
+pub mod Ranks
+pub mod Asking
+pub mod Standing
+pub mod Entry
+pub mod Main
