@@ -1,0 +1,14 @@
+pub mod Decorated
+pub mod Sizes
+pub mod Tells
+pub mod Stages
+pub mod Puts
+pub mod Types
+pub mod Interfaces
+pub mod Constants
+pub mod Globals
+pub mod Passed
+pub mod Declared
+pub mod Begun
+pub mod Given
+pub mod Typed
