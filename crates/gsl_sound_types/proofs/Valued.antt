@@ -64,7 +64,7 @@ module _ (m : Module) (kept : Kept m) where
       by_shape _ is = absurd (false≢true is)
 
   -- a vector that is shuffled has as many components as are named
-  shuffled_sized : (places : List ℕ) (type first : ℕ) → is_shuffled_as m places (shape_of (defined_as m type)) (shape_of (defined_as m first)) ≡ true → HasLanes m type × (length places ≡ Size m type)
+  pub shuffled_sized : (places : List ℕ) (type first : ℕ) → is_shuffled_as m places (shape_of (defined_as m type)) (shape_of (defined_as m first)) ≡ true → HasLanes m type × (length places ≡ Size m type)
   shuffled_sized places type first is = by_shape (shape_of (defined_as m type)) (made_at m kept type) is
     where
       by_other : (component count : ℕ) (other : Shape) → are_shuffled places component count other ≡ true → length places ≡ count

@@ -1,9 +1,14 @@
 //! What a machine does where instructions give values.
 #![tactic(auto)]
 
+mod composites;
 mod functions;
+mod gathering;
 mod lanes;
 mod operators;
+mod parts;
 
+pub use composites::{extract, insert};
 pub use functions::{bit_field_extract, bit_field_insert, extended, select};
+pub use gathering::construct;
 pub use operators::{arithmetic, comparison, logical, shift};
