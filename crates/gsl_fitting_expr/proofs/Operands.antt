@@ -1,5 +1,5 @@
 -- Operators and conversions of scalars and vectors, and of truth values.
-use Rattle.std.proofs.Common.{◌≡◌, ℕ, ◌+◌, Bool, true, ◌||◌, List, [], ◌∷◌, ◌++◌, length, Some, sym, ap, subst, suc, arith}
+use Rattle.std.proofs.Common.{◌≡◌, ℕ, Bool, true, ◌||◌, List, [], ◌∷◌, ◌++◌, Some, sym, ap, subst, suc}
 use Rattle.gsl_types.specs.declared.ty.Scalar.{Scalar}
 use Rattle.gsl_types.specs.declared.ty.Scalar.TheVariants.{Bool as Boolean}
 use Rattle.gsl_types.specs.declared.ty.StructType.{StructType}

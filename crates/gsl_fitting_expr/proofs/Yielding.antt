@@ -1,5 +1,5 @@
 -- Parts of lowering in a row, and what is made of what a part gives.
-use Rattle.std.proofs.Common.{◌≡◌, ℕ, ◌+◌, Bool, true, false, ◌||◌, List, [], ◌++◌, length, refl, sym, subst, append-nil, arith}
+use Rattle.std.proofs.Common.{◌≡◌, ℕ, Bool, true, false, ◌||◌, List, [], ◌++◌, refl, subst, append-nil}
 use Rattle.gsl_spv.specs.Growing.{Extends}
 use Rattle.gsl_spv.specs.Sections.{Sections}
 use Rattle.gsl_lower_holders.specs.Flow.{Emit, Flow, Gives, Lacks, Lowered, behind, given as give}

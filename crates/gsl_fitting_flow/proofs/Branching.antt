@@ -75,20 +75,20 @@ module _ (whole : Sections) (main : ℕ) (local_size : List ℕ) (rank : ℕ →
 
   -- ---- where they may stand
 
-  merge_sits : (given : List ℕ) (end : ℕ) → is_mark m end ≡ true → Sits m rank f given (instr op.SELECTION_MERGE (end ∷ 0 ∷ []))
+  pub merge_sits : (given : List ℕ) (end : ℕ) → is_mark m end ≡ true → Sits m rank f given (instr op.SELECTION_MERGE (end ∷ 0 ∷ []))
   unfolding form_of
   merge_sits given end mark = sits_read whole main local_size rank f given (instr op.SELECTION_MERGE (end ∷ 0 ∷ [])) (instruction.SelectionMerge end 0) refl refl refl (and_from _ _ mark refl) refl refl refl refl refl tt
 
   flag_is : (type : ℕ) → IsTypeOf whole flag type → bool_type (defined_as m type) ≡ true
   flag_is type of = ap is_bool_shape (scalar_type_is whole main local_size sorted Boolean type of)
 
-  fork_sits : (given : List ℕ) (x type on_true on_false : ℕ) → IsTypeOf whole flag type → IsOf whole main local_size rank f given type x → is_mark m on_true ≡ true → is_mark m on_false ≡ true → Sits m rank f given (instr op.BRANCH_CONDITIONAL (x ∷ on_true ∷ on_false ∷ []))
+  pub fork_sits : (given : List ℕ) (x type on_true on_false : ℕ) → IsTypeOf whole flag type → IsOf whole main local_size rank f given type x → is_mark m on_true ≡ true → is_mark m on_false ≡ true → Sits m rank f given (instr op.BRANCH_CONDITIONAL (x ∷ on_true ∷ on_false ∷ []))
   unfolding form_of
   fork_sits given x type on_true on_false of v first second =
       sits_read whole main local_size rank f given (instr op.BRANCH_CONDITIONAL (x ∷ on_true ∷ on_false ∷ [])) (instruction.BranchConditional x on_true on_false) refl refl (and_from _ _ v.known refl) (and_from _ _ first (and_from _ _ second refl))
       (ap (is_bool_value m) v.typed ∙ flag_is type of) refl refl refl refl tt
 
-  branch_sits : (given : List ℕ) (to : ℕ) → is_mark m to ≡ true → Sits m rank f given (instr op.BRANCH (to ∷ []))
+  pub branch_sits : (given : List ℕ) (to : ℕ) → is_mark m to ≡ true → Sits m rank f given (instr op.BRANCH (to ∷ []))
   unfolding form_of
   branch_sits given to mark = sits_read whole main local_size rank f given (instr op.BRANCH (to ∷ [])) (instruction.Branch to) refl refl refl (and_from _ _ mark refl) refl refl refl refl refl tt
 

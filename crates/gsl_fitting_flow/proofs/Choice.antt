@@ -53,10 +53,10 @@ both_ways t a b f s = behind (behind (a s) (other_way f)) (λ done. second_way t
 abbrev ways_rest : Ty → Emit ℕ → Emit ℕ → ℕ → ℕ → Emit ℕ
 ways_rest t a b x h s = behind (begin_ways x h s) (both_ways t a b)
 
-abbrev forked : ℕ → Flow → Flow
+abbrev pub forked : ℕ → Flow → Flow
 forked x s = chosen (s.sections.last + 1 + 1 + 1) (x ∷ (s.sections.last + 1) ∷ (s.sections.last + 1 + 1) ∷ []) (s.sections.last + 1) (with_last (s.sections.last + 1 + 1 + 1) s)
 
-forked_later : (x : ℕ) (s : Flow) → IsLater s (forked x s)
+pub forked_later : (x : ℕ) (s : Flow) → IsLater s (forked x s)
 forked_later x s = record {
   sections =
       extends_then (extends_then (extends_then (extends_take s.sections) (extends_take (with_last (s.sections.last + 1) s).sections)) (extends_take (with_last (s.sections.last + 1 + 1) s).sections))
@@ -68,13 +68,13 @@ forked_later x s = record {
 abbrev turned : ℕ → ℕ → ℕ → ℕ → Flow → Flow
 turned end far h y u = jumped end far (kept_in h y u)
 
-apart_two : (n : ℕ) → is_among ((n + 1) ∷ []) (n + 1 + 1) ≡ false
+pub apart_two : (n : ℕ) → is_among ((n + 1) ∷ []) (n + 1 + 1) ≡ false
 apart_two n = or_from ((n + 1) == (n + 1 + 1)) false (other (n + 1) (n + 1 + 1) (omega arith)) refl
 
-apart_three : (n : ℕ) → is_among ((n + 1) ∷ []) (n + 1 + 1 + 1) ≡ false
+pub apart_three : (n : ℕ) → is_among ((n + 1) ∷ []) (n + 1 + 1 + 1) ≡ false
 apart_three n = or_from ((n + 1) == (n + 1 + 1 + 1)) false (other (n + 1) (n + 1 + 1 + 1) (omega arith)) refl
 
-apart_last : (n : ℕ) → is_among ((n + 1 + 1) ∷ []) (n + 1 + 1 + 1) ≡ false
+pub apart_last : (n : ℕ) → is_among ((n + 1 + 1) ∷ []) (n + 1 + 1 + 1) ≡ false
 apart_last n = or_from ((n + 1 + 1) == (n + 1 + 1 + 1)) false (other (n + 1 + 1) (n + 1 + 1 + 1) (omega arith)) refl
 
 ways_link : (x h y z : ℕ) (s u w v : Flow) → FlowStays (forked x s) u → FlowStays (turned (s.sections.last + 1 + 1 + 1) (s.sections.last + 1 + 1) h y u) w → FlowStays (met (s.sections.last + 1 + 1 + 1) h z w) v
@@ -87,13 +87,13 @@ ways_link x h y z s u w v one two later =
     (link_then ((n + 1 + 1) ∷ []) ((n + 1 + 1 + 1) ∷ []) (forked x s).sections half.sections v.sections (apart_last n, tt) (arm_link h y (n + 1 + 1 + 1) (n + 1 + 1) (forked x s) u one)
     (link_then ((n + 1 + 1 + 1) ∷ []) [] half.sections (met (n + 1 + 1 + 1) h z w).sections v.sections tt (arm_link h z (n + 1 + 1 + 1) (n + 1 + 1 + 1) half w two) (part_link (met (n + 1 + 1 + 1) h z w).sections v.sections later.sections)))
 
-ways_owed : (s : Sections) → AreApart (s.last + 1) (all_of s) → AreOwed (record s { last = s.last + 1 + 1 + 1 }) ((s.last + 1) ∷ (s.last + 1 + 1) ∷ (s.last + 1 + 1 + 1) ∷ [])
+pub ways_owed : (s : Sections) → AreApart (s.last + 1) (all_of s) → AreOwed (record s { last = s.last + 1 + 1 + 1 }) ((s.last + 1) ∷ (s.last + 1 + 1) ∷ (s.last + 1 + 1 + 1) ∷ [])
 ways_owed s apart = (
   taken_owed s (s.last + 1) (s.last + 1 + 1 + 1) apart (omega arith) (omega arith),
   (taken_owed s (s.last + 1 + 1) (s.last + 1 + 1 + 1) apart (omega arith) (omega arith), (taken_owed s (s.last + 1 + 1 + 1) (s.last + 1 + 1 + 1) apart (omega arith) (omega arith), tt)),
 )
 
-ways_others : (n id : ℕ) → id ≤ n → is_among ((n + 1) ∷ (n + 1 + 1) ∷ (n + 1 + 1 + 1) ∷ []) id ≡ false
+pub ways_others : (n id : ℕ) → id ≤ n → is_among ((n + 1) ∷ (n + 1 + 1) ∷ (n + 1 + 1 + 1) ∷ []) id ≡ false
 ways_others n id low =
     or_from ((n + 1) == id) _ (greater (n + 1) id (omega (arith, low)))
     (or_from ((n + 1 + 1) == id) _ (greater (n + 1 + 1) id (omega (arith, low))) (or_from ((n + 1 + 1 + 1) == id) false (greater (n + 1 + 1 + 1) id (omega (arith, low))) refl))

@@ -90,7 +90,7 @@ module _ (whole : Sections) (main : ℕ) (local_size : List ℕ) (rank : ℕ →
   hold_on before after n types stays taken h =
       subst (λ holders. Hold whole main local_size rank f holders after.place.used types) (sym (ap (λ (p : FlowPlace). p.holders) stays.place)) (subst (λ used. Hold whole main local_size rank f before.place.holders used types) (sym taken) h)
 
-  none_taken : (used : ℕ) → used ≡ used + length {A = ℕ} []
+  pub none_taken : (used : ℕ) → used ≡ used + length {A = ℕ} []
   none_taken used = let e : used ≡ used + 0 = omega arith in e
 
   -- ---- in a row

@@ -41,7 +41,7 @@ use Rattle.gsl_lower_places.specs.Reading.{index, indexes, pointer, pointer_type
 use Rattle.gsl_lower_places.specs.declared.reached.Part.{Part}
 use Rattle.gsl_lower_places.specs.declared.reached.Part.TheVariants.{Fixed, By}
 use Rattle.gsl_fitting.specs.Fits.{Frame, is_known, works}
-use Rattle.gsl_fitting_steps.specs.Keeping.{Keeps, MayDeclare}
+use Rattle.gsl_fitting_steps.specs.Keeping.{Keeps, MayDeclare, Works}
 use Rattle.gsl_fitting_steps.proofs.Giving.{giving_keeps}
 use Rattle.gsl_fitting_types.specs.Making.{AreSorted, Comes, IsConstant, IsScalarType, IsTypeBy, IsTypeOf, IsValue, Sorts, Stands, made}
 use Rattle.gsl_fitting_types.proofs.Anew.{plain_first}
@@ -310,12 +310,12 @@ module _ (whole : Sections) (main : ℕ) (local_size : List ℕ) (rank : ℕ →
 
   -- ---- an instruction that gives what is no scalar and no vector
 
-  pub giving_made : (given : List ℕ) (op : ℕ) (operands : List ℕ) (type : ℕ) (Is : ℕ → List ℕ → Sections → Type 0) (before : Sections) → (Extends before whole → Stands whole main local_size rank f given op operands type)
+  pub giving_works : (given : List ℕ) (op : ℕ) (operands : List ℕ) (type : ℕ) (Is : ℕ → List ℕ → Sections → Type 0) (before : Sections) → (Extends before whole → (id : ℕ) → Works m rank f given (instr op (type ∷ id ∷ operands)) (Some id))
       → ((id : ℕ) (after : Sections) → Extends before whole → Extends after whole → defined_as m id ≡ read (instr op (type ∷ id ∷ operands)) → is_known m f (id ∷ given) id ≡ true → Is id (id ∷ given) after)
       → Comes whole main local_size rank f given Is before (giving op operands type before)
   unfolding giving
-  giving_made given op operands type Is before stands is =
-      by (nat_le (before.last + 1) MOST_IDS) (λ inside. giving_keeps m rank f given op operands type before (let s = stands inside in record { works = ap works (s.gives (before.last + 1)); sits = s.sits (before.last + 1); gives = s.named (before.last + 1) }))
+  giving_works given op operands type Is before does is =
+      by (nat_le (before.last + 1) MOST_IDS) (λ inside. giving_keeps m rank f given op operands type before (does inside (before.last + 1)))
     where
       by : (b : Bool) → (Extends before whole → Keeps m rank f given (λ id. id ∷ given) before (behind (cond b (Made (before.last + 1) (record before { last = before.last + 1 })) Full) (put_giving op type operands)))
           → Comes whole main local_size rank f given Is before (behind (cond b (Made (before.last + 1) (record before { last = before.last + 1 })) Full) (put_giving op type operands))
@@ -327,9 +327,15 @@ module _ (whole : Sections) (main : ℕ) (local_size : List ℕ) (rank : ℕ →
           record {
             now = id ∷ given;
             goes = keeps start;
-            is = is id (call.put op (type ∷ id ∷ operands) (record before { last = before.last + 1 })) start inside (put_is whole main local_size sorted i id there ((stands start).named id)) (first_known whole main local_size sorted f given id);
+            is = is id (call.put op (type ∷ id ∷ operands) (record before { last = before.last + 1 })) start inside (put_is whole main local_size sorted i id there (does start id).gives) (first_known whole main local_size sorted f given id);
           }
       by false keeps = tt
+
+  pub giving_made : (given : List ℕ) (op : ℕ) (operands : List ℕ) (type : ℕ) (Is : ℕ → List ℕ → Sections → Type 0) (before : Sections) → (Extends before whole → Stands whole main local_size rank f given op operands type)
+      → ((id : ℕ) (after : Sections) → Extends before whole → Extends after whole → defined_as m id ≡ read (instr op (type ∷ id ∷ operands)) → is_known m f (id ∷ given) id ≡ true → Is id (id ∷ given) after)
+      → Comes whole main local_size rank f given Is before (giving op operands type before)
+  giving_made given op operands type Is before stands is =
+      giving_works given op operands type Is before (λ inside id. let s = stands inside in record { works = ap works (s.gives id); sits = s.sits id; gives = s.named id }) is
 
   -- ---- chains
 

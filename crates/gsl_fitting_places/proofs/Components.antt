@@ -52,7 +52,7 @@ in_sorts : (before : Picked) (part : Part) (s : Sections) → Sorts s (component
 in_sorts before (Fixed index) s = stays_same s
 in_sorts before (By k id) s = sorts_then s (position_by before.positions id s) (by_position before.shape before.by) (position_sorts before.positions id s) (λ position t. stays_same t)
 
-if_sorts : (shape : Shape) (part : Part) (picked : Option Picked) (s : Sections) → Sorts s (component_if shape part picked s)
+pub if_sorts : (shape : Shape) (part : Part) (picked : Option Picked) (s : Sections) → Sorts s (component_if shape part picked s)
 if_sorts shape part None s = stays_same s
 if_sorts shape part (Some before) s = in_sorts before part s
 
@@ -62,10 +62,17 @@ component_sorts shape part r s = sorts_then s (component_if shape part r.picked 
 
 -- ---- positions
 
-position_below : (count : ℕ) (positions : List ℕ) (index : ℕ) → index < length positions → AreBelow count positions → slice_index positions index < count
+pub position_below : (count : ℕ) (positions : List ℕ) (index : ℕ) → index < length positions → AreBelow count positions → slice_index positions index < count
 position_below count [] index less below = absurd (omega (arith, less))
 position_below count (position ∷ positions) zero less below = below.0
 position_below count (position ∷ positions) (suc index) less below = position_below count positions index (let z : suc index < suc (length positions) = less in omega (arith, z)) below.1
+
+-- by what the component at an index is picked then
+abbrev pub PicksBy : Part → Option Picked → Option Part → Type 0
+PicksBy (Fixed index) None by = by ≡ None
+PicksBy (Fixed index) (Some before) by = by ≡ before.by
+PicksBy (By s id) None by = by ≡ Some (By s id)
+PicksBy (By s id) (Some before) by = (position : ℕ) × (by ≡ repicked before.by position)
 
 module _ (whole : Sections) (main : ℕ) (local_size : List ℕ) (rank : ℕ → ℕ) (f : Frame) (sorted : AreSorted whole) where
   abbrev m : Module
@@ -76,7 +83,7 @@ module _ (whole : Sections) (main : ℕ) (local_size : List ℕ) (rank : ℕ →
 
   -- ---- the way of what is picked anew
 
-  way_any : (class id : ℕ) (parts : List Part) (p : Picked) → TakesMore whole main local_size rank f (Variable id class) parts → IsWay m class id (way parts (Some p))
+  pub way_any : (class id : ℕ) (parts : List Part) (p : Picked) → TakesMore whole main local_size rank f (Variable id class) parts → IsWay m class id (way parts (Some p))
   way_any class id parts p more = by (p.shape.1 == 1)
     where
       same : IsWay m class id parts
@@ -146,26 +153,28 @@ module _ (whole : Sections) (main : ℕ) (local_size : List ℕ) (rank : ℕ →
 
   -- ---- one component
 
-  -- One component is picked of what was picked before, or of the whole.
-  pub record PicksOne (given : List ℕ) (shape : Shape) (before : Option Picked) (p : Picked) : Type 0 where
+  -- The component at an index is picked of what was picked before, or of the whole.
+  pub record PicksOne (given : List ℕ) (shape : Shape) (part : Part) (before : Option Picked) (p : Picked) : Type 0 where
+    pub by : PicksBy part before p.by
     pub same : p.shape ≡ shape_before shape before
     pub picks : Picks whole main local_size rank f given (shape.0, 1) p
     pub one : length p.positions ≡ 1
 
-  one_takes : (shape : Shape) (given : List ℕ) (before : Option Picked) (p : Picked) → PicksOne given shape before p → MayTake (Some p)
-  one_takes shape given before p k = by p.by
+  pub one_takes : (shape : Shape) (given : List ℕ) (part : Part) (before : Option Picked) (p : Picked) → PicksOne given shape part before p → MayTake (Some p)
+  one_takes shape given part before p k = by p.by
     where
       by : (by : Option Part) → AreStored p.shape.1 by p.positions
       by None = let one = k.one in let some = k.picks.sized.some in omega (arith, one, some)
       by (Some part) = k.one
 
   module _ (given : List ℕ) (shape : Shape) (several : (shape.1 == 1) ≡ false) where
-    one_of_whole : (part : Part) → IsSized shape → IsIndex whole main local_size rank f given part → IsAmong shape.1 part → PicksOne given shape None (component_of shape part)
-    one_of_whole (Fixed position) sized index less = record { same = refl; one = refl; picks = record { shaped = refl; some = omega arith; few = omega arith; sized = sized; by = tt; within = (less, tt) } }
-    one_of_whole (By k id) sized index less = record { same = refl; one = refl; picks = record { shaped = refl; some = omega arith; few = omega arith; sized = sized; by = index; within = (omega arith, tt) } }
+    one_of_whole : (part : Part) → IsSized shape → IsIndex whole main local_size rank f given part → IsAmong shape.1 part → PicksOne given shape part None (component_of shape part)
+    one_of_whole (Fixed position) sized index less = record { by = refl; same = refl; one = refl; picks = record { shaped = refl; some = omega arith; few = omega arith; sized = sized; by = tt; within = (less, tt) } }
+    one_of_whole (By k id) sized index less = record { by = refl; same = refl; one = refl; picks = record { shaped = refl; some = omega arith; few = omega arith; sized = sized; by = index; within = (omega arith, tt) } }
 
-    one_known : (before : Picked) (index : ℕ) → Picks whole main local_size rank f given shape before → index < shape.1 → PicksOne given shape (Some before) (record before { positions = slice_index before.positions index ∷ [] })
+    one_known : (before : Picked) (index : ℕ) → Picks whole main local_size rank f given shape before → index < shape.1 → PicksOne given shape (Fixed index) (Some before) (record before { positions = slice_index before.positions index ∷ [] })
     one_known before index k less = record {
+      by = refl;
       same = refl;
       one = refl;
       picks = record { shaped = ap (λ (z : Shape). (z.0, 1)) k.shaped; some = omega arith; few = omega arith; sized = k.sized; by = k.by; within = by before.by k.within };
@@ -178,9 +187,10 @@ module _ (whole : Sections) (main : ℕ) (local_size : List ℕ) (rank : ℕ →
         by None within = (position_below before.shape.1 before.positions index there within, tt)
         by (Some part) within = (position_below 1 before.positions index there within, tt)
 
-    one_computed : (now : List ℕ) (before : Picked) (position : ℕ) → Wider given now → Picks whole main local_size rank f given shape before → IsValue whole main local_size rank f now (Uint, 1) position
-        → PicksOne now shape (Some before) (record { shape = before.shape; by = repicked before.by position; positions = 0 ∷ [] })
-    one_computed now before position wider k v = record {
+    one_computed : (now : List ℕ) (s : Scalar) (id : ℕ) (before : Picked) (position : ℕ) → Wider given now → Picks whole main local_size rank f given shape before → IsValue whole main local_size rank f now (Uint, 1) position
+        → PicksOne now shape (By s id) (Some before) (record { shape = before.shape; by = repicked before.by position; positions = 0 ∷ [] })
+    one_computed now s id before position wider k v = record {
+      by = (position, refl);
       same = refl;
       one = refl;
       picks = record { shaped = ap (λ (z : Shape). (z.0, 1)) k.shaped; some = omega arith; few = omega arith; sized = k.sized; by = choice before.by k.by; within = by before.by };
@@ -215,22 +225,22 @@ module _ (whole : Sections) (main : ℕ) (local_size : List ℕ) (rank : ℕ →
         serves : (later : List ℕ) → Wider given later → Serves whole main local_size rank f sorted later (By s id) id
         serves later wider = record { known = known_wider whole main local_size sorted f given later id wider v.known; int = int_is whole main local_size rank f sorted given s id integer v; number = λ n e. absurd cc }
 
-    one_picked : (part : Part) (picked : Option Picked) (before : Sections) → IsOfShape whole main local_size rank f given shape picked → IsIndex whole main local_size rank f given part → IsAmong shape.1 part
-        → D given (λ p now after. PicksOne now shape picked p × Wider given now) before (component_if shape part picked before)
-    one_picked part None before sized index less = given_comes whole main local_size rank f given (λ p now after. PicksOne now shape None p × Wider given now) (component_of shape part) before (λ inside. (one_of_whole part sized index less, λ id h. h))
+    pub one_picked : (part : Part) (picked : Option Picked) (before : Sections) → IsOfShape whole main local_size rank f given shape picked → IsIndex whole main local_size rank f given part → IsAmong shape.1 part
+        → D given (λ p now after. PicksOne now shape part picked p × Wider given now) before (component_if shape part picked before)
+    one_picked part None before sized index less = given_comes whole main local_size rank f given (λ p now after. PicksOne now shape part None p × Wider given now) (component_of shape part) before (λ inside. (one_of_whole part sized index less, λ id h. h))
     one_picked (Fixed index) (Some k) before picks is less =
-        given_comes whole main local_size rank f given (λ p now after. PicksOne now shape (Some k) p × Wider given now) (record k { positions = slice_index k.positions index ∷ [] }) before (λ inside. (one_known k index picks less, λ id h. h))
+        given_comes whole main local_size rank f given (λ p now after. PicksOne now shape (Fixed index) (Some k) p × Wider given now) (record k { positions = slice_index k.positions index ∷ [] }) before (λ inside. (one_known k index picks less, λ id h. h))
     one_picked (By s id) (Some k) before picks is less =
-        comes_then whole main local_size rank f given (G whole main local_size rank f sorted (Uint, 1)) (λ p now after. PicksOne now shape (Some k) p × Wider given now) before (position_by k.positions id before) (by_position k.shape k.by) (position_sorts k.positions id before)
+        comes_then whole main local_size rank f given (G whole main local_size rank f sorted (Uint, 1)) (λ p now after. PicksOne now shape (By s id) (Some k) p × Wider given now) before (position_by k.positions id before) (by_position k.shape k.by) (position_sorts k.positions id before)
         (position_comes k.positions s id before (sym (ap (λ (z : Shape). z.1) picks.shaped)) picks.few picks.some is.0 is.1) (λ position t. stays_same t)
-        (λ position t now v wider extends inside. given_comes whole main local_size rank f now (λ p now after. PicksOne now shape (Some k) p × Wider given now) (record { shape = k.shape; by = repicked k.by position; positions = 0 ∷ [] }) t
-        (λ inside. (one_computed now k position wider picks v, wider)))
+        (λ position t now v wider extends inside. given_comes whole main local_size rank f now (λ p now after. PicksOne now shape (By s id) (Some k) p × Wider given now) (record { shape = k.shape; by = repicked k.by position; positions = 0 ∷ [] }) t
+        (λ inside. (one_computed now s id k position wider picks v, wider)))
 
     pub component_comes : (part : Part) (r : Reached) (before : Sections) → IsOfShape whole main local_size rank f given shape r.picked → IsIndex whole main local_size rank f given part → IsAmong shape.1 part → TakesMore whole main local_size rank f r.base r.path
         → D given (λ to now after. IsRefined whole main local_size rank f given now shape (shape.0, 1) r to × (MayStore whole main local_size rank f given shape r → MayStore whole main local_size rank f now (shape.0, 1) to)) before (component_at shape part r before)
     unfolding component_at
     component_comes part r before of index less more =
-        comes_then whole main local_size rank f given (λ p now after. PicksOne now shape r.picked p × Wider given now) Is before (component_if shape part r.picked before) (λ picked. give (with_picked r picked)) (if_sorts shape part r.picked before) (one_picked part r.picked before of index less)
+        comes_then whole main local_size rank f given (λ p now after. PicksOne now shape part r.picked p × Wider given now) Is before (component_if shape part r.picked before) (λ picked. give (with_picked r picked)) (if_sorts shape part r.picked before) (one_picked part r.picked before of index less)
         (λ picked t. stays_same t)
         (λ p t now k wider extends inside. given_comes whole main local_size rank f now Is (with_picked r p) t
         (λ inside. (
@@ -238,9 +248,9 @@ module _ (whole : Sections) (main : ℕ) (local_size : List ℕ) (rank : ℕ →
             of = k.0.picks;
             more = more;
             reads = reads_anew given now k.1 shape (shape.0, 1) r p k.0.same k.0.picks more;
-            updates = updates_anew given now k.1 shape (shape.0, 1) r p k.0.same k.0.picks more (one_takes shape now r.picked p k.0);
+            updates = updates_anew given now k.1 shape (shape.0, 1) r p k.0.same k.0.picks more (one_takes shape now part r.picked p k.0);
           },
-          stores_anew given now k.1 shape (shape.0, 1) r p k.0.same k.0.picks more (one_takes shape now r.picked p k.0),
+          stores_anew given now k.1 shape (shape.0, 1) r p k.0.same k.0.picks more (one_takes shape now part r.picked p k.0),
         )))
       where
         Is : Reached → List ℕ → Sections → Type 0

@@ -181,7 +181,7 @@ module _ (whole : Sections) (main : ℕ) (local_size : List ℕ) (rank : ℕ →
 
   -- ---- values
 
-  extract_stands : (given : List ℕ) (type id from : ℕ) (indexes : List ℕ) → form_of op.COMPOSITE_EXTRACT ≡ Some form.CompositeExtract → is_known m f given type ≡ true → is_known m f given id ≡ true → type_of (defined_as m id) ≡ Some from
+  pub extract_stands : (given : List ℕ) (type id from : ℕ) (indexes : List ℕ) → form_of op.COMPOSITE_EXTRACT ≡ Some form.CompositeExtract → is_known m f given type ≡ true → is_known m f given id ≡ true → type_of (defined_as m id) ≡ Some from
       → rules.part_within m (Some from) indexes ≡ Some type → length indexes ≤ most_indexes → Stands whole main local_size rank f given op.COMPOSITE_EXTRACT (id ∷ indexes) type
   extract_stands given type id from indexes is typed known of leads few =
       stands_as whole main local_size rank f sorted given op.COMPOSITE_EXTRACT (id ∷ indexes) (id ∷ []) type form.CompositeExtract (λ to. instruction.CompositeExtract type to id indexes) is (λ to. refl) (λ to. refl) (λ to. refl) (λ to. refl) (λ to. refl) (λ to. refl)
@@ -243,7 +243,7 @@ module _ (whole : Sections) (main : ℕ) (local_size : List ℕ) (rank : ℕ →
       by true e = picked_fits whole main local_size rank f sorted given (operand p.shape v) p.positions before (picks_sized given shape p k) (subst (λ n. AreBelow n p.positions) (sym (eqb-true p.shape.1 1 e)) (below_one p e k.within)) value
       by false e = by_part e p.by k.by k.within
 
-  choice_later : (given now : List ℕ) (by : Option Part) → Wider given now → IsChoice whole main local_size rank f given by → IsChoice whole main local_size rank f now by
+  pub choice_later : (given now : List ℕ) (by : Option Part) → Wider given now → IsChoice whole main local_size rank f given by → IsChoice whole main local_size rank f now by
   choice_later given now None wider is = tt
   choice_later given now (Some part) wider is = index_later whole main local_size rank f sorted given now part wider is
 

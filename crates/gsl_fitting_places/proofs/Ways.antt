@@ -48,7 +48,7 @@ marked_on m kind type last (part ∷ parts) more e =
     ap (λ o. here || marked_by m kind o (parts ++ more)) first ∙ ap (λ b. here || b) (marked_on m kind next last parts more rest)
     ∙ or_behind here (marked_by m kind (Some next) parts) (marked_by m kind (Some last) more) ∙ ap (λ o. (here || marked_by m kind o parts) || marked_by m kind (Some last) more) (sym first)
 
-all_more : (P : Part → Type 0) (parts : List Part) (part : Part) → AllByRecursion P parts → P part → AllByRecursion P (parts ++ part ∷ [])
+pub all_more : (P : Part → Type 0) (parts : List Part) (part : Part) → AllByRecursion P parts → P part → AllByRecursion P (parts ++ part ∷ [])
 all_more P [] part all one = (one, tt)
 all_more P (first ∷ parts) part all one = (all.0, all_more P parts part all.1 one)
 

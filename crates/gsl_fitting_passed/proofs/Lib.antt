@@ -1,0 +1,4 @@
+pub mod Zeros
+pub mod Passing
+pub mod Returning
+pub mod Called

@@ -1,0 +1,5 @@
+pub mod Holding
+pub mod Fetching
+pub mod Leaves
+pub mod Reading
+pub mod Storing
