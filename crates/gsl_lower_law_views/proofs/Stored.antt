@@ -32,7 +32,7 @@ put_over (p ∷ ps) zero a b f e = ap (λ x. x ∷ ps) e
 put_over (p ∷ ps) (suc i) a b f e = ap (λ l. p ∷ l) (put_over ps i a b f e)
 
 -- a part that is put over another
-put_twice : (v : Value) (path : List ℕ) (x y : Value) → with_value_at (with_value_at v path x) path y ≡ with_value_at v path y
+pub put_twice : (v : Value) (path : List ℕ) (x y : Value) → with_value_at (with_value_at v path x) path y ≡ with_value_at v path y
 put_twice v [] x y = refl
 put_twice v (i ∷ path) x y =
     ap (λ ps. Many (set ps i (with_value_at (get_or ps i (Word 0)) path y))) (parts_of (set (parts_in v) i (with_value_at (member_value v i) path x)))
@@ -130,7 +130,7 @@ changed_followed (Parted count parts) (i ∷ path) c word = by (i == i) (eq-eqb 
 
 module _ (l : Layout) (at q n : ℕ) (path : List ℕ) (is : IsLayout l) where
   -- the run is the same with one word changed
-  run_changed : (bytes : List ℕ) (c word : ℕ) → at + need l ≤ length bytes → Leads (length bytes) l at path (Leaf n) q → c < n → word < 2 ^ 32
+  pub run_changed : (bytes : List ℕ) (c word : ℕ) → at + need l ≤ length bytes → Leads (length bytes) l at path (Leaf n) q → c < n → word < 2 ^ 32
       → map (λ k. word_at (put_word bytes (q + 4 * c) word) (q + 4 * k)) (range_with_len 0 n) ≡ set (map (λ k. word_at bytes (q + 4 * k)) (range_with_len 0 n)) c word
   run_changed bytes c word fits leads below small =
       ap words_of (sym (follows (put_word bytes (q + 4 * c) word) l (Leaf n) at q path (subst (λ size. Leads size l at path (Leaf n) q) (sym (put-length bytes (q + 4 * c) word)) leads))
