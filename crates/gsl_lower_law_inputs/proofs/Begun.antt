@@ -85,12 +85,12 @@ module _ (target : Target) (p : Program) (main : ℕ) (flow : Flow) (program : I
       let i = defining (d.variable pointer class init) id in
       ap variable_is ((at m keeps i (written.globals i there)).keeps.own id refl)
 
-  decorations_said : (i : Instr) → Contains whole.decorations i → Contains m.instrs i
+  pub decorations_said : (i : Instr) → Contains whole.decorations i → Contains m.instrs i
   decorations_said i there =
       let front = capabilities ++ whole.imports ++ memory_models ++ entry_point whole.stage main (interface_of whole.globals) ∷ [] ++ modes whole.stage main p.local_size ++ whole.names in
       Contains-append_left (front ++ whole.decorations ++ whole.globals) whole.functions i (Contains-append_left (front ++ whole.decorations) whole.globals i (Contains-append_right front whole.decorations i there))
 
-  stand : AllStand m whole p keeps written h.place h.told program.typed.structs
+  pub stand : AllStand m whole p keeps written h.place h.told program.typed.structs
   stand = all_stand m whole p keeps written h.place h.told program.typed.structs target (program_needs p) (empty p.stage target) h.first h.outside h.extends
 
   -- a name begins with the value of its variable

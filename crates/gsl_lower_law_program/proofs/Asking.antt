@@ -27,7 +27,8 @@ use Rattle.gsl_spv.specs.Sections.{Sections}
 use Rattle.gsl_lower_holders.specs.declared.place.FlowPlace.{FlowPlace}
 use Rattle.gsl_lower_follows.specs.Frames.{Frame}
 use Rattle.gsl_lower_law_shader.specs.Depths.{AreAsked, AreAskedOf, AsksBelow, AsksBelowFor, MayCall}
-use Rattle.gsl_lower_law_shader.specs.Asked.{AreAskedElse, AreAskedElseOf, AsksElse, AsksElseFor}
+use Rattle.gsl_lower_law_shader.specs.Asked.{AreAskedElseOf, AsksElse, AsksElseFor}
+use Rattle.gsl_lower_law_program.proofs.Sounds.{AreKnown, IsAssigned, IsKnown, sound_in}
 
 -- ---- numbers in lists
 
@@ -173,35 +174,36 @@ module _ (m : Module) (input : Input) (whole : Sections) (p : Program) (place : 
   abbrev Wanted : Expr → Type 0
   Wanted = AsksBelow m input whole p place stages rank below depth f params locals
 
-  one_asked : (e : Expr) (form : ExprKind-F ExprKind Expr) → AllIn May (calls_form May form) → AsksElseFor m input whole p place stages depth f params locals e form → AsksBelowFor m input whole p place stages rank below depth f params locals e form
-  one_asked e (ExprKind-F.Call number args) all ask = all number (in_back (flat (map calls_in args)) (number ∷ []) number (or_left (nat_eq number number) false (eq-eqb number number refl)))
-  one_asked e form all ask = ask
+  one_asked : (e : Expr) (form : ExprKind-F ExprKind Expr) → AllIn May (calls_form May form) → IsAssigned p form → AsksElseFor m input whole p place stages depth f params locals e form → AsksBelowFor m input whole p place stages rank below depth f params locals e form
+  one_asked e (ExprKind-F.Assign a b) all assigned ask = assigned
+  one_asked e (ExprKind-F.Call number args) all assigned ask = all number (in_back (flat (map calls_in args)) (number ∷ []) number (or_left (nat_eq number number) false (eq-eqb number number refl)))
+  one_asked e form all assigned ask = ask
 
   mutual
-    asked : (e : Expr) → AllIn May (calls_in e) → Throughout Else e → Throughout Wanted e
-    asked _ all (Throughout.whole e ask asks) =
+    asked : (e : Expr) → AllIn May (calls_in e) → Throughout (IsKnown p) e → Throughout Else e → Throughout Wanted e
+    asked _ all (Throughout.whole _ known behind) (Throughout.whole e ask asks) =
         let here : AllIn May (calls_form May (form_of e)) = λ n is. all n (subst (λ l. IsIn l n) (sym (calls_at May e)) is) in
-        Throughout.whole e (one_asked e (form_of e) here ask) (all_asked (parts_of (form_of e)) (parts_in May (form_of e) here) asks)
+        Throughout.whole e (one_asked e (form_of e) here known.assigned ask) (all_asked (parts_of (form_of e)) (parts_in May (form_of e) here) behind asks)
 
-    all_asked : (es : List Expr) → AllOf May calls_in es → ThroughoutAll Else es → ThroughoutAll Wanted es
-    all_asked _ all ThroughoutAll.none = ThroughoutAll.none
-    all_asked _ all (ThroughoutAll.more e es ask asks) = ThroughoutAll.more e es (asked e all.0 ask) (all_asked es all.1 asks)
+    all_asked : (es : List Expr) → AllOf May calls_in es → ThroughoutAll (IsKnown p) es → ThroughoutAll Else es → ThroughoutAll Wanted es
+    all_asked _ all ThroughoutAll.none ThroughoutAll.none = ThroughoutAll.none
+    all_asked _ all (ThroughoutAll.more _ _ known behind) (ThroughoutAll.more e es ask asks) = ThroughoutAll.more e es (asked e all.0 known ask) (all_asked es all.1 behind asks)
 
-  exprs_asked : (es : List Expr) → AllOf May calls_in es → AllByRecursion (AreAskedElse m input whole p place stages depth f params locals) es → AllByRecursion (AreAsked m input whole p place stages rank below depth f params locals) es
-  exprs_asked [] all asks = tt
-  exprs_asked (e ∷ es) all asks = (record { sound = asks.0.sound; asks = asked e all.0 asks.0.asks }, exprs_asked es all.1 asks.1)
+  exprs_asked : (es : List Expr) → AllOf May calls_in es → AllByRecursion (Throughout (IsKnown p)) es → AllByRecursion (Throughout Else) es → AllByRecursion (AreAsked m input whole p place stages rank below depth f params locals) es
+  exprs_asked [] all known asks = tt
+  exprs_asked (e ∷ es) all known asks = (record { sound = sound_in p e known.0; asks = asked e all.0 known.0 asks.0 }, exprs_asked es all.1 known.1 asks.1)
 
   mutual
-    along : (exits : Exits) (s : Stmt) → AllIn May (stmt_calls s) → Along (AreAskedElseOf m input whole p place stages depth f params locals) exits s → Along (AreAskedOf m input whole p place stages rank below depth f params locals) exits s
-    along _ _ all (Along.whole exits s asks inner) =
+    along : (exits : Exits) (s : Stmt) → AllIn May (stmt_calls s) → Along (AreKnown p) exits s → Along (AreAskedElseOf m input whole p place stages depth f params locals) exits s → Along (AreAskedOf m input whole p place stages rank below depth f params locals) exits s
+    along _ _ all (Along.whole _ _ known within) (Along.whole exits s asks inner) =
         let here : AllIn May (calls_stmt_form May (out-Stmt s)) = λ n is. all n (subst (λ l. IsIn l n) (sym (stmt_at May s)) is) in
-        Along.whole exits s (exprs_asked (exprs_of (out-Stmt s)) (exprs_in May (out-Stmt s) here) asks) (all_along (inner_of exits (out-Stmt s)) (inner_in May exits (out-Stmt s) here) inner)
+        Along.whole exits s (exprs_asked (exprs_of (out-Stmt s)) (exprs_in May (out-Stmt s) here) known asks) (all_along (inner_of exits (out-Stmt s)) (inner_in May exits (out-Stmt s) here) within inner)
 
-    all_along : (placed : List Placed) → InEach May placed → AlongAll (AreAskedElseOf m input whole p place stages depth f params locals) placed → AlongAll (AreAskedOf m input whole p place stages rank below depth f params locals) placed
-    all_along _ all AlongAll.none = AlongAll.none
-    all_along _ all (AlongAll.more one rest first later) = AlongAll.more one rest (along one.0 one.1 all.0 first) (all_along rest all.1 later)
+    all_along : (placed : List Placed) → InEach May placed → AlongAll (AreKnown p) placed → AlongAll (AreAskedElseOf m input whole p place stages depth f params locals) placed → AlongAll (AreAskedOf m input whole p place stages rank below depth f params locals) placed
+    all_along _ all AlongAll.none AlongAll.none = AlongAll.none
+    all_along _ all (AlongAll.more _ _ known behind) (AlongAll.more one rest first later) = AlongAll.more one rest (along one.0 one.1 all.0 known first) (all_along rest all.1 behind later)
 
   -- of a function's body
-  pub body_asked : (tree : Function) → ((n : ℕ) → IsIn (calls_of tree) n → May n) → AlongAll (AreAskedElseOf m input whole p place stages depth f params locals) (with_exits outside tree.body)
+  pub body_asked : (tree : Function) → ((n : ℕ) → IsIn (calls_of tree) n → May n) → AlongAll (AreKnown p) (with_exits outside tree.body) → AlongAll (AreAskedElseOf m input whole p place stages depth f params locals) (with_exits outside tree.body)
       → AlongAll (AreAskedOf m input whole p place stages rank below depth f params locals) (with_exits outside tree.body)
-  body_asked tree all asks = all_along (with_exits outside tree.body) (placed_in May outside tree.body (each_of May stmt_calls tree.body all)) asks
+  body_asked tree all known asks = all_along (with_exits outside tree.body) (placed_in May outside tree.body (each_of May stmt_calls tree.body all)) known asks

@@ -4,6 +4,7 @@ pub mod Names
 pub mod Put
 pub mod Stood
 pub mod Ranks
+pub mod Sounds
 pub mod Asking
 pub mod Standing
 pub mod Entry

@@ -43,7 +43,7 @@ use Rattle.gsl_lower_text.specs.Written.{Written}
 use Rattle.gsl_lower_law.proofs.Joining.{keeps_same}
 use Rattle.gsl_lower_law.specs.Values.{Keeps}
 use Rattle.gsl_lower_holders.specs.Flow.{Flow, Gives}
-use Rattle.gsl_lower_flow.specs.Reaching.{head_of, is_reached, main_head}
+use Rattle.gsl_lower_flow.specs.Reaching.{head_of, is_lowered, is_reached, main_head}
 use Rattle.gsl_link_calls.specs.Calls.{reaches}
 use Rattle.gsl_lower_follows.specs.Frames.{AreTyped, Frame, Global, Good, HasType, Holder, Inside, Interface, Local, Name, Param, Stage, coming, id_of, type_named, value_of}
 use Rattle.gsl_lower_follows.specs.Stretching.{Stretch}
@@ -72,6 +72,7 @@ use Rattle.gsl_lower_law_linked.proofs.Linked.{all_at}
 use Rattle.gsl_lower_law_shader.specs.Asked.{AllAsked, AreAskedElseOf}
 use Rattle.gsl_lower_law_program.specs.Ranks.{rank_of}
 use Rattle.gsl_lower_law_program.specs.Standing.{HaveFunctions, StandsAt}
+use Rattle.gsl_lower_law_program.proofs.Sounds.{body_known}
 use Rattle.gsl_lower_law_program.proofs.Asking.{body_asked}
 use Rattle.gsl_lower_law_program.proofs.Names.{back_at, front_at}
 use Rattle.gsl_lower_law_program.proofs.Ranks.{IsAt, called_low, first_at, has_head}
@@ -358,7 +359,7 @@ module _ (target : Target) (p : Program) (program : IsProgram p) (nests : MayNes
 
     -- ---- main
 
-    module _ (asked : AllAsked m input whole p h.place stages) where
+    module _ (asked : AllAsked m input whole p h.place stages (is_lowered p)) where
       -- main is the only function of its head
       main_at : IsAt p.functions tree.prototype
       main_at = first_at p.functions tree.prototype (has_head p.functions p.main tree program.main)
@@ -380,6 +381,11 @@ module _ (target : Target) (p : Program) (program : IsProgram p) (nests : MayNes
           let k = callee_known target p program nests main flow valid h tree.prototype n reached_main call in
           record { less = called_low p nests tree.prototype n reached_main call; function = k.0; known = k.1 }
 
+      body_is : IsBody (around_body (program_lists p) [] tree.locals) Void tree.body
+      body_is =
+          subst (λ params. IsBody (around_body (program_lists p) params tree.locals) Void tree.body) program.bare
+          (subst (λ t. IsBody (around_body (program_lists p) head.params tree.locals) t tree.body) program.void (subst (λ (x : Prototype). IsBody (around_body (program_lists p) x.params tree.locals) x.result tree.body) same_head typed_main.body))
+
       is_main : IsMain m input whole p h.place stages (rank_of p) frame tree s.begin
       is_main = record {
         found = program.main;
@@ -397,12 +403,11 @@ module _ (target : Target) (p : Program) (program : IsProgram p) (nests : MayNes
           all = fn.is ∙ ap (λ l. fn.opening ++ l) s.lowered.all ∙ sym (append_assoc fn.opening s.lowered.put s.lowered.behind);
         };
         typed = record { program = program.typed; of_params = tt; of_locals = typed_main.locals };
-        body = subst (λ params. IsBody (around_body (program_lists p) params tree.locals) Void tree.body) program.bare
-            (subst (λ t. IsBody (around_body (program_lists p) head.params tree.locals) t tree.body) program.void (subst (λ (x : Prototype). IsBody (around_body (program_lists p) x.params tree.locals) x.result tree.body) same_head typed_main.body));
+        body = body_is;
         knows = knows_types target p program nests main flow valid h input stages frame frame_is;
-        asks = body_asked m input whole p h.place stages (rank_of p) most_calls most_calls frame [] tree.locals tree may
+        asks = body_asked m input whole p h.place stages (rank_of p) most_calls most_calls frame [] tree.locals tree may (body_known p program [] tree.locals tt typed_main.locals Void tree.body body_is)
             (subst (λ params. AlongAll (AreAskedElseOf m input whole p h.place stages most_calls frame params tree.locals) (with_exits outside tree.body)) program.bare
-            (asked tree.prototype head tree (main_at.found ∙ ap Some same_tree) program.head most_calls frame frame_is));
+            (asked tree.prototype head tree (main_at.found ∙ ap Some same_tree) reached_main program.head most_calls frame frame_is));
       }
 
       -- what comes of it from where its body begins comes of it from the start
@@ -417,6 +422,6 @@ module _ (target : Target) (p : Program) (program : IsProgram p) (nests : MayNes
           (ends_as m input whole p h.place stages (rank_of p) frame tree s.begin units later valid written (all_stand target p program nests main flow valid h input stages asked) is_main good)
 
 pub program_ends : (target : Target) (p : Program) (main : ℕ) (flow : Flow) → IsProgram p → MayNest p → AreOnce p → Valid (module_of flow.sections main p.local_size) → (h : HaveFunctions target p main flow) → (input : Input) (stages : List (Option Value))
-    → AllAsked (module_of flow.sections main p.local_size) input flow.sections p h.place stages → BeginAlike (module_of flow.sections main p.local_size) input h.place flow.sections p stages → (units : ℕ)
+    → AllAsked (module_of flow.sections main p.local_size) input flow.sections p h.place stages (is_lowered p) → BeginAlike (module_of flow.sections main p.local_size) input h.place flow.sections p stages → (units : ℕ)
     → EndsAs (module_of flow.sections main p.local_size) input units (start (module_of flow.sections main p.local_size) input) (shader.shader p units input)
 program_ends target p main flow program nests once valid h input stages asked alike units = ends target p program nests once main flow valid h input stages alike asked units

@@ -17,7 +17,7 @@ use Rattle.gsl_link_calls.specs.Ranks.{IsIn}
 use Rattle.gsl_spv.specs.Finished.{module_of}
 use Rattle.gsl_lower_text.proofs.Finishes.{finished_written}
 use Rattle.gsl_lower_holders.specs.Flow.{Flow, find_type}
-use Rattle.gsl_lower_flow.specs.Reaching.{is_reached, main_head}
+use Rattle.gsl_lower_flow.specs.Reaching.{is_lowered, is_reached, main_head}
 use Rattle.gsl_lower_follows.specs.Frames.{Frame}
 use Rattle.gsl_lower_law_entered.specs.Modules.{IsFrame}
 use Rattle.gsl_lower_law_zeros.proofs.Said.{nulls_kept}
@@ -28,6 +28,7 @@ use Rattle.gsl_lower_law_linked.specs.Nesting.{MayNest}
 use Rattle.gsl_lower_law_shader.specs.Asked.{AllAsked}
 use Rattle.gsl_lower_law_program.specs.Ranks.{rank_of}
 use Rattle.gsl_lower_law_program.specs.Standing.{HaveFunctions}
+use Rattle.gsl_lower_law_program.proofs.Sounds.{body_known}
 use Rattle.gsl_lower_law_program.proofs.Asking.{body_asked}
 use Rattle.gsl_lower_law_program.proofs.Ranks.{IsAt, callee_lower, low_reached, reached_on, reached_there}
 use Rattle.gsl_lower_law_linked.proofs.Linked.{all_at}
@@ -80,7 +81,7 @@ module _ (target : Target) (p : Program) (program : IsProgram p) (nests : MayNes
 
     -- ---- all functions
 
-    module _ (asked : AllAsked m input flow.sections p h.place stages) where
+    module _ (asked : AllAsked m input flow.sections p h.place stages (is_lowered p)) where
       stands : (number function : ℕ) (head : Prototype) → slice_get p.prototypes number ≡ Some head → slice_get h.place.functions number ≡ Some function → is_reached p.functions (main_head p) number ≡ true → IsAt p.functions number
           → Stands m input flow.sections p h.place stages (rank_of p) number function head
       stands number function head named known reached at =
@@ -89,6 +90,7 @@ module _ (target : Target) (p : Program) (program : IsProgram p) (nests : MayNes
           let t = all_at (IsTypedFunction (program_lists p)) p.functions at.number at.tree typed.functions at.there in
           let q = all_at (IsPrototype p.structs) p.prototypes number head typed.prototypes named in
           let same : t.prototype ≡ head = some t.prototype head (sym t.declared ∙ named_tree) in
+          let body = subst (λ (x : Prototype). IsBody (around_body (program_lists p) x.params at.tree.locals) x.result at.tree.body) same t.body in
           record {
             tree = at.tree;
             found = at.found;
@@ -98,10 +100,10 @@ module _ (target : Target) (p : Program) (program : IsProgram p) (nests : MayNes
             many = s.many;
             result = q.result;
             typed = record { program = typed; of_params = q.params; of_locals = t.locals };
-            body = subst (λ (x : Prototype). IsBody (around_body (program_lists p) x.params at.tree.locals) x.result at.tree.body) same t.body;
+            body = body;
             knows = knows_types;
             asks = λ depth g of_module.
-                body_asked m input flow.sections p h.place stages (rank_of p) (rank_of p number) depth g head.params at.tree.locals at.tree (may_call number at reached) (asked number head at.tree at.found named depth g of_module);
+                body_asked m input flow.sections p h.place stages (rank_of p) (rank_of p number) depth g head.params at.tree.locals at.tree (may_call number at reached) (body_known p program head.params at.tree.locals q.params t.locals head.result at.tree.body body) (asked number head at.tree at.found (subst (λ k. is_reached p.functions (main_head p) k ≡ true) (sym at.same) reached) named depth g of_module);
           }
 
       pub all_stand : AllStand m input flow.sections p h.place stages (rank_of p) most_calls
@@ -114,6 +116,6 @@ module _ (target : Target) (p : Program) (program : IsProgram p) (nests : MayNes
           ranked_do m input flow.sections p h.place stages (rank_of p) depth number valid (finished_written flow.sections main p.local_size)
           (λ n f q named known below. all_stand n f q named known (omega (arith, below, low))) less
 
-pub calls_do : (target : Target) (p : Program) (main : ℕ) (flow : Flow) → IsProgram p → MayNest p → Valid (module_of flow.sections main p.local_size) → (h : HaveFunctions target p main flow) → (input : Input) (stages : List (Option Value)) → AllAsked (module_of flow.sections main p.local_size) input flow.sections p h.place stages
+pub calls_do : (target : Target) (p : Program) (main : ℕ) (flow : Flow) → IsProgram p → MayNest p → Valid (module_of flow.sections main p.local_size) → (h : HaveFunctions target p main flow) → (input : Input) (stages : List (Option Value)) → AllAsked (module_of flow.sections main p.local_size) input flow.sections p h.place stages (is_lowered p)
     → (depth number : ℕ) → depth ≤ most_calls → rank_of p number < depth → CallsDo (module_of flow.sections main p.local_size) input flow.sections p h.place stages depth number
 calls_do target p main flow program nests valid h input stages asked depth number low less = functions_do target p program nests main flow valid h input stages asked depth number low less

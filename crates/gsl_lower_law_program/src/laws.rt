@@ -2,6 +2,7 @@
 
 ghost use Rattle.gsl_base.specs.declared.input.Input.{Input};
 ghost use Rattle.gsl_lower_flow.specs.Programs.{lowered};
+ghost use Rattle.gsl_lower_flow.specs.Reaching.{is_lowered};
 ghost use Rattle.gsl_lower_holders.specs.Flow.{Flow, Gives};
 ghost use Rattle.gsl_lower_law_linked.specs.Nesting.{AreOnce, MayNest};
 ghost use Rattle.gsl_lower_law_program.specs.Alike.{BeginAlike};
@@ -28,11 +29,11 @@ pub fn lowered_functions_stand()
 
 /// Each call of a function of the program does what it means, wherever in the module it is called, where what is asked of the expressions in its functions is so: of calls themselves nothing is asked.
 pub fn calls_of_programs_do()
-    ensures { (target : Target) (p : Program) (main : ℕ) (flow : Flow) → IsProgram p → MayNest p → Valid (module_of flow.sections main p.local_size) → (h : HaveFunctions target p main flow) → (input : Input) (stages : List (Option Value)) → AllAsked (module_of flow.sections main p.local_size) input flow.sections p h.place stages → (depth number : ℕ) → depth ≤ most_calls → rank_of p number < depth → CallsDo (module_of flow.sections main p.local_size) input flow.sections p h.place stages depth number }
+    ensures { (target : Target) (p : Program) (main : ℕ) (flow : Flow) → IsProgram p → MayNest p → Valid (module_of flow.sections main p.local_size) → (h : HaveFunctions target p main flow) → (input : Input) (stages : List (Option Value)) → AllAsked (module_of flow.sections main p.local_size) input flow.sections p h.place stages (is_lowered p) → (depth number : ℕ) → depth ≤ most_calls → rank_of p number < depth → CallsDo (module_of flow.sections main p.local_size) input flow.sections p h.place stages depth number }
 {}
 
 /// From its start the valid module of a program ends as the shader does on the input: with the same output, astray where an index is out of bounds, or still going after as many instructions as there are units. That is so where what is asked of
 /// the expressions in its functions is so, and where the variables outside functions and the blocks begin alike.
 pub fn programs_end_as_shaders()
-    ensures { (target : Target) (p : Program) (main : ℕ) (flow : Flow) → IsProgram p → MayNest p → AreOnce p → Valid (module_of flow.sections main p.local_size) → (h : HaveFunctions target p main flow) → (input : Input) (stages : List (Option Value)) → AllAsked (module_of flow.sections main p.local_size) input flow.sections p h.place stages → BeginAlike (module_of flow.sections main p.local_size) input h.place flow.sections p stages → (units : ℕ) → EndsAs (module_of flow.sections main p.local_size) input units (start (module_of flow.sections main p.local_size) input) (shader p units input) }
+    ensures { (target : Target) (p : Program) (main : ℕ) (flow : Flow) → IsProgram p → MayNest p → AreOnce p → Valid (module_of flow.sections main p.local_size) → (h : HaveFunctions target p main flow) → (input : Input) (stages : List (Option Value)) → AllAsked (module_of flow.sections main p.local_size) input flow.sections p h.place stages (is_lowered p) → BeginAlike (module_of flow.sections main p.local_size) input h.place flow.sections p stages → (units : ℕ) → EndsAs (module_of flow.sections main p.local_size) input units (start (module_of flow.sections main p.local_size) input) (shader p units input) }
 {}

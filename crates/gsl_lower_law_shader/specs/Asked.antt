@@ -1,8 +1,7 @@
--- What is asked of the expressions in the functions of a program, but of calls (GLSL 4.50, chapter 5).
-use Rattle.std.specs.Prelude.{◌≡◌, ℕ, List, length, slice_get, Option, Some}
+-- What is asked of the expressions in the functions of a program, but of calls and assignments (GLSL 4.50, chapter 5).
+use Rattle.std.specs.Prelude.{◌≡◌, ℕ, Bool, true, List, length, slice_get, Option, Some}
 use Rattle.std.specs.List.{AllByRecursion}
 use Rattle.gsl_base.specs.declared.input.Input.{Input}
-use Rattle.gsl_types.specs.Known.{IsSound}
 use Rattle.gsl_types.specs.declared.ty.Direction.{Direction}
 use Rattle.gsl_types.specs.declared.ty.Ty.{Ty}
 use Rattle.gsl_words.specs.declared.module.Module.{Module}
@@ -25,22 +24,19 @@ use Rattle.gsl_lower_law_shader.specs.Depths.{call_of, stage_of}
 
 module _ (m : Module) (input : Input) (whole : Sections) (p : Program) (place : FlowPlace) (stages : List (Option Value)) where
   module _ (depth : ℕ) (f : Frame m input whole) (params : List (Direction × Ty)) (locals : List Ty) where
-    -- Of a call nothing is asked.
+    -- Of calls and assignments nothing is asked.
     abbrev pub AsksElseFor : Expr → ExprKind-F ExprKind Expr → Type 0
     AsksElseFor e (ExprKind-F.Call number args) = Unit {0}
+    AsksElseFor e (ExprKind-F.Assign a b) = Unit {0}
     AsksElseFor e form = AsksFor m input whole f p params locals (call_of p) (stage_of p input) (calls p input depth) e form
 
     abbrev pub AsksElse : Expr → Type 0
     AsksElse e = AsksElseFor e (form_of e)
 
-    pub record AreAskedElse (e : Expr) : Type 0 where
-      pub sound : Throughout (λ (part : Expr). IsSound (length p.structs) (type_of part)) e
-      pub asks : Throughout AsksElse e
-
     abbrev pub AreAskedElseOf : Exits → Stmt → Type 0
-    AreAskedElseOf exits s = AllByRecursion AreAskedElse (exprs_of (out-Stmt s))
+    AreAskedElseOf exits s = AllByRecursion (Throughout AsksElse) (exprs_of (out-Stmt s))
 
-  -- What is asked is so in each function of the program, in each frame of it.
-  abbrev pub AllAsked : Type 0
-  AllAsked = (number : ℕ) (head : Prototype) (tree : Function) → function_of p.functions number ≡ Some tree → slice_get p.prototypes number ≡ Some head → (depth : ℕ) (g : Frame m input whole) → IsFrame m input whole place stages g
+  -- What is asked is so in each of these functions of the program, in each frame of it.
+  abbrev pub AllAsked : (Function → Bool) → Type 0
+  AllAsked chosen = (number : ℕ) (head : Prototype) (tree : Function) → function_of p.functions number ≡ Some tree → chosen tree ≡ true → slice_get p.prototypes number ≡ Some head → (depth : ℕ) (g : Frame m input whole) → IsFrame m input whole place stages g
       → AlongAll (AreAskedElseOf depth g head.params tree.locals) (with_exits outside tree.body)

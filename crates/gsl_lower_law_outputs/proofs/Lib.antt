@@ -1,0 +1,5 @@
+pub mod Quiet
+pub mod Walking
+pub mod Outputs
+pub mod Ordered
+pub mod Outs
