@@ -1,5 +1,5 @@
 -- An instruction gives an id of its block a value: its words stand in the slots at the id's place.
-use Rattle.std.proofs.Common.{◌≡◌, refl, sym, ap, ◌∙◌, subst, ℕ, ◌+◌, ◌≤◌, true, List, ◌∷◌, length, map, take, Option, Some, arith}
+use Rattle.std.proofs.Common.{◌≡◌, sym, ap, ◌∙◌, subst, ℕ, ◌+◌, ◌≤◌, true, List, ◌∷◌, length, map, take, Some, arith}
 use Rattle.std.specs.List.{AllByRecursion}
 use Rattle.gsl_base.specs.declared.input.Input.{Input}
 use Rattle.gsl_instr.specs.declared.instruction.Instruction.{Instruction}
@@ -26,7 +26,6 @@ use Rattle.gsl_sound_types.specs.Typed.{Typed, types_in}
 use Rattle.gsl_sound_types.proofs.Holding.{value_of_type}
 use Rattle.gsl_sound_values.specs.Shaped.{is_shaped}
 use Rattle.gsl_shown.specs.Shown.{Shows, held_as}
-use Rattle.gsl_shown.specs.Shown.{Standing as Stood}
 use Rattle.gsl_shown.proofs.Counted.{held_counted}
 use Rattle.gsl_shown.proofs.Giving.{given_shown, length_with, place_is, room}
 use Rattle.gsl_operands.specs.Operands.{constants}

@@ -30,12 +30,10 @@ use Rattle.gsl_sound.specs.Sound.{Good}
 use Rattle.gsl_sound_code.proofs.Looks.{Kept}
 use Rattle.gsl_sound_types.specs.Typed.{Typed}
 use Rattle.gsl_sound_values.specs.Shaped.{is_shaped, shaped_as}
-use Rattle.gsl_shown.specs.Shown.{Shows}
 use Rattle.gsl_shown.proofs.Branching.{branch_shown}
 use Rattle.gsl_operands.specs.Operands.{stands}
 use Rattle.gsl_step.specs.Machine.{IsShown, Leads, stood}
 use Rattle.gsl_step.specs.declared.machine.Machine.{Machine}
-use Rattle.gsl_step.specs.declared.standing.Standing.{Standing}
 use Rattle.gsl_step.proofs.Giving.{rules_kept}
 use Rattle.gsl_step.proofs.Operands.{Top, below_bound, with_operand}
 

@@ -1,5 +1,5 @@
 -- The words of an operand stand where they are said to.
-use Rattle.std.proofs.Common.{◌≡◌, refl, sym, ap, ◌∙◌, subst, ℕ, zero, suc, ◌+◌, ◌<◌, ◌≤◌, Bool, true, false, ◌&&◌, ◌||◌, if◌then◌else◌, is_some, List, [], ◌∷◌, ◌++◌, length, take, drop, Option, Some, None, inl, inr, arith, append_assoc, append-nil, length-append}
+use Rattle.std.proofs.Common.{◌≡◌, refl, sym, ap, ◌∙◌, subst, ℕ, zero, suc, ◌+◌, ◌<◌, Bool, true, false, ◌&&◌, ◌||◌, if◌then◌else◌, is_some, List, [], ◌∷◌, ◌++◌, length, take, drop, Option, Some, None, inl, inr, arith, append_assoc, append-nil, length-append}
 use Rattle.std.specs.Prelude.{nat_le, nat_lt}
 use Rattle.std.proofs.lemmas.Bool.{and_parts, cases_lt, cond-true, false≢true, ltb-true, true≢false}
 use Rattle.std.proofs.lemmas.List.{take-append-drop}
@@ -14,7 +14,7 @@ use Rattle.gsl_valid.specs.GlobalRules.{is_global, is_global_of}
 use Rattle.gsl_valid.specs.Ids.{defines, definition, result}
 use Rattle.gsl_valid.specs.IdsDefinedOnce.{is_new}
 use Rattle.gsl_valid.specs.Instruction.{read}
-use Rattle.gsl_valid.specs.Kinds.{Kind, Begins, Calls, Ended as LastOne, Fixes, Gives, Holds, Value as Fixed, Variable, constant_in, constant_is, kind, type_of, variable_in, variable_is}
+use Rattle.gsl_valid.specs.Kinds.{Kind, Begins, Calls, Ended as LastOne, Gives, Variable, constant_in, kind, type_of, variable_in, variable_is}
 use Rattle.gsl_valid.specs.LocalityRules.{gives_value}
 use Rattle.gsl_valid.specs.Placed.{Code}
 use Rattle.gsl_valid.specs.Types.{Target, defined_as, target_of}
@@ -26,8 +26,7 @@ use Rattle.gsl_region.proofs.Focus.{middle}
 use Rattle.gsl_kinds.specs.Runtimes.{front}
 use Rattle.gsl_slots.specs.Holding.{IsHeld}
 use Rattle.gsl_frames.specs.Frames.{place, taken_in}
-use Rattle.gsl_sound.specs.Sound.{Good}
-use Rattle.gsl_sound_code.specs.Rules.{KeepAll, Keeps}
+use Rattle.gsl_sound_code.specs.Rules.{KeepAll}
 use Rattle.gsl_sound_code.proofs.Looks.{Kept, found}
 use Rattle.gsl_sound_code.proofs.Spots.{stays_started}
 use Rattle.gsl_sound_ids.proofs.Globals.{sorted}
@@ -35,8 +34,7 @@ use Rattle.gsl_sound_ids.proofs.Variables.{local_variable}
 use Rattle.gsl_sound_types.specs.Typed.{IsAs, Typed, types_in}
 use Rattle.gsl_sound_types.proofs.Holding.{of_value}
 use Rattle.gsl_sound_values.specs.Shaped.{is_shaped}
-use Rattle.gsl_shown.specs.Shown.{held_as, in_slots}
-use Rattle.gsl_operands.specs.Operands.{constants, constants_below, first, if_constant, stands, stands_at}
+use Rattle.gsl_operands.specs.Operands.{constants, constants_below, if_constant, stands, stands_at}
 use Rattle.gsl_step.specs.Machine.{IsShown, Leads}
 use Rattle.gsl_step.specs.declared.machine.Machine.{Machine}
 

@@ -1,16 +1,13 @@
 -- A function goes on behind a label or a merge.
-use Rattle.std.proofs.Common.{◌≡◌, refl, sym, ap, ◌∙◌, subst, ℕ, ◌+◌, ◌^◌, ◌<◌, false, List, ◌∷◌, map, Some, arith}
-use Rattle.gsl_base.specs.declared.input.Input.{Input}
-use Rattle.gsl_instr.specs.declared.instruction.Instruction.{Instruction}
+use Rattle.std.proofs.Common.{◌≡◌, refl, sym, subst, ◌+◌, ◌^◌, ◌<◌, false, List, ◌∷◌, map, arith}
 use Rattle.gsl_words.specs.declared.module.Module.{Module}
 use Rattle.gsl_valid.specs.CallRules.{is_last}
 use Rattle.gsl_valid.specs.Instruction.{read}
-use Rattle.gsl_valid.specs.Kinds.{Kind, Merges, Opens, kind, kind_of}
+use Rattle.gsl_valid.specs.Kinds.{Kind, Merges, Opens, kind}
 use Rattle.gsl_valid.specs.Placed.{Placed}
 use Rattle.gsl_machine.specs.State.{State}
 use Rattle.gsl_machine.specs.Steps.{in_new_block}
 use Rattle.gsl_shown.specs.Shown.{Shows}
-use Rattle.gsl_shown.specs.Shown.{Standing as Stood}
 use Rattle.gsl_shown.proofs.Passing.{label_shown, merge_shown, stands}
 use Rattle.gsl_step.specs.Machine.{IsShown, stood}
 use Rattle.gsl_step.specs.declared.machine.Machine.{Machine}

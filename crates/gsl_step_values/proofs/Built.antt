@@ -1,5 +1,5 @@
 -- What built-in functions give on operands, in words.
-use Rattle.std.proofs.Common.{◌≡◌, refl, sym, ap, ◌∙◌, subst, ℕ, ◌+◌, ◌<◌, ◌≤◌, Bool, true, false, ◌&&◌, if◌then◌else◌, ◌⊎◌, List, [], ◌∷◌, length, map, take, drop, Option, Some, None, inl, inr, arith}
+use Rattle.std.proofs.Common.{◌≡◌, refl, sym, ap, ◌∙◌, subst, ℕ, ◌<◌, ◌≤◌, Bool, true, false, ◌&&◌, if◌then◌else◌, ◌⊎◌, List, [], ◌∷◌, length, map, take, drop, Option, Some, None, inl, inr, arith}
 use Rattle.std.specs.List.{AllByRecursion, list_all}
 use Rattle.std.specs.Prelude.{◌==◌, find, nat_le}
 use Rattle.std.proofs.lemmas.Bool.{and_from, and_parts, eqb-true, false≢true, leb-true}
@@ -41,7 +41,7 @@ use Rattle.gsl_step.specs.declared.machine.Machine.{Machine}
 use Rattle.gsl_step.proofs.Giving.{at_top, gives_words, room_there, rules_kept}
 use Rattle.gsl_step.proofs.Operands.{Top, below_bound, with_operand}
 use Rattle.gsl_step.proofs.Passing.{number_fits}
-use Rattle.gsl_step_values.specs.Values.{HasRoomFor, Part, PutsGiven, PutsPlain, Serves, all_words, from, to, words}
+use Rattle.gsl_step_values.specs.Values.{HasRoomFor, Part, PutsGiven, PutsPlain, Serves, all_words, from, to}
 use Rattle.gsl_step_values.proofs.Two.{lanes_are, leaves_sized, operands, words_sized}
 
 -- the words of what a function gives that goes component by component

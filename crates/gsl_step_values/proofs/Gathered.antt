@@ -1,11 +1,10 @@
 -- Words of operands that are put one behind the other.
-use Rattle.std.proofs.Common.{◌≡◌, refl, sym, ap, ◌∙◌, subst, ℕ, zero, suc, ◌+◌, ◌<◌, ◌≤◌, ◌^◌, Bool, true, false, ◌&&◌, ◌||◌, List, [], ◌∷◌, ◌++◌, length, map, take, drop, Option, Some, None, arith, append_assoc, append-nil, length-append}
+use Rattle.std.proofs.Common.{◌≡◌, refl, sym, ap, ◌∙◌, subst, ℕ, zero, suc, ◌+◌, ◌<◌, ◌≤◌, Bool, true, false, ◌&&◌, ◌||◌, List, [], ◌∷◌, ◌++◌, length, map, take, drop, Some, arith, append_assoc, append-nil, length-append}
 use Rattle.std.specs.Prelude.{◌==◌, min, slice_index}
 use Rattle.std.specs.List.{AllByRecursion, flat_map, list_all, sum}
 use Rattle.std.proofs.lemmas.Bool.{and_from, and_parts, eqb-true, false≢true}
 use Rattle.std.proofs.lemmas.List.{drop-drop, drop_at, length-drop, length-take-le, take-append-drop, take_all, take_at}
 use Rattle.gsl_base.specs.declared.input.Input.{Input}
-use Rattle.gsl_instr.specs.declared.instruction.Instruction.{Instruction}
 use Rattle.gsl_instr.specs.declared.instruction.Instruction.TheVariants as instruction
 use Rattle.gsl_words.specs.declared.module.Module.{Module}
 use Rattle.gsl_values.specs.declared.value.Value.{Value}
@@ -18,7 +17,7 @@ use Rattle.gsl_valid.specs.Search.{whole}
 use Rattle.gsl_valid.specs.TypeRules.{is_component, is_made}
 use Rattle.gsl_valid.specs.Types.{Lanes, defined_as, is_bool_shape, is_int_shape, is_type, lanes_in, lanes_with, scalar_in}
 use Rattle.gsl_machine.specs.Operations.{constructed}
-use Rattle.gsl_machine.specs.State.{Outcome, State, giving_value, on_whole}
+use Rattle.gsl_machine.specs.State.{Outcome, State, giving_value}
 use Rattle.gsl_machine.specs.Steps.{on_all}
 use Rattle.gsl_region.specs.Flat.{flat, flat_all}
 use Rattle.gsl_region.specs.Showing.{with_words}

@@ -1,6 +1,6 @@
 -- What an operator on two values gives, in words.
-use Rattle.std.proofs.Common.{◌≡◌, refl, sym, ap, ◌∙◌, subst, ℕ, ◌+◌, ◌<◌, ◌≤◌, ◌^◌, Bool, true, false, ◌&&◌, List, [], ◌∷◌, length, take, drop, Option, Some, None, arith}
-use Rattle.std.proofs.lemmas.Bool.{and_parts, eq-eqb, eqb-true, false≢true}
+use Rattle.std.proofs.Common.{◌≡◌, refl, sym, ap, ◌∙◌, subst, ℕ, ◌≤◌, true, ◌&&◌, List, [], ◌∷◌, length, take, drop, Option, Some, None, arith}
+use Rattle.std.proofs.lemmas.Bool.{and_parts, eq-eqb, false≢true}
 use Rattle.gsl_base.specs.declared.input.Input.{Input}
 use Rattle.gsl_instr.specs.declared.instruction.Instruction.{Instruction}
 use Rattle.gsl_instr.specs.declared.instruction.Instruction.TheVariants as instruction
@@ -9,15 +9,14 @@ use Rattle.gsl_words.specs.declared.module.Module.{Module}
 use Rattle.gsl_values.specs.Vectors.{binary_each}
 use Rattle.gsl_values.specs.declared.value.Value.{Value}
 use Rattle.gsl_tree.specs.Operations.{binary_words}
-use Rattle.gsl_tree.specs.Values.{components_in}
 use Rattle.gsl_valid.specs.Instruction.{passes_if, read}
 use Rattle.gsl_valid.specs.Kinds.{Gives, kind, kind_of, type_of}
 use Rattle.gsl_valid.specs.OperandRules.{are_compared, is_ints_sized, is_signed, is_truth, operands_typed, sign_of}
 use Rattle.gsl_valid.specs.Placed.{Placed}
 use Rattle.gsl_valid.specs.Search.{whole}
-use Rattle.gsl_valid.specs.Types.{Lanes, Scalar, defined_as, has_lanes, has_type, is_ints, is_truths, is_type, is_words, lanes_of, same_size}
+use Rattle.gsl_valid.specs.Types.{defined_as, has_type, is_ints, is_truths, is_type, is_words, lanes_of, same_size}
 use Rattle.gsl_machine.specs.Operations.{Operator, arithmetic, binary, comparison, logical, shift}
-use Rattle.gsl_machine.specs.State.{Outcome, State, on_whole}
+use Rattle.gsl_machine.specs.State.{State, on_whole}
 use Rattle.gsl_machine.specs.Steps.{drawing, on_two}
 use Rattle.gsl_region.specs.Flat.{flat}
 use Rattle.gsl_lanes.proofs.Each.{one_size}
@@ -37,7 +36,7 @@ use Rattle.gsl_sound_values.proofs.Operated.{binary_shaped}
 use Rattle.gsl_slots.specs.Holding.{IsHeld}
 use Rattle.gsl_step.specs.Machine.{IsShown, Leads, Puts}
 use Rattle.gsl_step.specs.declared.machine.Machine.{Machine}
-use Rattle.gsl_step.proofs.Giving.{at_top, gives_words, next_step, room_there, rules_kept}
+use Rattle.gsl_step.proofs.Giving.{at_top, gives_words, room_there, rules_kept}
 use Rattle.gsl_step.proofs.Operands.{Top, below_bound, with_operand}
 use Rattle.gsl_step.proofs.Passing.{number_fits}
 use Rattle.gsl_step_values.specs.Values.{HasRoom, PutsTwo, from, to, words}

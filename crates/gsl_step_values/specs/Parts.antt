@@ -1,5 +1,5 @@
 -- What a machine puts where a part is taken out of a value, or put into one.
-use Rattle.std.specs.Prelude.{◌≡◌, ℕ, ◌+◌, ◌<◌, ◌≤◌, ◌^◌, List, length, take, drop, Option, Some, None}
+use Rattle.std.specs.Prelude.{◌≡◌, ℕ, ◌+◌, ◌++◌, ◌<◌, ◌≤◌, ◌^◌, List, length, map, slice_index, take, drop, Option, Some, None}
 use Rattle.std.specs.List.{AllByRecursion, flat_map}
 use Rattle.gsl_words.specs.declared.module.Module.{Module}
 use Rattle.gsl_valid.specs.Kinds.{shape_of, type_of}
@@ -80,3 +80,18 @@ pub record HasRoomToGather (m : Module) (base at : ℕ) (slots ids : List ℕ) :
 abbrev pub PutsAll : Module → (id : ℕ) (parts : List ℕ) → Machine → Machine → Type 0
 PutsAll m id parts now next =
     HasRoomToGather m now.standing.slots (to m now id) now.slots parts → now.standing.at + 1 < 2 ^ 32 → Puts now (to m now id) (gathered m now.standing.slots now.slots parts) now.choices next
+
+-- ---- components are shuffled
+
+-- There is room for so many words of what an id is given, behind so many of each of two operands, and places and numbers are told.
+pub record HasRoomToShuffle (m : Module) (now : Machine) (id a b first second count : ℕ) : Type 0 where
+  pub room : to m now id + count ≤ length now.slots
+  pub low : (a < m.bound) × (b < m.bound)
+  pub behind : (from m now a + first ≤ to m now id) × (from m now b + second ≤ to m now id)
+  pub places : length now.slots ≤ most
+  pub number : now.standing.at + 1 < 2 ^ 32
+
+abbrev pub PutsShuffled : Module → (id a b : ℕ) (positions : List ℕ) → Machine → Machine → Type 0
+PutsShuffled m id a b positions now next =
+    (first second : ℕ) → type_of (defined_as m a) ≡ Some first → type_of (defined_as m b) ≡ Some second → HasRoomToShuffle m now id a b (leaves m first) (leaves m second) (length positions)
+    → Puts now (to m now id) (map (slice_index (words m now a (leaves m first) ++ words m now b (leaves m second))) positions) now.choices next

@@ -1,10 +1,17 @@
 -- What a machine puts where an instruction gives a value.
-use Rattle.std.specs.Prelude.{◌≡◌, ℕ, ◌+◌, ◌<◌, ◌≤◌, ◌^◌, ◌⊎◌, Bool, nat_le, ◌&&◌, ◌||◌, ◌==◌, List, [], ◌∷◌, length, map, take, drop}
-use Rattle.std.specs.List.{AllByRecursion}
+use Rattle.std.specs.Prelude.{◌≡◌, ℕ, false, if◌then◌else◌, Some, ◌+◌, ◌<◌, ◌≤◌, ◌^◌, ◌⊎◌, Bool, nat_le, ◌&&◌, ◌||◌, ◌==◌, List, [], ◌∷◌, length, map, take, drop}
+use Rattle.std.specs.List.{AllByRecursion, list_all, list_any}
+use Rattle.gsl_instr.specs.declared.op.TheConstants as op
 use Rattle.gsl_words.specs.declared.module.Module.{Module}
 use Rattle.gsl_values.specs.Vectors.{binary_each}
+use Rattle.gsl_values.specs.Operators.{unary_word}
+use Rattle.gsl_values.specs.Word.{word_of_bool}
 use Rattle.gsl_values.specs.declared.function.Builtin.{Builtin}
-use Rattle.gsl_tree.specs.Operations.{builtin_each}
+use Rattle.gsl_values.specs.declared.function.Builtin.TheVariants as f
+use Rattle.gsl_values.specs.declared.op.UnaryOp.TheVariants as u
+use Rattle.gsl_tree.specs.Operations.{builtin_each, is_true}
+use Rattle.gsl_valid.specs.Kinds.{type_of}
+use Rattle.gsl_valid.specs.Types.{defined_as}
 use Rattle.gsl_machine.specs.Operations.{Operator}
 use Rattle.gsl_leaves.specs.Leaves.{leaves}
 use Rattle.gsl_leaves.specs.Table.{most}
@@ -38,6 +45,37 @@ PutsTwo m operator type id a b now next =
     HasRoom m now id (leaves m type) (a ∷ b ∷ [])
     → Puts now (to m now id) (binary_each operator.0 operator.1 (words m now a (leaves m type)) (words m now b (leaves m type)) now.choices).0
     (binary_each operator.0 operator.1 (words m now a (leaves m type)) (words m now b (leaves m type)) now.choices).1 next
+
+-- ---- operations on one value
+
+-- the words that an operation gives of so many words that joins none
+unfoldable pub unary_words : ℕ → ℕ → List ℕ → List ℕ
+unary_words code count words =
+    if code == op.S_NEGATE then map (unary_word u.Negate) words else if code == op.NOT then map (unary_word u.Flip) words else if code == op.LOGICAL_NOT then map (unary_word u.Not) words
+    else if code == op.BIT_REVERSE then (builtin_each f.BitfieldReverse false (words ∷ []) count 0 []).0 else if code == op.BIT_COUNT then (builtin_each f.BitCount false (words ∷ []) count 0 []).0
+    else words
+
+abbrev pub PutsEach : Module → (code type id a : ℕ) → Machine → Machine → Type 0
+PutsEach m code type id a now next = HasRoom m now id (leaves m type) (a ∷ []) → Puts now (to m now id) (unary_words code (leaves m type) (words m now a (leaves m type))) now.choices next
+
+-- Any and All join the components of a vector
+abbrev pub joins : ℕ → Bool
+joins code = code == op.ANY || code == op.ALL
+
+abbrev pub joined_word : ℕ → List ℕ → ℕ
+joined_word code words = if code == op.ANY then word_of_bool (list_any is_true words) else word_of_bool (list_all is_true words)
+
+-- There is room for one word, behind so many of an operand, and places and numbers are told.
+pub record HasRoomToJoin (m : Module) (now : Machine) (id a count : ℕ) : Type 0 where
+  pub room : to m now id + 1 ≤ length now.slots
+  pub low : a < m.bound
+  pub behind : from m now a + count ≤ to m now id
+  pub places : length now.slots ≤ most
+  pub number : now.standing.at + 1 < 2 ^ 32
+
+abbrev pub PutsJoined : Module → (code id a : ℕ) → Machine → Machine → Type 0
+PutsJoined m code id a now next =
+    (type : ℕ) → type_of (defined_as m a) ≡ Some type → HasRoomToJoin m now id a (leaves m type) → Puts now (to m now id) (joined_word code (words m now a (leaves m type)) ∷ []) now.choices next
 
 -- ---- built-in functions
 

@@ -47,7 +47,7 @@ fn all_serve(parts: &[Operand], at: u64, count: u64) -> bool
 }
 
 /// Puts what a built-in function gives on so many components of operands to a place behind them, if they serve and there is room.
-fn put_given(
+pub(crate) fn put_given(
     slots: &mut Slots,
     which: Builtin,
     signed: bool,

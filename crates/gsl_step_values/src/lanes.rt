@@ -9,7 +9,7 @@ use gsl_slots::Slots;
 use gsl_values::{BinaryOp, Choices};
 
 /// Whether so many words of an operand stand in front of a place, and as many among the slots behind it.
-fn has_room(slots: &Slots, from: u64, at: u64, count: u64) -> bool
+pub(crate) fn has_room(slots: &Slots, from: u64, at: u64, count: u64) -> bool
     ensures yes { result ≡ true → (from + count ≤ at) × (at + count ≤ length slots.now) }
     ensures no { from + count ≤ at → at + count ≤ length slots.now → result ≡ true }
 {

@@ -7,8 +7,12 @@ mod gathering;
 mod lanes;
 mod operators;
 mod parts;
+mod shuffling;
+mod single;
 
 pub use composites::{extract, insert};
 pub use functions::{bit_field_extract, bit_field_insert, extended, select};
 pub use gathering::construct;
 pub use operators::{arithmetic, comparison, logical, shift};
+pub use shuffling::shuffle;
+pub use single::unary;

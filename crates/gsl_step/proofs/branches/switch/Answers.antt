@@ -1,4 +1,4 @@
-use Rattle.std.proofs.Common.{◌≡◌, sym, ap, ◌∙◌, subst, ◌<◌, length, slice_index}
+use Rattle.std.proofs.Common.{sym, ap, ◌∙◌, subst, ◌<◌, length, slice_index}
 use Rattle.gsl_instr.specs.declared.instruction.Instruction.TheVariants as instruction
 use Rattle.gsl_machine.specs.Steps.{act}
 use Rattle.gsl_sound_code.proofs.Looks.{kept}

@@ -1,4 +1,4 @@
-use Rattle.std.proofs.Common.{◌≡◌, refl, sym, ap, ◌∙◌, subst, ◌+◌, ◌≤◌, Some, length, take, drop, arith}
+use Rattle.std.proofs.Common.{◌≡◌, refl, ap, ◌∙◌, subst, ◌+◌, ◌≤◌, Some, length, take, drop, arith}
 use Rattle.std.proofs.lemmas.List.{length-drop, length-take-le}
 use Rattle.gsl_leaves.specs.Leaves.{leaves, offset}
 use Rattle.gsl_leaves.specs.Table.{most, told}
