@@ -1,0 +1,5 @@
+pub mod Covering
+pub mod Parts
+pub mod Whole
+pub mod Statements
+pub mod Programs
