@@ -12,12 +12,13 @@ use Rattle.gsl_tree.specs.Weights.{params_of}
 use Rattle.gsl_tree.specs.declared.unit.Interface.{Interface}
 use Rattle.gsl_tree.specs.declared.unit.Prototype.{Prototype}
 use Rattle.gsl_spv.specs.declared.plain.PlainConst.TheVariants as of
+use Rattle.gsl_spv.specs.declared.plain.PlainType.TheVariants as plain
 use Rattle.gsl_lower_places.specs.declared.reached.Reached.{Reached}
 use Rattle.gsl_lower_expr.specs.Calls.{all_back, as_argument, back, back_if, back_to, called_by, called_with, calling, coming_back, going_in, passed_both, passed_out, passing, passing_all, result_by, result_type, tys, zeros}
 use Rattle.gsl_lower_expr.specs.Coming.{setting_of}
 use Rattle.gsl_lower_expr.specs.Parts.{Lower, any_splits}
 use Rattle.gsl_lower_law_inner.specs.Inner.{AllPut, CallsInner, LowersInner}
-use Rattle.gsl_lower_law_inner.proofs.Steps.{builds_constant, builds_declared}
+use Rattle.gsl_lower_law_inner.proofs.Steps.{builds_constant, builds_plain}
 use Rattle.gsl_lower_law_inner.proofs.Values.{builds_converted}
 use Rattle.gsl_lower_law_inner.proofs.Flows.{given_by, puts_back as puts_taken_back, puts_fetch_reached, puts_given, puts_giving, puts_hold_reached, puts_keep, puts_lift, puts_next, puts_then, puts_told, puts_type}
 use Rattle.gsl_lower_law_inner.proofs.Parts.{builds_probe, puts_reads, puts_stores}
@@ -88,10 +89,10 @@ puts_all_back structs (p ∷ ps) (param ∷ params) (arg ∷ args) = puts_next (
 -- ---- calls
 
 puts_result_by : (t : Ty) (layer : Ty-F Ty) → AllPut (result_by t layer)
-puts_result_by t Ty-F.Void = puts_lift (builds_declared _)
+puts_result_by t Ty-F.Void = puts_lift (builds_plain plain.Void)
 puts_result_by t _ = puts_type t
 
-puts_result : (t : Ty) → AllPut (result_type t)
+pub puts_result : (t : Ty) → AllPut (result_type t)
 unfolding result_type
 puts_result t = puts_result_by t (out-Ty t)
 

@@ -19,13 +19,13 @@ use Rattle.gsl_lower_holders.specs.declared.blocks.Fork.{Fork}
 use Rattle.gsl_lower_holders.specs.declared.place.FlowPlace.{FlowPlace}
 use Rattle.gsl_lower_follows.proofs.Growing.{grown_same, grown_then}
 use Rattle.gsl_lower_law_inner.specs.Inner.{AllBuild, AllPut, BuildsTo, PutsInner, PutsTo, is_inner}
-use Rattle.gsl_lower_law_inner.proofs.Steps.{all_append, builds_giving, builds_putting, builds_taken}
+use Rattle.gsl_lower_law_inner.proofs.Steps.{all_append, outside_same, outside_then, builds_giving, builds_putting, builds_taken}
 use Rattle.gsl_lower_law_inner.proofs.Values.{builds_scalar_type, builds_type}
 
 -- ---- inner code
 
 inner_same : (b : Flow) → PutsInner b b
-inner_same b = record { grown = grown_same b; put = []; is = sym (append-nil b.sections.functions); inner = tt }
+inner_same b = record { grown = grown_same b; put = []; is = sym (append-nil b.sections.functions); inner = tt; outside = outside_same b.sections }
 
 inner_then : {a b c : Flow} → PutsInner a b → PutsInner b c → PutsInner a c
 inner_then {a} {b} {c} p q = record {
@@ -33,6 +33,7 @@ inner_then {a} {b} {c} p q = record {
   put = p.put ++ q.put;
   is = q.is ∙ ap (λ l. l ++ q.put) p.is ∙ append_assoc a.sections.functions p.put q.put;
   inner = all_append p.put q.put p.inner q.inner;
+  outside = outside_then p.outside q.outside;
 }
 
 -- ---- types that their crates keep to themselves, by what gives a value of them
@@ -75,7 +76,7 @@ puts_lift {A} {step} p = record { all = λ b. by b (step b.sections) (p.all b.se
   where
     by : (b : Flow) (built : Built A) → BuildsTo b.sections built → PutsTo b (built_in b.place built)
     by b Full g = tt
-    by b (Made a sections) g = record { grown = record { extends = g.extends; used = omega arith; place = refl }; put = g.put; is = g.is; inner = g.inner }
+    by b (Made a sections) g = record { grown = record { extends = g.extends; used = omega arith; place = refl }; put = g.put; is = g.is; inner = g.inner; outside = g.outside }
 
 pub puts_each : {A B : Type 0} (emit : A → Emit B) (items : List A) → ((a : A) → AllPut (emit a)) → AllPut (each emit items)
 unfolding each
@@ -94,7 +95,7 @@ pub puts_fresh : AllPut fresh
 puts_fresh = puts_lift builds_taken
 
 puts_label : (label : ℕ) → AllPut {A = Unit {0}} (λ flow. Gives tt (record flow { place = record flow.place { label = label } }))
-puts_label label = record { all = λ b. record { grown = record { extends = extends_same b.sections; used = omega arith; place = refl }; put = []; is = sym (append-nil b.sections.functions); inner = tt } }
+puts_label label = record { all = λ b. record { grown = record { extends = extends_same b.sections; used = omega arith; place = refl }; put = []; is = sym (append-nil b.sections.functions); inner = tt; outside = outside_same b.sections } }
 
 pub puts_opening : (label : ℕ) → AllPut (opening label)
 unfolding opening
@@ -125,7 +126,7 @@ puts_holder = record { all = λ b. by b (slice_get b.place.holders b.place.used)
   where
     by : (b : Flow) (found : Option ℕ) → PutsTo b (holder_at found b)
     by b None = tt
-    by b (Some id) = record { grown = record { extends = extends_same b.sections; used = omega arith; place = refl }; put = []; is = sym (append-nil b.sections.functions); inner = tt }
+    by b (Some id) = record { grown = record { extends = extends_same b.sections; used = omega arith; place = refl }; put = []; is = sym (append-nil b.sections.functions); inner = tt; outside = outside_same b.sections }
 
 pub puts_keep : (value : ℕ) → AllPut (keep value)
 unfolding keep

@@ -15,7 +15,8 @@ use Rattle.gsl_lower_places.specs.declared.reached.Part.TheVariants.{Fixed, By}
 use Rattle.gsl_lower_places.specs.declared.reached.Picked.{Picked}
 use Rattle.gsl_lower_places.specs.declared.reached.Reached.{Reached}
 use Rattle.gsl_lower_law_inner.specs.Inner.{AllBuild}
-use Rattle.gsl_lower_law_inner.proofs.Steps.{builds_declared, builds_given, builds_giving, builds_if, builds_order, builds_putting, builds_then}
+use Rattle.gsl_lower_law_inner.proofs.Steps.{builds_given, builds_giving, builds_if, builds_order, builds_plain, builds_putting, builds_then}
+use Rattle.gsl_spv.specs.declared.plain.PlainType.TheVariants as plain
 use Rattle.gsl_lower_law_inner.proofs.Values.{builds_converted, builds_scalar, builds_type, builds_typed, builds_vector}
 use Rattle.gsl_lower_law_inner.proofs.Built.{builds_picked}
 
@@ -45,7 +46,7 @@ builds_index (By s id) = builds_given
 
 builds_chained : (id class pointee : ℕ) (parts : List Part) → AllBuild (chained id class pointee parts)
 builds_chained id class pointee [] = builds_given
-builds_chained id class pointee (part ∷ parts) = builds_then (builds_order index (part ∷ parts) builds_index) (λ ids. builds_then (builds_declared _) (λ type. builds_giving _ _ type refl))
+builds_chained id class pointee (part ∷ parts) = builds_then (builds_order index (part ∷ parts) builds_index) (λ ids. builds_then (builds_plain (plain.Pointer class pointee)) (λ type. builds_giving _ _ type refl))
 
 pub builds_pointer : (id class pointee : ℕ) (parts : List Part) → AllBuild (pointer id class pointee parts)
 unfolding pointer

@@ -1,5 +1,5 @@
 -- Types, constants, operators and conversions.
-use Rattle.std.proofs.Common.{◌≡◌, refl, ℕ, true, List, [], ◌∷◌}
+use Rattle.std.proofs.Common.{replicate, ◌≡◌, refl, ℕ, true, List, [], ◌∷◌}
 use Rattle.gsl_types.specs.declared.ty.Scalar.{Scalar}
 use Rattle.gsl_types.specs.declared.ty.Scalar.TheVariants.{Bool as Boolean, Int, Uint}
 use Rattle.gsl_values.specs.declared.op.UnaryOp.{UnaryOp}
@@ -12,22 +12,23 @@ use Rattle.gsl_tree.specs.declared.expr.LogicOp.TheVariants as logic
 use Rattle.gsl_tree.specs.declared.expr.StepOp.{StepOp}
 use Rattle.gsl_tree.specs.declared.expr.StepOp.TheVariants.{PreUp, PreDown, PostUp, PostDown}
 use Rattle.gsl_spv.specs.declared.plain.PlainConst.TheVariants as of
+use Rattle.gsl_spv.specs.declared.plain.PlainType.TheVariants as plain
 use Rattle.gsl_lower_values.specs.Building.{giving, ◌>>=◌}
-use Rattle.gsl_lower_values.specs.Types.{filled_constant, scalar_constant, scalar_type, type_of, vector_constant}
+use Rattle.gsl_lower_values.specs.Types.{plain_scalar, filled_constant, scalar_constant, scalar_type, type_of, vector_constant}
 use Rattle.gsl_lower_values.specs.Operators.{binary, binary_code, converted, converted_from, each, joined, logic_code, logical, selected, spread, step_code, stepped, unary, unary_code}
 use Rattle.gsl_lower_values.specs.declared.operand.Operand.{Operand}
 use Rattle.gsl_lower_law_inner.specs.Inner.{AllBuild, is_inner}
-use Rattle.gsl_lower_law_inner.proofs.Steps.{builds_constant, builds_declared, builds_given, builds_giving, builds_if, builds_order, builds_then}
+use Rattle.gsl_lower_law_inner.proofs.Steps.{builds_composite, builds_constant, builds_given, builds_giving, builds_if, builds_order, builds_plain, builds_then}
 
 -- ---- types
 
 pub builds_scalar_type : (s : Scalar) → AllBuild (scalar_type s)
 unfolding scalar_type
-builds_scalar_type s = builds_declared _
+builds_scalar_type s = builds_plain (plain_scalar s)
 
 pub builds_type : (shape : Shape) → AllBuild (type_of shape)
 unfolding type_of
-builds_type shape = builds_then (builds_scalar_type shape.0) (λ component. builds_if _ builds_given (builds_declared _))
+builds_type shape = builds_then (builds_scalar_type shape.0) (λ component. builds_if _ builds_given (builds_plain (plain.Vector component shape.1)))
 
 -- an instruction behind its type
 pub builds_typed : (shape : Shape) (code : ℕ) (operands : List ℕ) → is_inner code ≡ true → AllBuild (type_of shape >>= giving code operands)
@@ -43,11 +44,11 @@ builds_scalar Uint word = builds_then (builds_scalar_type Uint) (λ type. builds
 
 pub builds_filled : (shape : Shape) (word : ℕ) → AllBuild (filled_constant shape word)
 unfolding filled_constant
-builds_filled shape word = builds_then (builds_scalar shape.0 word) (λ part. builds_if _ builds_given (builds_then (builds_type shape) (λ type. builds_declared _)))
+builds_filled shape word = builds_then (builds_scalar shape.0 word) (λ part. builds_if _ builds_given (builds_then (builds_type shape) (λ type. builds_composite type (replicate shape.1 part))))
 
 pub builds_vector : (shape : Shape) (words : List ℕ) → AllBuild (vector_constant shape words)
 unfolding vector_constant
-builds_vector shape words = builds_then (builds_order (scalar_constant shape.0) words (builds_scalar shape.0)) (λ parts. builds_then (builds_type shape) (λ type. builds_declared _))
+builds_vector shape words = builds_then (builds_order (scalar_constant shape.0) words (builds_scalar shape.0)) (λ parts. builds_then (builds_type shape) (λ type. builds_composite type parts))
 
 -- ---- opcodes
 

@@ -24,12 +24,26 @@ IsInner i = is_inner i.op ≡ true
 
 -- ---- steps of a builder
 
--- From one builder to the next the sections grew, and the functions by inner code alone.
+-- Code grew by inner code alone.
+pub record GrowsInner (before after : Code) : Type 0 where
+  pub put : Code
+  pub is : after ≡ before ++ put
+  pub inner : AllByRecursion IsInner put
+
+-- Outside functions sections grew by inner code alone.
+pub record KeepsOutside (before after : Sections) : Type 0 where
+  pub imports : GrowsInner before.imports after.imports
+  pub names : GrowsInner before.names after.names
+  pub decorations : GrowsInner before.decorations after.decorations
+  pub globals : GrowsInner before.globals after.globals
+
+-- From one builder to the next the sections grew by inner code alone.
 pub record BuildsInner (before after : Sections) : Type 0 where
   pub extends : Extends before after
   pub put : Code
   pub is : after.functions ≡ before.functions ++ put
   pub inner : AllByRecursion IsInner put
+  pub outside : KeepsOutside before after
 
 -- What a step came to is so, if it came to something.
 abbrev pub BuildsTo : {A : Type 0} → Sections → Built A → Type 0
@@ -42,12 +56,13 @@ pub record AllBuild {A : Type 0} (step : Step A) : Type 0 where
 
 -- ---- parts of lowering
 
--- From one flow to the next there was only more, the names are known as before, and the functions grew by inner code alone.
+-- From one flow to the next there was only more, the names are known as before, and sections grew by inner code alone.
 pub record PutsInner (b later : Flow) : Type 0 where
   pub grown : Grown b later
   pub put : Code
   pub is : later.sections.functions ≡ b.sections.functions ++ put
   pub inner : AllByRecursion IsInner put
+  pub outside : KeepsOutside b.sections later.sections
 
 -- What was lowered is so, if nothing was wanting.
 abbrev pub PutsTo : {A : Type 0} → Flow → Lowered A → Type 0

@@ -3,3 +3,4 @@ pub mod Walking
 pub mod Outputs
 pub mod Ordered
 pub mod Outs
+pub mod Functions
