@@ -27,7 +27,7 @@ use Rattle.gsl_lower_follows.proofs.Growing.{adds_given, adds_then}
 use Rattle.gsl_lower_follows.proofs.Holding.{after_then, does_so}
 use Rattle.gsl_lower_law_expr.proofs.Operands.{given_behind, given_value}
 use Rattle.gsl_lower_law_expr.proofs.Short.{behind_assoc}
-use Rattle.gsl_lower_reaching.specs.Reaching.{GivesPlace, HasReached, HasStrayed, IsTrail}
+use Rattle.gsl_lower_reaching.specs.Reaching.{GivesPlace, HasReached, HasStrayed, IsTrail, Start}
 use Rattle.gsl_lower_reaching.specs.Trails.{IsInside, IsOutside, Trail}
 use Rattle.gsl_lower_reaching.proofs.Moving.{trail_after}
 use Rattle.gsl_lower_reads.specs.Waiting.{IsKept}
@@ -47,7 +47,7 @@ comes_strays (Ends s) comes = absurd comes
 comes_strays Strays comes = refl
 comes_strays Goes comes = absurd comes
 
-module _ (m : Module) (input : Input) (sections : Sections) (f : Frame m input sections) (p : Program) (around : Around) (loose : Bool) (a right : Lower) (y : Run Value) (known : Assigns p a right y) (gives : GivesValue m input sections f p around right.traits.splits right.ty right.value y) where
+module _ (m : Module) (input : Input) (sections : Sections) (f : Frame m input sections) (p : Program) (around : Around) (loose : Start) (a right : Lower) (y : Run Value) (known : Assigns p a right y) (gives : GivesValue m input sections f p around right.traits.splits right.ty right.value y) where
   abbrev t : Ty
   t = a.ty
 

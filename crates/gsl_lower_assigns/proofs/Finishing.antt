@@ -37,7 +37,7 @@ use Rattle.gsl_lower_follows.proofs.Growing.{adds_given, adds_lift, adds_then}
 use Rattle.gsl_lower_follows.proofs.Holding.{does_so}
 use Rattle.gsl_lower_law_expr.proofs.Operands.{given_behind, given_value}
 use Rattle.gsl_lower_law_expr.proofs.Steps.{Always}
-use Rattle.gsl_lower_reaching.specs.Reaching.{AtVariable}
+use Rattle.gsl_lower_reaching.specs.Reaching.{AtVariable, Start}
 use Rattle.gsl_lower_reaching.specs.Trails.{IsInside, Trail}
 use Rattle.gsl_lower_reads.proofs.Adding.{always_read}
 use Rattle.gsl_lower_writes.specs.Written.{IsWritten}
@@ -104,7 +104,7 @@ module _ (m : Module) (input : Input) (sections : Sections) (f : Frame m input s
 
   -- ---- by one pointer
 
-  module _ (are : AreStructs p.structs) (loose : Bool) (sound_t : IsSound (length p.structs) t) (shape : Shape) (shaped : shape_of t ≡ Some shape) (r : Reached) (a : Access) (l : Trail) (x : AtVariable m input sections f p around loose r.base l) (inside : IsInside p.structs true t a l) where
+  module _ (are : AreStructs p.structs) (loose : Start) (sound_t : IsSound (length p.structs) t) (shape : Shape) (shaped : shape_of t ≡ Some shape) (r : Reached) (a : Access) (l : Trail) (x : AtVariable m input sections f p around loose r.base l) (inside : IsInside p.structs true t a l) where
     abbrev pub Serving : Reached → Ids → Type 0
     Serving = ServesPlace m input sections f p around are loose t sound_t shape shaped r a l x inside
 

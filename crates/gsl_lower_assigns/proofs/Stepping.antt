@@ -1,11 +1,12 @@
 -- Steps before and after.
-use Rattle.std.proofs.Common.{◌≡◌, refl, sym, subst, ℕ, Bool, true, false, ◌||◌, if◌then◌else◌}
+use Rattle.std.proofs.Common.{◌≡◌, refl, sym, ◌∙◌, subst, ℕ, Bool, true, false, ◌||◌, Some, None, if◌then◌else◌}
 use Rattle.gsl_base.specs.declared.input.Input.{Input}
 use Rattle.gsl_types.specs.declared.ty.Ty.{Ty}
 use Rattle.gsl_words.specs.declared.module.Module.{Module}
 use Rattle.gsl_values.specs.declared.value.Value.{Value}
 use Rattle.gsl_tree.specs.Around.{Around}
 use Rattle.gsl_tree.specs.Operations.{is_postfix, step_value}
+use Rattle.gsl_tree.specs.Shapes.{shape_of}
 use Rattle.gsl_tree.specs.Values.{is_value_of}
 use Rattle.gsl_tree.specs.declared.expr.StepOp.{StepOp}
 use Rattle.gsl_tree.specs.declared.program.Program.{Program}
@@ -34,7 +35,8 @@ use Rattle.gsl_lower_law_expr.proofs.Binary.{shape_is}
 use Rattle.gsl_lower_law_expr.proofs.Operands.{given_value}
 use Rattle.gsl_lower_law_expr.proofs.Shapes.{value_shape}
 use Rattle.gsl_lower_law_expr.proofs.Steps.{always_stepped}
-use Rattle.gsl_lower_reaching.specs.Reaching.{AtVariable, GivesPlace, HasReached, HasStrayed, IsTrail}
+use Rattle.gsl_lower_reaching.specs.Reaching.{AtVariable, GivesPlace, HasReached, HasStrayed, IsTrail, Start}
+use Rattle.gsl_lower_reaching.specs.Reaching.Start.{OfBlock}
 use Rattle.gsl_lower_reaching.specs.Reaching.Begins.{variable}
 use Rattle.gsl_lower_reaching.specs.Trails.{IsInside, IsOutside, Trail}
 use Rattle.gsl_lower_reads.proofs.Adding.{adds_reads}
@@ -43,11 +45,11 @@ use Rattle.gsl_lower_reads.proofs.Straying.{read_strays}
 use Rattle.gsl_lower_writes.proofs.Adding.{adds_stores, always_renewed}
 use Rattle.gsl_lower_writes.proofs.Outside.{renewed_strays}
 use Rattle.gsl_lower_writes.proofs.Pointed.{IsServed, ServesPlace, place_renewed}
-use Rattle.gsl_lower_writes.proofs.Stored.{at_variable}
+use Rattle.gsl_lower_writes.proofs.Stored.{at_variable, own_named}
 use Rattle.gsl_lower_assigns.specs.Updating.{IsStepped, step_means}
 use Rattle.gsl_lower_assigns.proofs.Finishing.{Has, from_before, serving_keeps, serving_reads, still_serving, stores_here}
 
-module _ (m : Module) (input : Input) (sections : Sections) (f : Frame m input sections) (p : Program) (around : Around) (loose : Bool) (a : Lower) (which : StepOp) (known : IsStepped p a.ty which) where
+module _ (m : Module) (input : Input) (sections : Sections) (f : Frame m input sections) (p : Program) (around : Around) (loose : Start) (a : Lower) (which : StepOp) (known : IsStepped p a.ty which) where
   abbrev t : Ty
   t = a.ty
 
@@ -81,6 +83,10 @@ module _ (m : Module) (input : Input) (sections : Sections) (f : Frame m input s
   adds_next : (r : Reached) → Adds (next r)
   adds_next r = adds_then (lift (to_renew (shape_or t) r)) by_pointer (adds_lift (to_renew (shape_or t) r) (λ b. always_renewed m input sections (shape_or t) r b.sections)) adds_pointer
 
+  -- it is a scalar or vector
+  shape_apart : shape_of t ≡ None → loose ≡ OfBlock → ⊥
+  shape_apart none e = absurd (let z : None ≡ Some known.shape = sym none ∙ known.shaped in cc)
+
   same_shape : shape_or t ≡ known.shape
   same_shape = shape_is t known.shape known.shaped
 
@@ -95,7 +101,7 @@ module _ (m : Module) (input : Input) (sections : Sections) (f : Frame m input s
   module _ (b : Flow) (s : shader.State) (units : ℕ) (state : State) (r : Reached) (l : Trail) (good : Good m input sections f p around b s state) (is : IsTrail m input sections f p around false loose b state r l) where
     module _ (acc : Access) (inside : IsInside p.structs true t acc l) where
       x : AtVariable m input sections f p around loose r.base l
-      x = at_variable m input sections f p around b state loose r l is (inside.named refl)
+      x = at_variable m input sections f p around b state loose r l (own_named m input sections f p around b state loose r l is (inside.named refl)) (inside.named refl)
 
       abbrev Serving : Reached → Ids → Type 0
       Serving = ServesPlace m input sections f p around known.are loose t known.sound known.shape known.shaped r acc l x inside
@@ -144,7 +150,7 @@ module _ (m : Module) (input : Input) (sections : Sections) (f : Frame m input s
           subst (λ shape. Does m input sections f p 0 units state (Has m input sections f p around t false b state) none_waits (goes_on acc (means_read p.structs t acc s) s units) ((lift (to_renew shape r) >>= by_pointer) b)) (sym same_shape)
           (does_then m input sections f p 0 units b state (IsServed m input sections f p around known.are loose t known.sound known.shape known.shaped r acc l x inside b s state) none_waits (Has m input sections f p around t false b state) none_waits (Got tt s units) (λ one u left. goes_on acc (means_read p.structs t acc u) u left) (lift (to_renew known.shape r) b) by_pointer good.inside
           (adds_lift (to_renew known.shape r) (λ b. always_renewed m input sections known.shape r b.sections) b) adds_pointer
-          (place_renewed m input sections f p around known.are loose t known.sound known.shape known.shaped r acc l x inside b s units state good is)
+          (place_renewed m input sections f p around known.are loose t known.sound known.shape known.shaped r acc l x inside b s units state good (own_named m input sections f p around b state loose r l is (inside.named refl)))
           (λ to between one u left mid within grown q less.
           from_before m input sections f p around t false false false b between state mid u left (goes_on acc (means_read p.structs t acc u) u left) (by_pointer to) (λ e. refl) grown q.after
           (by_pointer_in to between u left mid q.after.good q.serves))
@@ -155,7 +161,7 @@ module _ (m : Module) (input : Input) (sections : Sections) (f : Frame m input s
         renewed_strays m input sections f p around known.are loose t (shape_or t) units b s state r l by_pointer (Has m input sections f p around t false b state) good is outside adds_pointer
         (does_then m input sections f p 0 units b state (λ (old : ℕ) later (one : Value) u last. ⊥) none_waits (Has m input sections f p around t false b state) none_waits Strays (λ one u left. Strays) (reads p.structs t r b) (with_old r) good.inside
         (adds_reads m input sections p.structs t r b) (adds_old r)
-        (read_strays m input sections f p around known.are loose true t b s state r l good is outside units (λ (old : ℕ) later (one : Value) u last. ⊥))
+        (read_strays m input sections f p around known.are loose true t b s state r l good is outside units (λ (old : ℕ) later (one : Value) u last. ⊥) shape_apart)
         (λ old between one u left mid within grown none less. absurd none)
         (λ old between u left mid within grown none less. absurd none))
 

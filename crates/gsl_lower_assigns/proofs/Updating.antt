@@ -1,5 +1,5 @@
 -- Assignments by operators.
-use Rattle.std.proofs.Common.{◌≡◌, refl, sym, ap, ◌∙◌, subst, inl, inr, ℕ, Bool, true, false, not, ◌||◌, List, Some, IsTrue}
+use Rattle.std.proofs.Common.{◌≡◌, refl, sym, ap, ◌∙◌, subst, inl, inr, ℕ, Bool, true, false, not, ◌||◌, List, Some, None, IsTrue}
 use Rattle.gsl_base.specs.declared.input.Input.{Input}
 use Rattle.gsl_types.specs.declared.ty.Ty.{Ty}
 use Rattle.gsl_words.specs.declared.module.Module.{Module}
@@ -43,7 +43,9 @@ use Rattle.gsl_lower_law_expr.proofs.Operands.{given_value}
 use Rattle.gsl_lower_law_expr.proofs.Shapes.{operation_fits, signed_shape, value_shape}
 use Rattle.gsl_lower_law_expr.proofs.Short.{behind_assoc, does_change}
 use Rattle.gsl_lower_law_expr.proofs.Steps.{Always, always_binary, always_given}
-use Rattle.gsl_lower_reaching.specs.Reaching.{AtVariable, GivesPlace, HasReached, HasStrayed, IsTrail}
+use Rattle.gsl_lower_reaching.specs.Reaching.{AtVariable, GivesPlace, HasReached, HasStrayed, IsOwnTrail, IsTrail, Start}
+use Rattle.gsl_lower_reaching.specs.Reaching.IsTrail.{own}
+use Rattle.gsl_lower_reaching.specs.Reaching.Start.{OfBlock}
 use Rattle.gsl_lower_reaching.specs.Reaching.Begins.{variable}
 use Rattle.gsl_lower_reaching.specs.Trails.{IsInside, IsOutside, Trail}
 use Rattle.gsl_lower_reaching.proofs.Moving.{numbers_so, picks_so, trail_after}
@@ -56,7 +58,7 @@ use Rattle.gsl_lower_reads.proofs.Taking.{taken}
 use Rattle.gsl_lower_writes.proofs.Adding.{adds_stores, always_renewed}
 use Rattle.gsl_lower_writes.proofs.Outside.{renewed_strays}
 use Rattle.gsl_lower_writes.proofs.Pointed.{IsServed, ServesPlace, place_renewed}
-use Rattle.gsl_lower_writes.proofs.Stored.{at_variable, trail_stored}
+use Rattle.gsl_lower_writes.proofs.Stored.{at_variable, own_named, trail_stored}
 use Rattle.gsl_lower_assigns.specs.Updating.{Updates, update_means}
 use Rattle.gsl_lower_assigns.proofs.Finishing.{Has, Keeping, finishes, from_before, serving_keeps, serving_reads, still_serving}
 
@@ -72,7 +74,7 @@ same_fits Equal n e = refl
 same_fits Unequal n e = refl
 same_fits _ n e = absurd cc
 
-module _ (m : Module) (input : Input) (sections : Sections) (f : Frame m input sections) (p : Program) (around : Around) (loose : Bool) (t right : Ty) (which : BinaryOp) (known : Updates p around which t right) where
+module _ (m : Module) (input : Input) (sections : Sections) (f : Frame m input sections) (p : Program) (around : Around) (loose : Start) (t right : Ty) (which : BinaryOp) (known : Updates p around which t right) where
   abbrev operates : Operates p around which t right t
   operates = known.operates
 
@@ -84,6 +86,10 @@ module _ (m : Module) (input : Input) (sections : Sections) (f : Frame m input s
 
   always_step : (x y : ℕ) → Always (step x y)
   always_step x y = always_binary m input sections which (operand (shape_or t) x) (operand (shape_or right) y)
+
+  -- it is a scalar or vector
+  shape_apart : shape_of t ≡ None → loose ≡ OfBlock → ⊥
+  shape_apart none e = absurd (let z : None ≡ Some known.shape = sym none ∙ known.shaped in cc)
 
   same_shape : shape_or t ≡ known.shape
   same_shape = shape_is t known.shape known.shaped
@@ -229,7 +235,7 @@ module _ (m : Module) (input : Input) (sections : Sections) (f : Frame m input s
         subst (λ shape. Does m input sections f p 0 units state (IsBegun false b s state) none_waits (Got tt s units) ((lift (to_renew shape r) >>= read_both false) b)) (sym same_shape)
         (does_then m input sections f p 0 units b state (IsServed m input sections f p around operates.are loose t operates.sound_left known.shape known.shaped r acc l x inside b s state) none_waits (IsBegun false b s state) none_waits (Got tt s units) (λ one u left. Got tt u left) (lift (to_renew known.shape r) b) (read_both false) good.inside
         (adds_lift (to_renew known.shape r) (λ b. always_renewed m input sections known.shape r b.sections) b) (adds_read false)
-        (place_renewed m input sections f p around operates.are loose t operates.sound_left known.shape known.shaped r acc l x inside b s units state good is)
+        (place_renewed m input sections f p around operates.are loose t operates.sound_left known.shape known.shaped r acc l x inside b s units state good (own_named m input sections f p around b state loose r l is (inside.named refl)))
         (λ to between one u left mid within grown q less. begun_by to b s state between u left mid grown q.after q.still q.serves)
         (λ to between u left mid within grown none less. absurd none))
 
@@ -239,7 +245,7 @@ module _ (m : Module) (input : Input) (sections : Sections) (f : Frame m input s
         does_then m input sections f p 0 units b state (HasRead s b state) none_waits (IsBegun true b s state) none_waits (Got tt s units) (λ one u left. Got tt u left) (reads p.structs t r b) (held_both true r) good.inside
         (adds_reads m input sections p.structs t r b) (adds_both true r)
         (does_change m input sections f p around units units state (Gives_ false b state) (HasRead s b state) (means_read p.structs t acc s) tt s (reads p.structs t r b) (λ id later last h. record { after = h.after; still = refl; stands = (given_value m input sections f p around last.ids id t (means_read p.structs t acc s) operates.real_left h.given).1 })
-        (taken m input sections f p around operates.are loose true t operates.sound_left b s state r acc l good is inside units))
+        (taken m input sections f p around operates.are loose true t operates.sound_left b s state r acc l good is inside units shape_apart))
         (λ old b1 one u left mid within grown q less.
         does_then m input sections f p 0 left b1 mid (IsOldHeld (means_read p.structs t acc s) u b1 mid) none_waits (IsBegun true b s state) none_waits (Got tt u left) (λ one w left. Got tt w left) (hold true old b1) (λ before. hold_reached true r >>= (λ kept. given (kept_as before kept))) within
         (adds_hold true old b1) (λ before. adds_then (hold_reached true r) (λ kept. given (kept_as before kept)) (adds_held true r) (λ kept. adds_given {A = Kept} (kept_as before kept)))
@@ -276,17 +282,18 @@ module _ (m : Module) (input : Input) (sections : Sections) (f : Frame m input s
         finishes m input sections f p around t acc to (answer v w) (step i y) (always_step i y) (λ choices are. operates.gives v w choices are typed_v typed_w) operates.real_left b s units state good keeping (computes i y v w state b.sections typed_v typed_w stands_v stands_w)
 
     -- a trail that is there stays so while ids stand for the same
-    trail_still : (to : Reached) (b later : Flow) (state last : State) → AtVariable m input sections f p around loose to.base l → Keeps state.ids last.ids → IsTrail m input sections f p around false loose b state to l → IsTrail m input sections f p around false loose later last to l
-    trail_still to b later state last at keeps is = record {
+    trail_still : (to : Reached) (b later : Flow) (state last : State) → AtVariable m input sections f p around loose to.base l → Keeps state.ids last.ids → IsOwnTrail m input sections f p around false loose b state to l → IsTrail m input sections f p around false loose later last to l
+    trail_still to b later state last at keeps is = own (record {
       begins = variable at;
       numbers = numbers_so (λ id v. HeldAs m input sections f false id v b state) (λ id v. HeldAs m input sections f false id v later last) (λ id v stands. keeps.same id _ stands) to.path l.words is.numbers;
       picks = picks_so (λ id v. HeldAs m input sections f false id v b state) (λ id v. HeldAs m input sections f false id v later last) (λ id v stands. keeps.same id _ stands) to.picked l.picks is.picks;
-    }
+    })
 
     trail_keeps : (to : Reached) (b : Flow) (state : State) → IsTrail m input sections f p around false loose b state to l → Keeping m input sections f p around t acc to state.ids
     trail_keeps to b state is =
-        let at = at_variable m input sections f p around b state loose to l is (inside.named refl) in
-        record { stores = λ later s units last value v good keeps typed stands. trail_stored m input sections f p around operates.are loose t operates.sound_left value v typed acc l inside later s units last to good (trail_still to b later state last at keeps is) stands }
+        let x = own_named m input sections f p around b state loose to l is (inside.named refl) in
+        let at = at_variable m input sections f p around b state loose to l x (inside.named refl) in
+        record { stores = λ later s units last value v good keeps typed stands. trail_stored m input sections f p around operates.are loose t operates.sound_left value v typed acc l inside later s units last to good (trail_still to b later state last at keeps x) stands }
 
     module _ (kept : Kept) (y : ℕ) (v w : Value) (typed_v : is_value_of p.structs t v ≡ true) (typed_w : is_value_of p.structs right w ≡ true) where
       ended : (waits : Bool) (b : Flow) (s : shader.State) (units : ℕ) (state : State) → Good m input sections f p around b s state → HeldAs m input sections f waits kept.old v b state → PlaceAs waits kept.to b state → Stands state.ids y w
@@ -351,7 +358,7 @@ module _ (m : Module) (input : Input) (sections : Sections) (f : Frame m input s
     both_out waits =
         does_then m input sections f p 0 units b state (λ (id : ℕ). Never id) none_waits (λ (kept : Kept). Never kept) none_waits Strays (λ one u left. Strays) (reads p.structs t r b) (held_both waits r) good.inside
         (adds_reads m input sections p.structs t r b) (adds_both waits r)
-        (read_strays m input sections f p around operates.are loose true t b s state r l good is outside units (λ (id : ℕ). Never id))
+        (read_strays m input sections f p around operates.are loose true t b s state r l good is outside units (λ (id : ℕ). Never id) shape_apart)
         (λ id between one u left mid within grown none less. absurd none)
         (λ id between u left mid within grown none less. absurd none)
 
@@ -368,7 +375,7 @@ module _ (m : Module) (input : Input) (sections : Sections) (f : Frame m input s
         (λ kept between one u left mid within grown none less. absurd none)
         (λ kept between u left mid within grown none less. absurd none)
 
-module _ (m : Module) (input : Input) (sections : Sections) (f : Frame m input sections) (p : Program) (around : Around) (loose splits : Bool) (which : BinaryOp) (a b : Lower) (known : Updates p around which a.ty b.ty) (left : Run Access) (right : Run Value) where
+module _ (m : Module) (input : Input) (sections : Sections) (f : Frame m input sections) (p : Program) (around : Around) (loose : Start) (splits : Bool) (which : BinaryOp) (a b : Lower) (known : Updates p around which a.ty b.ty) (left : Run Access) (right : Run Value) where
   abbrev waits : Bool
   waits = b.traits.splits
 
@@ -400,7 +407,7 @@ module _ (m : Module) (input : Input) (sections : Sections) (f : Frame m input s
             (leads.does now s units state good)
             (λ r between x u last mid within grown q less.
             from_before m input sections f p around a.ty splits waits (splits || waits) now between state mid u last (shader_run.◌>>=◌ right (λ y. shader_run.◌>>=◌ (drawing (binary_value which (is_signed a.ty) (means_read p.structs a.ty x u) y)) (storing x)) u last) (next r) (λ e. e) grown q.after
-            (all_in m input sections f p around loose a.ty b.ty which known r x q.trail (at_variable m input sections f p around between mid loose r q.trail q.is (q.inside.named refl)) q.inside waits b.value right gives between u last mid q.after.good q.is))
+            (all_in m input sections f p around loose a.ty b.ty which known r x q.trail (at_variable m input sections f p around between mid loose r q.trail (own_named m input sections f p around between mid loose r q.trail q.is (q.inside.named refl)) (q.inside.named refl)) q.inside waits b.value right gives between u last mid q.after.good q.is))
             (λ r between u last mid within grown q less.
             from_before m input sections f p around a.ty splits waits (splits || waits) now between state mid u last Strays (next r) (λ e. e) grown q.after
             (all_out m input sections f p around loose a.ty b.ty which known between u last mid r q.trail q.after.good q.is q.outside waits b.value gives.adds));

@@ -1,5 +1,5 @@
 -- What an index leads to, where it is known.
-use Rattle.std.proofs.Common.{◌≡◌, refl, sym, ap, ◌∙◌, subst, inl, inr, ℕ, ◌<◌, ◌≤◌, ◌⊎◌, Bool, true, false, [], ◌∷◌, ◌++◌, length, Option, Some, None, arith}
+use Rattle.std.proofs.Common.{◌≡◌, refl, sym, ap, ◌∙◌, subst, inl, inr, ℕ, ◌<◌, ◌≤◌, ◌⊎◌, Bool, true, false, List, [], ◌∷◌, ◌++◌, length, Option, Some, None, arith}
 use Rattle.std.specs.Prelude.{nat_lt, slice_index}
 use Rattle.std.proofs.lemmas.Bool.{cases_lt, cond-true, cond-false, lt-ltb, le-ltb}
 use Rattle.gsl_base.specs.declared.input.Input.{Input}
@@ -10,9 +10,11 @@ use Rattle.gsl_words.specs.declared.module.Module.{Module}
 use Rattle.gsl_values.specs.declared.value.Value.TheVariants.{Word}
 use Rattle.gsl_tree.specs.Around.{Around}
 use Rattle.gsl_tree.specs.Expressions.{element_of}
-use Rattle.gsl_tree.specs.Operations.{length_of}
+use Rattle.gsl_tree.specs.Operations.{has_fixed_length, length_of}
 use Rattle.gsl_tree.specs.Shapes.{Shape, shape_of}
+use Rattle.gsl_tree.specs.Values.{is_value_of}
 use Rattle.gsl_tree.specs.declared.program.Program.{Program}
+use Rattle.gsl_views.specs.Viewed.{elements}
 use Rattle.gsl_meaning.specs.Accesses.{Access, index_in, index_of, parts_at}
 use Rattle.gsl_meaning.specs.Running.{Got, Strays, indexing}
 use Rattle.gsl_meaning.specs.State as shader
@@ -32,6 +34,9 @@ use Rattle.gsl_lower_law.specs.Values.{Keeps, Stands}
 use Rattle.gsl_lower_law.proofs.Joining.{does_then as step_then, given_does, grows_then}
 use Rattle.gsl_lower_law.proofs.Straying.{strays_before}
 use Rattle.gsl_spv.proofs.Extending.{extends_same}
+use Rattle.gsl_lower_law_members.specs.Parts.{IsRow, laid_as}
+use Rattle.gsl_lower_law_members.specs.Sizes.{size_of}
+use Rattle.gsl_lower_law_members.proofs.Laid.{element_laid, row_array, row_laid, row_short}
 use Rattle.gsl_lower_law_picks.specs.Outside.{HasPart}
 use Rattle.gsl_lower_holders.specs.Flow.{Flow, Gives, Lacks, Lowered, flow_of, lift}
 use Rattle.gsl_lower_expr.specs.Parts.{step_into}
@@ -42,12 +47,16 @@ use Rattle.gsl_lower_follows.proofs.Behind.{reaches_here}
 use Rattle.gsl_lower_follows.proofs.Doing.{Lifted, does_lift, strays_lift}
 use Rattle.gsl_lower_follows.proofs.Drawn.{after_drawn, choices_are, left_with}
 use Rattle.gsl_lower_follows.proofs.Holding.{after_same}
-use Rattle.gsl_lower_reaching.specs.Reaching.{AtValue, ChoosesBy, HasReached, HasStrayed, IsTrail, NumberBy, PicksBy}
+use Rattle.gsl_lower_reaching.specs.Reaching.{AtValue, ChoosesBy, GoesBeyond, HasReached, HasStrayed, IsBlockTrail, IsOwnTrail, IsTrail, NumberBy, PicksBy, Start}
+use Rattle.gsl_lower_reaching.specs.Reaching.IsTrail.{own, in_block}
+use Rattle.gsl_lower_reaching.specs.Reaching.Start.{OfValue}
 use Rattle.gsl_lower_reaching.specs.Trails.{Chosen, IsInside, IsOut, IsOutside, IsPicked, Trail}
-use Rattle.gsl_lower_reaching.proofs.Counted.{vector_counted}
+use Rattle.gsl_lower_reaching.proofs.Blocks.{IsHere, behind_beyond, block_begins, block_further, block_here, block_longer, further, inside_further, out_some}
+use Rattle.gsl_lower_reaching.proofs.Counted.{shape_fixed, value_fixed, vector_counted}
 use Rattle.gsl_lower_reaching.proofs.Moving.{number_so, numbers_longer, trail_after}
 use Rattle.gsl_lower_reaching.proofs.Parts.{IsWhole, begins_longer, begins_swizzled, inside_longer, longer, more_inside, more_outside, outside_longer, whole_picked}
-use Rattle.gsl_lower_reaching.proofs.Seen.{parts_counted}
+use Rattle.gsl_lower_reaching.proofs.Seen.{parts_counted, there, there_typed}
+use Rattle.gsl_lower_elements.proofs.Standing.{row_counted, run_counted}
 use Rattle.gsl_lower_elements.proofs.Deeper.{KnownBelow, component_inside, component_lost, component_outside, component_trail, longer_lost, next_chosen, rechosen, reworded}
 use Rattle.gsl_lower_elements.proofs.Tables.{position_computes, position_grows, position_strays}
 
@@ -61,9 +70,10 @@ module _ (m : Module) (input : Input) (sections : Sections) (f : Frame m input s
   strays_so units state Is Waits s Lacks does = tt
   strays_so units state Is Waits s (Gives a flow) does = λ inside. later s units (does inside)
 
-  with_picks : (lies : Bool) (b : Flow) (state : State) (r : Reached) (l : Trail) (q : Picked) (c : Chosen) → IsTrail m input sections f p around false lies b state r l → PicksBy (λ id v. HeldAs m input sections f false id v b state) (Some q) (Some c)
+  with_picks : (lies : Start) (b : Flow) (state : State) (r : Reached) (l : Trail) (q : Picked) (c : Chosen) → IsTrail m input sections f p around false lies b state r l → PicksBy (λ id v. HeldAs m input sections f false id v b state) (Some q) (Some c)
       → IsTrail m input sections f p around false lies b state (with_picked r q) (record l { picks = Some c })
-  with_picks lies b state r l q c x picks = record { begins = begins_swizzled m input sections f p around (λ id v. HeldAs m input sections f false id v b state) b.place.used state lies r.base r.path l (Some c) x.begins; numbers = x.numbers; picks = picks }
+  with_picks lies b state r l q c (own x) picks = own (record { begins = begins_swizzled m input sections f p around (λ id v. HeldAs m input sections f false id v b state) b.place.used state lies r.base r.path l (Some c) x.begins; numbers = x.numbers; picks = picks })
+  with_picks lies b state r l q c (in_block x) picks = in_block (record { begins = block_begins m input sections f p around lies r.base l l.words (Some c) x.begins x.begins.beyond; numbers = x.numbers; picks = picks })
 
   -- behind a step that stores nothing and draws nothing
   pub after_step : {A : Type 0} (Is : A → Ids → Type 0) (b : Flow) (s : shader.State) (state : State) (a : A) (after : Sections) → Good m input sections f p around b s state → Inside m input sections f after → (l : Lifted m input sections f p around Is (drawing state state.choices) b state a after)
@@ -125,25 +135,30 @@ module _ (m : Module) (input : Input) (sections : Sections) (f : Frame m input s
 
   -- ---- one index more
 
-  module _ (are : AreStructs p.structs) (lies writes : Bool) (base t : Ty) (part : Part) (k : ℕ) (sound : IsSound (length p.structs) base) (sound_t : IsSound (length p.structs) t) (has : element_of base ≡ Some t) where
+  module _ (are : AreStructs p.structs) (lies : Start) (writes : Bool) (base t : Ty) (part : Part) (k : ℕ) (sound : IsSound (length p.structs) base) (sound_t : IsSound (length p.structs) t) (has : element_of base ≡ Some t) where
     abbrev Reaches : Flow → State → Reached → Flow → Access → shader.State → State → Type 0
     Reaches b state = HasReached m input sections f p around false lies writes t b state
 
     abbrev Strayed : Flow → State → Reached → Flow → shader.State → State → Type 0
     Strayed b state = HasStrayed m input sections f p around false lies writes t b state
 
-    -- An index into an array that is in no variable is known; and so is one into a vector where it is not below the count.
+    -- An index into an array that is in no variable is known. One that is known is in range, where the type tells a length.
     pub record MayIndex : Type 0 where
-      pub fixed : shape_of base ≡ None → lies ≡ true → (number : ℕ) × (part ≡ Fixed number)
-      pub known : (number : ℕ) → part ≡ Fixed number → k < length_of base
+      pub fixed : shape_of base ≡ None → lies ≡ OfValue → (number : ℕ) × (part ≡ Fixed number)
+      pub known : (number : ℕ) → part ≡ Fixed number → has_fixed_length base ≡ true → k < length_of base
 
     module _ (may : MayIndex) (units : ℕ) (b : Flow) (s : shader.State) (state : State) (r : Reached) (l : Trail) (good : Good m input sections f p around b s state) (is : IsTrail m input sections f p around false lies b state r l) (number : NumberBy (λ id v. HeldAs m input sections f false id v b state) part k) where
-      trail_longer : shape_of base ≡ None → ((x : AtValue m input sections f p around (λ id v. HeldAs m input sections f false id v b state) lies r.base r.path l) → HasPart x.value (l.words ++ k ∷ [])) → IsTrail m input sections f p around false lies b state (part_of r part) (longer l k)
-      trail_longer none more = record {
-        begins = begins_longer m input sections f p around (λ id v. HeldAs m input sections f false id v b state) b.place.used state lies r.base r.path l part k (may.fixed none) more is.begins;
-        numbers = numbers_longer (λ id v. HeldAs m input sections f false id v b state) r.path l.words part k is.numbers number;
-        picks = is.picks;
-      }
+      own_longer : shape_of base ≡ None → (x : IsOwnTrail m input sections f p around false lies b state r l) → ((y : AtValue m input sections f p around (λ id v. HeldAs m input sections f false id v b state) lies r.base r.path l) → HasPart y.value (l.words ++ k ∷ []))
+          → IsTrail m input sections f p around false lies b state (part_of r part) (longer l k)
+      own_longer none x more = own (record {
+        begins = begins_longer m input sections f p around (λ id v. HeldAs m input sections f false id v b state) b.place.used state lies r.base r.path l part k (may.fixed none) more x.begins;
+        numbers = numbers_longer (λ id v. HeldAs m input sections f false id v b state) r.path l.words part k x.numbers number;
+        picks = x.picks;
+      })
+
+      picks_of_trail : IsTrail m input sections f p around false lies b state r l → PicksBy (λ id v. HeldAs m input sections f false id v b state) r.picked l.picks
+      picks_of_trail (own x) = x.picks
+      picks_of_trail (in_block x) = x.picks
 
       -- a component of a vector
       trail_component : (shape : Shape) (one : Part) → NumberBy (λ id v. HeldAs m input sections f false id v b state) one k → (o : Option Chosen) → l.picks ≡ o → o ≡ None → IsTrail m input sections f p around false lies b state (with_picked r (component_of shape one)) (component_trail shape one k l)
@@ -155,47 +170,90 @@ module _ (m : Module) (input : Input) (sections : Sections) (f : Frame m input s
           (with_picks lies b state r l (picking shape (Some (By kind id)) (0 ∷ [])) (record { shape = shape; word = Some k; positions = 0 ∷ [] }) is (refl, refl, is_k))
 
       module _ (a : Access) (inside : IsInside p.structs writes base a l) where
-        counted : parts_at a s ≡ length_of base
-        counted = parts_counted m input sections f p around are (λ id v. HeldAs m input sections f false id v b state) b.place.used b s state state lies writes r.base r.path base a l good is.begins inside t sound has
+        counted : (shape : Shape) → shape_of base ≡ Some shape → parts_at a s ≡ length_of base
+        counted shape of = by is
+          where
+            by : IsTrail m input sections f p around false lies b state r l → parts_at a s ≡ length_of base
+            by (own x) = parts_counted m input sections f p around are (λ id v. HeldAs m input sections f false id v b state) b.place.used b s state state lies writes r.base r.path base a l good x.begins inside t sound has
+            by (in_block x) = run_counted m input sections f p around are lies b s state r l good x writes base a inside t has shape sound of
 
-        got : k < length_of base → indexing a k s units ≡ Got (index_of a k) s units
-        got less = cond-true (nat_lt k (parts_at a s)) (Got (index_of a k) s units) Strays (lt-ltb k (parts_at a s) (subst (λ n. k < n) (sym counted) less))
+        module _ (count : ℕ) (are_so : parts_at a s ≡ count) where
+          got : k < count → indexing a k s units ≡ Got (index_of a k) s units
+          got less = cond-true (nat_lt k (parts_at a s)) (Got (index_of a k) s units) Strays (lt-ltb k (parts_at a s) (subst (λ n. k < n) (sym are_so) less))
 
-        strays : length_of base ≤ k → indexing a k s units ≡ Strays
-        strays most = cond-false (nat_lt k (parts_at a s)) (Got (index_of a k) s units) Strays (le-ltb k (parts_at a s) (subst (λ n. n ≤ k) (sym counted) most))
+          strays : count ≤ k → indexing a k s units ≡ Strays
+          strays most = cond-false (nat_lt k (parts_at a s)) (Got (index_of a k) s units) Strays (le-ltb k (parts_at a s) (subst (λ n. n ≤ k) (sym are_so) most))
 
-        -- nothing is done, and the trail is longer
-        here_in : (next : Reached) (trail : Trail) → IsTrail m input sections f p around false lies b state next trail → IsInside p.structs writes t (index_of a k) trail → k < length_of base
-            → Does m input sections f p 0 units state (Reaches b state) (Strayed b state) (indexing a k s units) (Gives next b)
-        here_in next trail x leads less = subst (λ ran. Does m input sections f p 0 units state (Reaches b state) (Strayed b state) ran (Gives next b)) (sym (got less))
-            (λ within. reaches_here m input units state (Reaches b state next b (index_of a k) s) (record { trail = trail; is = x; inside = leads; after = after_same m input sections f p around b s state good }))
+          -- nothing is done, and the trail is longer
+          here_in : (next : Reached) (trail : Trail) → IsTrail m input sections f p around false lies b state next trail → IsInside p.structs writes t (index_of a k) trail → k < count
+              → Does m input sections f p 0 units state (Reaches b state) (Strayed b state) (indexing a k s units) (Gives next b)
+          here_in next trail x leads less = subst (λ ran. Does m input sections f p 0 units state (Reaches b state) (Strayed b state) ran (Gives next b)) (sym (got less))
+              (λ within. reaches_here m input units state (Reaches b state next b (index_of a k) s) (record { trail = trail; is = x; inside = leads; after = after_same m input sections f p around b s state good }))
 
-        here_out : (next : Reached) (trail : Trail) → IsTrail m input sections f p around false lies b state next trail → IsOutside p.structs writes t trail → length_of base ≤ k
-            → Does m input sections f p 0 units state (Reaches b state) (Strayed b state) (indexing a k s units) (Gives next b)
-        here_out next trail x leads most = subst (λ ran. Does m input sections f p 0 units state (Reaches b state) (Strayed b state) ran (Gives next b)) (sym (strays most))
-            (λ within. later s units (reaches_here m input units state (Strayed b state next b s) (record { trail = trail; is = x; outside = leads; after = after_same m input sections f p around b s state good })))
+          here_out : (next : Reached) (trail : Trail) → IsTrail m input sections f p around false lies b state next trail → IsOutside p.structs writes t trail → count ≤ k
+              → Does m input sections f p 0 units state (Reaches b state) (Strayed b state) (indexing a k s units) (Gives next b)
+          here_out next trail x leads most = subst (λ ran. Does m input sections f p 0 units state (Reaches b state) (Strayed b state) ran (Gives next b)) (sym (strays most))
+              (λ within. later s units (reaches_here m input units state (Strayed b state next b s) (record { trail = trail; is = x; outside = leads; after = after_same m input sections f p around b s state good })))
 
-        of_array : shape_of base ≡ None → Does m input sections f p 0 units state (Reaches b state) (Strayed b state) (indexing a k s units) (Gives (part_of r part) b)
-        of_array none = by (cases_lt k (length_of base))
+        own_array : shape_of base ≡ None → IsOwnTrail m input sections f p around false lies b state r l → Does m input sections f p 0 units state (Reaches b state) (Strayed b state) (indexing a k s units) (Gives (part_of r part) b)
+        own_array none x = by (cases_lt k (length_of base))
           where
             w : IsWhole inside.whole base (l.front ++ l.words) l.picks a.path a.picked
             w = whole_picked inside.whole base (l.front ++ l.words) l.picks a.path a.picked (none_shape base none) inside.picks
 
+            fixed_length : has_fixed_length base ≡ true
+            fixed_length =
+                let v = there m input sections f p around are (λ id v. HeldAs m input sections f false id v b state) b.place.used b s state state lies writes r.base r.path base a l good x.begins inside in
+                value_fixed p.structs base t v has (subst (λ u. is_value_of p.structs u v ≡ true) w.same (there_typed m input sections f p around are (λ id v. HeldAs m input sections f false id v b state) b.place.used b s state state lies writes r.base r.path base a l good x.begins inside))
+
+            own_counted : parts_at a s ≡ length_of base
+            own_counted = parts_counted m input sections f p around are (λ id v. HeldAs m input sections f false id v b state) b.place.used b s state state lies writes r.base r.path base a l good x.begins inside t sound has
+
             by : (k < length_of base) ⊎ (length_of base ≤ k) → Does m input sections f p 0 units state (Reaches b state) (Strayed b state) (indexing a k s units) (Gives (part_of r part) b)
-            by (inl less) = here_in (part_of r part) (longer l k) (trail_longer none (λ v. more_inside p.structs are writes base t k a l (none_shape base none) (inr (has, less)) sound_t inside v.value v.typed))
+            by (inl less) = here_in (length_of base) own_counted (part_of r part) (longer l k) (own_longer none x (λ v. more_inside p.structs are writes base t k a l (none_shape base none) (inr (has, less)) sound_t inside v.value v.typed))
                 (subst (λ o. IsInside p.structs writes t (index_in a o k) (longer l k)) (sym w.unpicked) (inside_longer p.structs writes base t k a l (none_shape base none) (inr (has, less)) sound_t inside)) less
-            by (inr most) = here_out (part_of r part) (longer l k) (trail_longer none (λ v. let known = may.fixed none v.marked in let less = may.known known.0 known.1 in absurd (omega (arith, less, most)))) (longer_lost p.structs writes base t part k sound has a l (none_shape base none) most inside) most
+            by (inr most) = here_out (length_of base) own_counted (part_of r part) (longer l k) (own_longer none x (λ v. let known = may.fixed none v.marked in let less = may.known known.0 known.1 fixed_length in absurd (omega (arith, less, most)))) (longer_lost p.structs writes base t part k sound has a l (none_shape base none) most inside) most
+
+        block_array : shape_of base ≡ None → IsBlockTrail m input sections f p around false lies b state r l → Does m input sections f p 0 units state (Reaches b state) (Strayed b state) (indexing a k s units) (Gives (part_of r part) b)
+        block_array none x = by (cases_lt k (elements (laid_as x.begins.block.std140 p.structs l.ty) x.begins.offset (size_of m input x.begins.id)))
+          where
+            here : IsHere m input sections f p around are lies writes base b state r a l
+            here = block_here m input sections f p around are lies writes base b state r a l (none_shape base none) inside x
+
+            row : IsRow x.begins.block.std140 p.structs l.ty t (laid_as x.begins.block.std140 p.structs l.ty)
+            row = row_laid p.structs 0 x.begins.block.std140 l.ty t (ap element_of here.ty ∙ has) (ap shape_of here.ty ∙ none)
+
+            beyond : elements (laid_as x.begins.block.std140 p.structs l.ty) x.begins.offset (size_of m input x.begins.id) ≤ k → (words : List ℕ) → words ≡ [] → GoesBeyond (size_of m input x.begins.id) (laid_as x.begins.block.std140 p.structs l.ty) x.begins.offset (words ++ k ∷ [])
+            beyond most words e = subst (λ words. GoesBeyond (size_of m input x.begins.id) (laid_as x.begins.block.std140 p.structs l.ty) x.begins.offset (words ++ k ∷ [])) (sym e) (row_array p.structs (size_of m input x.begins.id) l.ty t (laid_as x.begins.block.std140 p.structs l.ty) x.begins.block.std140 row, most)
+
+            by : (k < elements (laid_as x.begins.block.std140 p.structs l.ty) x.begins.offset (size_of m input x.begins.id)) ⊎ (elements (laid_as x.begins.block.std140 p.structs l.ty) x.begins.offset (size_of m input x.begins.id) ≤ k)
+                → Does m input sections f p 0 units state (Reaches b state) (Strayed b state) (indexing a k s units) (Gives (part_of r part) b)
+            by (inl less) =
+                here_in (elements (laid_as x.begins.block.std140 p.structs l.ty) x.begins.offset (size_of m input x.begins.id)) (row_counted m input sections f p around are lies b s state r l good x writes base a inside t has none) (part_of r part) (further l k t)
+                (in_block (block_further m input sections f p around lies b state r l x part k t number here.none here.no_picks (element_laid p.structs (size_of m input x.begins.id) x.begins.block.std140 x.begins.offset k l.ty t (laid_as x.begins.block.std140 p.structs l.ty) row less) sound_t))
+                (subst (λ o. IsInside p.structs writes t (index_in a o k) (further l k t)) (sym here.unpicked) (inside_further p.structs writes base t k a l here.none here.path_is here.unpicked sound_t inside)) less
+            by (inr most) =
+                here_out (elements (laid_as x.begins.block.std140 p.structs l.ty) x.begins.offset (size_of m input x.begins.id)) (row_counted m input sections f p around are lies b s state r l good x writes base a inside t has none) (part_of r part) (longer l k)
+                (in_block (block_longer m input sections f p around lies b state r l x part k number (beyond most l.words here.none)))
+                (longer_lost p.structs writes base t part k sound has a l (none_shape base none) (subst (λ u. length_of u ≤ k) here.ty (row_short p.structs (size_of m input x.begins.id) l.ty t (laid_as x.begins.block.std140 p.structs l.ty) x.begins.block.std140 x.begins.offset k row most)) inside) most
+
+        of_array : shape_of base ≡ None → Does m input sections f p 0 units state (Reaches b state) (Strayed b state) (indexing a k s units) (Gives (part_of r part) b)
+        of_array none = by is
+          where
+            by : IsTrail m input sections f p around false lies b state r l → Does m input sections f p 0 units state (Reaches b state) (Strayed b state) (indexing a k s units) (Gives (part_of r part) b)
+            by (own x) = own_array none x
+            by (in_block x) = block_array none x
 
         of_vector : (shape : Shape) → shape_of base ≡ Some shape → (one : Part) → part ≡ one → l.picks ≡ None → Does m input sections f p 0 units state (Reaches b state) (Strayed b state) (indexing a k s units) (Gives (with_picked r (component_of shape one)) b)
         of_vector shape of one same none = by one same (cases_lt k (length_of base))
           where
             by : (one : Part) → part ≡ one → (k < length_of base) ⊎ (length_of base ≤ k) → Does m input sections f p 0 units state (Reaches b state) (Strayed b state) (indexing a k s units) (Gives (with_picked r (component_of shape one)) b)
             by one same (inl less) =
-                here_in (with_picked r (component_of shape one)) (component_trail shape one k l) (trail_component shape one (subst (λ part. NumberBy (λ id v. HeldAs m input sections f false id v b state) part k) same number) l.picks refl none)
+                here_in (length_of base) (counted shape of) (with_picked r (component_of shape one)) (component_trail shape one k l) (trail_component shape one (subst (λ part. NumberBy (λ id v. HeldAs m input sections f false id v b state) part k) same number) l.picks refl none)
                 (component_inside p.structs writes base t one k sound has shape of less a l inside) less
-            by (Fixed n) same (inr most) = absurd (let less = may.known n same in omega (arith, less, most))
+            by (Fixed n) same (inr most) = absurd (let less = may.known n same (shape_fixed base t shape has of) in omega (arith, less, most))
             by (By kind id) same (inr most) =
-                here_out (with_picked r (component_of shape (By kind id))) (component_trail shape (By kind id) k l) (trail_component shape (By kind id) (subst (λ part. NumberBy (λ id v. HeldAs m input sections f false id v b state) part k) same number) l.picks refl none)
+                here_out (length_of base) (counted shape of) (with_picked r (component_of shape (By kind id))) (component_trail shape (By kind id) k l) (trail_component shape (By kind id) (subst (λ part. NumberBy (λ id v. HeldAs m input sections f false id v b state) part k) same number) l.picks refl none)
                 (component_lost p.structs writes base t kind id k shape a l sound has of none most inside) most
 
       -- the trail behind a component of a swizzle
@@ -223,9 +281,9 @@ module _ (m : Module) (input : Input) (sections : Sections) (f : Frame m input s
         of_swizzle : (shape : Shape) → shape_of base ≡ Some shape → (q : Picked) (c : Chosen) → l.picks ≡ Some c → PicksBy (λ id v. HeldAs m input sections f false id v b state) (Some q) (Some c) → (one : Part) → part ≡ one
             → Does m input sections f p 0 units state (Reaches b state) (Strayed b state) (indexing a k s units) (lift (steps.◌>>=◌ (component_in q one) (λ picked. steps.given (with_picked r picked))) b)
         of_swizzle shape of q c e picks (Fixed n) same =
-            here_in a inside (with_picked r (record q { positions = slice_index q.positions n ∷ [] })) (component_trail shape (Fixed n) k l)
+            here_in a inside (length_of base) (counted a inside shape of) (with_picked r (record q { positions = slice_index q.positions n ∷ [] })) (component_trail shape (Fixed n) k l)
             (trail_again shape (Fixed n) c b state (with_picked r (record q { positions = slice_index q.positions n ∷ [] })) e (trail_known n q c (subst (λ part. NumberBy (λ id v. HeldAs m input sections f false id v b state) part k) same number) picks))
-            (component_inside p.structs writes base t (Fixed n) k sound has shape of (may.known n same) a l inside) (may.known n same)
+            (component_inside p.structs writes base t (Fixed n) k sound has shape of (may.known n same (shape_fixed base t shape has of)) a l inside) (may.known n same (shape_fixed base t shape has of))
         of_swizzle shape of q c e picks (By kind id) same = by (cases_lt k (length_of base))
           where
             stands : Stands state.ids id (Word k)
@@ -236,7 +294,7 @@ module _ (m : Module) (input : Input) (sections : Sections) (f : Frame m input s
 
             by : (k < length_of base) ⊎ (length_of base ≤ k) → Does m input sections f p 0 units state (Reaches b state) (Strayed b state) (indexing a k s units) (lift (whole_step r q c kind id k) b)
             by (inl less) =
-                subst (λ ran. Does m input sections f p 0 units state (Reaches b state) (Strayed b state) ran (lift (whole_step r q c kind id k) b)) (sym (got a inside less))
+                subst (λ ran. Does m input sections f p 0 units state (Reaches b state) (Strayed b state) ran (lift (whole_step r q c kind id k) b)) (sym (got a inside (length_of base) (counted a inside shape of) less))
                 (does_lift m input sections f p around units b s state (IsNext r q c kind id k) (drawing state state.choices) (Reaches b state) (Strayed b state) (index_of a k) s (whole_step r q c kind id k) good
                 (whole_does r q c kind id k state b.sections picks (omega (arith, less, as_many)) stands)
                 (λ next after x within extends. record {
@@ -246,7 +304,7 @@ module _ (m : Module) (input : Input) (sections : Sections) (f : Frame m input s
                   after = after_step (IsNext r q c kind id k) b s state next after good within x;
                 }))
             by (inr most) =
-                subst (λ ran. Does m input sections f p 0 units state (Reaches b state) (Strayed b state) ran (lift (whole_step r q c kind id k) b)) (sym (strays a inside most))
+                subst (λ ran. Does m input sections f p 0 units state (Reaches b state) (Strayed b state) ran (lift (whole_step r q c kind id k) b)) (sym (strays a inside (length_of base) (counted a inside shape of) most))
                 (strays_lift m input sections f p around units b s state (Reaches b state) (Strayed b state) (whole_step r q c kind id k) good (whole_strays r q c kind id k state b.sections (let many : length q.positions ≡ length c.positions = ap length picks.1 in omega (arith, most, as_many, many)) stands))
 
         -- an index that may be in bounds
@@ -263,7 +321,7 @@ module _ (m : Module) (input : Input) (sections : Sections) (f : Frame m input s
 
             by : (o : Option Shape) → shape_of base ≡ o → Does m input sections f p 0 units state (Reaches b state) (Strayed b state) (indexing a k s units) (lift (step_into o part r) b)
             by None e = of_array a inside e
-            by (Some shape) e = by_pick shape e r.picked l.picks refl is.picks
+            by (Some shape) e = by_pick shape e r.picked l.picks refl (picks_of_trail is)
 
       -- ---- behind an index that was out of bounds
 
@@ -277,7 +335,7 @@ module _ (m : Module) (input : Input) (sections : Sections) (f : Frame m input s
             (component_outside p.structs writes base t one k sound has shape of l (below one same) (λ c e. absurd (let z : None ≡ Some c = sym none ∙ e in cc)) outside)
           where
             below : (one : Part) → part ≡ one → KnownBelow shape k one
-            below (Fixed n) same = (let less = may.known n same in let v = vector_counted (length p.structs) base t shape sound has of in let many = v.0 in omega (arith, less, many))
+            below (Fixed n) same = (let less = may.known n same (shape_fixed base t shape has of) in let v = vector_counted (length p.structs) base t shape sound has of in let many = v.0 in omega (arith, less, many))
             below (By kind id) same = tt
 
         swizzle_lost : (shape : Shape) → shape_of base ≡ Some shape → (q : Picked) (c : Chosen) → l.picks ≡ Some c → PicksBy (λ id v. HeldAs m input sections f false id v b state) (Some q) (Some c) → (one : Part) → part ≡ one
@@ -291,7 +349,7 @@ module _ (m : Module) (input : Input) (sections : Sections) (f : Frame m input s
             as_many = vector_counted (length p.structs) base t (c.shape.0, length c.positions) sound has gives
 
             below : (one : Part) → part ≡ one → KnownBelow shape k one
-            below (Fixed n) same = (let less = may.known n same in let v = vector_counted (length p.structs) base t shape sound has of in let many = v.0 in omega (arith, less, many))
+            below (Fixed n) same = (let less = may.known n same (shape_fixed base t shape has of) in let v = vector_counted (length p.structs) base t shape sound has of in let many = v.0 in omega (arith, less, many))
             below (By kind id) same = tt
 
             lost : (one : Part) → part ≡ one → k < length c.positions → IsOutside p.structs writes t (component_trail shape one k l)
@@ -304,7 +362,7 @@ module _ (m : Module) (input : Input) (sections : Sections) (f : Frame m input s
             by (Fixed n) same =
                 here_lost (with_picked r (record q { positions = slice_index q.positions n ∷ [] })) (component_trail shape (Fixed n) k l)
                 (trail_again shape (Fixed n) c b state (with_picked r (record q { positions = slice_index q.positions n ∷ [] })) e (trail_known n q c (subst (λ part. NumberBy (λ id v. HeldAs m input sections f false id v b state) part k) same number) picks))
-                (lost (Fixed n) same (let less = may.known n same in let many = as_many.0 in omega (arith, less, many)))
+                (lost (Fixed n) same (let less = may.known n same (shape_fixed base t shape has of) in let many = as_many.0 in omega (arith, less, many)))
             by (By kind id) same = by_count (cases_lt k (length c.positions))
               where
                 stands : Stands state.ids id (Word k)
@@ -330,6 +388,12 @@ module _ (m : Module) (input : Input) (sections : Sections) (f : Frame m input s
         unfolding component_at
         step_out = by (shape_of base) refl
           where
+            lost_longer : shape_of base ≡ None → IsTrail m input sections f p around false lies b state r l → IsTrail m input sections f p around false lies b state (part_of r part) (longer l k)
+            lost_longer none (own x) = own_longer none x (λ v. more_outside p.structs are writes base l (none_shape base none) outside k v.value v.typed v.has)
+            lost_longer none (in_block x) =
+                in_block (block_longer m input sections f p around lies b state r l x part k number
+                (behind_beyond (size_of m input x.begins.id) (laid_as x.begins.block.std140 p.structs l.ty) x.begins.offset l.words k p.structs l.ty (out_some p.structs l.ty base l.words l.picks (none_shape base none) outside.out) x.begins.beyond))
+
             by_pick : (shape : Shape) → shape_of base ≡ Some shape → (o : Option Picked) (c : Option Chosen) → l.picks ≡ c → PicksBy (λ id v. HeldAs m input sections f false id v b state) o c
                 → Does m input sections f p 0 units state Then (Strayed b state) Strays (lift (steps.◌>>=◌ (component_if shape part o) (λ picked. steps.given (with_picked r picked))) b)
             by_pick shape of None None e picks = vector_lost shape of part refl e
@@ -338,5 +402,5 @@ module _ (m : Module) (input : Input) (sections : Sections) (f : Frame m input s
             by_pick shape of (Some q) (Some c) e picks = swizzle_lost shape of q c e picks part refl
 
             by : (o : Option Shape) → shape_of base ≡ o → Does m input sections f p 0 units state Then (Strayed b state) Strays (lift (step_into o part r) b)
-            by None e = here_lost (part_of r part) (longer l k) (trail_longer e (λ v. more_outside p.structs are writes base l (none_shape base e) outside k v.value v.typed v.has)) (outside_longer p.structs writes base t k l (none_shape base e) outside)
-            by (Some shape) e = by_pick shape e r.picked l.picks refl is.picks
+            by None e = here_lost (part_of r part) (longer l k) (lost_longer e is) (outside_longer p.structs writes base t k l (none_shape base e) outside)
+            by (Some shape) e = by_pick shape e r.picked l.picks refl (picks_of_trail is)

@@ -1,3 +1,8 @@
+pub mod Picked
+pub mod Standing
+pub mod Read
+pub mod Strayed
+pub mod Lengths
 pub mod Tables
 pub mod Deeper
 pub mod Indexing

@@ -6,7 +6,7 @@ use Rattle.gsl_types.specs.declared.ty.Ty.{Ty}
 use Rattle.gsl_words.specs.declared.module.Module.{Module}
 use Rattle.gsl_values.specs.declared.value.Value.{Value}
 use Rattle.gsl_tree.specs.Around.{Around}
-use Rattle.gsl_tree.specs.Operations.{length_of}
+use Rattle.gsl_tree.specs.Operations.{has_fixed_length, length_of}
 use Rattle.gsl_tree.specs.Shapes.{Shape, shape_of}
 use Rattle.gsl_tree.specs.Values.{word_in}
 use Rattle.gsl_tree.specs.declared.program.Program.{Program}
@@ -32,12 +32,12 @@ use Rattle.gsl_lower_follows.specs.Giving.{Does, GrownTo}
 use Rattle.gsl_lower_follows.proofs.Growing.{adds_lift}
 use Rattle.gsl_lower_law_expr.proofs.Short.{behind_assoc}
 use Rattle.gsl_lower_elements.specs.Indexes.{Indexes, IsLiteral, indexed_means}
-use Rattle.gsl_lower_reaching.specs.Reaching.{GivesPlace, HasReached, HasStrayed}
+use Rattle.gsl_lower_reaching.specs.Reaching.{GivesPlace, HasReached, HasStrayed, Start}
 use Rattle.gsl_lower_elements.proofs.Indexing.{MayIndex, step_in, step_out}
 use Rattle.gsl_lower_elements.proofs.Rebased.{GoesOn, place_then}
 
 module _ (m : Module) (input : Input) (sections : Sections) (f : Frame m input sections) (p : Program) (around : Around) (are : AreStructs p.structs) where
-  module _ (splits lies writes : Bool) (t : Ty) (number : ℕ) (a i : Lower) (run : Run Access) (y : Run Value) (is : Indexes p a.ty t) (known : IsLiteral i number y) (less : number < length_of a.ty) where
+  module _ (splits : Bool) (lies : Start) (writes : Bool) (t : Ty) (number : ℕ) (a i : Lower) (run : Run Access) (y : Run Value) (is : Indexes p a.ty t) (known : IsLiteral i number y) (less : has_fixed_length a.ty ≡ true → number < length_of a.ty) where
     -- what is lowered behind what is indexed
     abbrev next_by : Bool → Bool → Bool → Option ℕ → Reached → Emit Reached
     next_by spill calls waits literal r =
@@ -79,7 +79,7 @@ module _ (m : Module) (input : Input) (sections : Sections) (f : Frame m input s
         by (Some shape) = by_pick shape r.picked
 
     may : MayIndex m input sections f p around are lies writes a.ty t (Fixed number) number is.sound is.sound_part is.element
-    may = record { fixed = λ none loose. (number, refl); known = λ n same. less }
+    may = record { fixed = λ none loose. (number, refl); known = λ n same fixed. less fixed }
 
     -- the index gives the number
     means : (x : Access) (s : shader.State) (units : ℕ) → shader_run.◌>>=◌ y (λ v. indexing x (word_in v)) s units ≡ indexing x number s units

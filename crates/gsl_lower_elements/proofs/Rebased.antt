@@ -20,7 +20,7 @@ use Rattle.gsl_lower_follows.specs.Giving.{Adds, After, Does, Grown}
 use Rattle.gsl_lower_follows.proofs.Doing.{does_then}
 use Rattle.gsl_lower_follows.proofs.Growing.{adds_then}
 use Rattle.gsl_lower_follows.proofs.Holding.{after_then}
-use Rattle.gsl_lower_reaching.specs.Reaching.{GivesPlace, HasReached, HasStrayed, IsTrail}
+use Rattle.gsl_lower_reaching.specs.Reaching.{GivesPlace, HasReached, HasStrayed, IsTrail, Start}
 use Rattle.gsl_lower_reaching.specs.Trails.{IsInside, IsOutside, Trail}
 
 module _ (m : Module) (input : Input) (sections : Sections) (f : Frame m input sections) (p : Program) where
@@ -39,7 +39,7 @@ module _ (m : Module) (input : Input) (sections : Sections) (f : Frame m input s
       by Strays (later s left q) = later s left (record { later = q.later; is = waits a flow s q.later q.is; less = q.less; stretch = q.stretch })
       by Goes q = q
 
-  module _ (around : Around) (first more lies loose writes : Bool) (base t : Ty) (emit : Emit Reached) (run : Run Access) (next : Reached → Emit Reached) (go : Access → Run Access) where
+  module _ (around : Around) (first more : Bool) (lies loose : Start) (writes : Bool) (base t : Ty) (emit : Emit Reached) (run : Run Access) (next : Reached → Emit Reached) (go : Access → Run Access) where
     -- What goes on with what was reached, from wherever it leads.
     pub record GoesOn : Type 0 where
       pub adds : (r : Reached) → Adds (next r)

@@ -34,22 +34,28 @@ use Rattle.gsl_lower_follows.proofs.Growing.{adds_given, adds_then}
 use Rattle.gsl_lower_follows.proofs.Holding.{after_then, does_so}
 use Rattle.gsl_lower_law_expr.proofs.Short.{behind_assoc}
 use Rattle.gsl_lower_elements.specs.Indexes.{Indexes, indexed_means}
-use Rattle.gsl_lower_reaching.specs.Reaching.{GivesPlace, HasReached, HasStrayed, IsTrail}
+use Rattle.gsl_lower_reaching.specs.Reaching.{GivesPlace, HasReached, HasStrayed, IsTrail, Start, is_of_value}
+use Rattle.gsl_lower_reaching.specs.Reaching.Start.{OfBlock, OfValue, OfVariable}
 use Rattle.gsl_lower_reaching.specs.Trails.{IsInside, IsOutside, Trail}
 use Rattle.gsl_lower_elements.proofs.Rebased.{GoesOn, place_then}
 use Rattle.gsl_lower_reads.specs.Waiting.{IsKept}
 use Rattle.gsl_lower_reads.proofs.Holds.{adds_held, is_held}
 use Rattle.gsl_lower_reads.proofs.Adding.{adds_reads}
 use Rattle.gsl_lower_reads.proofs.Straying.{read_strays}
-use Rattle.gsl_lower_indexes.specs.Computed.{IsComputed}
-use Rattle.gsl_lower_indexes.proofs.Spilling.{IsReady, MaySpill, adds_spilled, loose_then, spilled_in}
+use Rattle.gsl_lower_indexes.specs.Computed.{IsComputed, spilled_to}
+use Rattle.gsl_lower_indexes.proofs.Spilling.{IsReady, MaySpill, adds_spilled, spilled_in}
 use Rattle.gsl_lower_indexes.proofs.Stages.{adds_kept, behind_after, behind_kept, kept_in, kept_out}
 
+value_start : (start : Start) → is_of_value start ≡ true → start ≡ OfValue
+value_start OfVariable e = absurd (let z : false ≡ true = e in cc)
+value_start OfValue e = refl
+value_start OfBlock e = absurd (let z : false ≡ true = e in cc)
+
 module _ (m : Module) (input : Input) (sections : Sections) (f : Frame m input sections) (p : Program) (around : Around) (are : AreStructs p.structs) where
-  module _ (spill lies writes : Bool) (base t : Ty) (is : Indexes p base t) (real_base : base ≢ Void) (may : MaySpill m input sections f p around are writes base is.sound spill lies) (fast : shape_of base ≡ None → loose_then m input sections f p around are writes base is.sound spill lies ≡ false) (i : Lower) (y : Run Value) (real : i.ty ≢ Void) (known : IsComputed i y)
+  module _ (spill : Bool) (lies : Start) (writes : Bool) (base t : Ty) (is : Indexes p base t) (real_base : base ≢ Void) (may : MaySpill m input sections f p around are writes base is.sound spill lies) (fast : shape_of base ≡ None → spilled_to spill lies ≡ OfValue → ⊥) (i : Lower) (y : Run Value) (real : i.ty ≢ Void) (known : IsComputed i y)
       (gives : GivesValue m input sections f p around i.traits.splits i.ty i.value y) where
-    abbrev loose : Bool
-    loose = loose_then m input sections f p around are writes base is.sound spill lies
+    abbrev loose : Start
+    loose = spilled_to spill lies
 
     abbrev more : Bool
     more = i.traits.splits
@@ -115,9 +121,9 @@ module _ (m : Module) (input : Input) (sections : Sections) (f : Frame m input s
         → Does m input sections f p 0 units state (Reaches more b state) (Strayed more b state) Strays (next r b)
     next_out b s units state r l good trail_is outside = by_spill spill may fast
       where
-        by_spill : (spill : Bool) (may : MaySpill m input sections f p around are writes base is.sound spill lies) (fast : shape_of base ≡ None → loose_then m input sections f p around are writes base is.sound spill lies ≡ false)
-            → Does m input sections f p 0 units state (HasReached m input sections f p around more (loose_then m input sections f p around are writes base is.sound spill lies) writes t b state) (HasStrayed m input sections f p around more (loose_then m input sections f p around are writes base is.sound spill lies) writes t b state) Strays
-            ((spilled p.structs spill base r >>= hold_reached more >>= behind_kept m input sections f p around are (loose_then m input sections f p around are writes base is.sound spill lies) writes base t is.sound is.sound_part is.element fast i y real known gives) b)
+        by_spill : (spill : Bool) (may : MaySpill m input sections f p around are writes base is.sound spill lies) (fast : shape_of base ≡ None → spilled_to spill lies ≡ OfValue → ⊥)
+            → Does m input sections f p 0 units state (HasReached m input sections f p around more (spilled_to spill lies) writes t b state) (HasStrayed m input sections f p around more (spilled_to spill lies) writes t b state) Strays
+            ((spilled p.structs spill base r >>= hold_reached more >>= behind_kept m input sections f p around are (spilled_to spill lies) writes base t is.sound is.sound_part is.element fast i y real known gives) b)
         by_spill false may fast =
             does_then m input sections f p 0 units b state (IsKept m input sections f p around more lies l s b state) none_waits (HasReached m input sections f p around more lies writes t b state) (HasStrayed m input sections f p around more lies writes t b state) (Got tt s units) (λ one u left. Strays) (hold_reached more r b)
             (behind_kept m input sections f p around are lies writes base t is.sound is.sound_part is.element fast i y real known gives) good.inside (adds_held more r b) (adds_kept m input sections f p around are lies writes base t is.sound is.sound_part is.element fast i y real known gives)
@@ -127,17 +133,17 @@ module _ (m : Module) (input : Input) (sections : Sections) (f : Frame m input s
             (kept_out m input sections f p around are lies writes base t is.sound is.sound_part is.element fast i y real known gives between u left mid kept l x.after.good x.is outside))
             (λ kept between u left mid within grown none less. absurd none)
         by_spill true may fast =
-            does_then m input sections f p 0 units b state Never none_waits (HasReached m input sections f p around more false writes t b state) (HasStrayed m input sections f p around more false writes t b state) Strays (λ one u left. Strays)
+            does_then m input sections f p 0 units b state Never none_waits (HasReached m input sections f p around more OfVariable writes t b state) (HasStrayed m input sections f p around more OfVariable writes t b state) Strays (λ one u left. Strays)
             ((reads p.structs base r >>= keep >>= (λ h. given (whole (Variable h storage_class.FUNCTION))) >>= hold_reached more) b)
-            (behind_kept m input sections f p around are false writes base t is.sound is.sound_part is.element fast i y real known gives) good.inside
+            (behind_kept m input sections f p around are OfVariable writes base t is.sound is.sound_part is.element fast i y real known gives) good.inside
             (adds_then (reads p.structs base r >>= keep >>= (λ h. given (whole (Variable h storage_class.FUNCTION)))) (hold_reached more) (adds_then (reads p.structs base r >>= keep) (λ h. given (whole (Variable h storage_class.FUNCTION))) adds_kept_read (λ h. adds_given (whole (Variable h storage_class.FUNCTION)))) (adds_held more) b)
-            (adds_kept m input sections f p around are false writes base t is.sound is.sound_part is.element fast i y real known gives)
+            (adds_kept m input sections f p around are OfVariable writes base t is.sound is.sound_part is.element fast i y real known gives)
             (does_then m input sections f p 0 units b state Never none_waits Never none_waits Strays (λ one u left. Strays) ((reads p.structs base r >>= keep >>= (λ h. given (whole (Variable h storage_class.FUNCTION)))) b) (hold_reached more) good.inside
             (adds_then (reads p.structs base r >>= keep) (λ h. given (whole (Variable h storage_class.FUNCTION))) adds_kept_read (λ h. adds_given (whole (Variable h storage_class.FUNCTION))) b) (adds_held more)
             (does_then m input sections f p 0 units b state Never none_waits Never none_waits Strays (λ one u left. Strays) ((reads p.structs base r >>= keep) b) (λ h. given (whole (Variable h storage_class.FUNCTION))) good.inside
             (adds_kept_read b) (λ h. adds_given (whole (Variable h storage_class.FUNCTION)))
             (does_then m input sections f p 0 units b state Never none_waits Never none_waits Strays (λ one u left. Strays) (reads p.structs base r b) keep good.inside (adds_reads m input sections p.structs base r b) adds_keep
-            (read_strays m input sections f p around are lies writes base b s state r l good trail_is outside units Never)
+            (read_strays m input sections f p around are lies writes base b s state r l good trail_is outside units Never (λ none e. absurd (let z : OfValue ≡ OfBlock = sym (may.lies_so refl) ∙ e in cc)))
             (λ id between one u left mid within grown none less. absurd none) (λ id between u left mid within grown none less. absurd none))
             (λ h between one u left mid within grown none less. absurd none) (λ h between u left mid within grown none less. absurd none))
             (λ to between one u left mid within grown none less. absurd none) (λ to between u left mid within grown none less. absurd none))
@@ -155,7 +161,7 @@ module _ (m : Module) (input : Input) (sections : Sections) (f : Frame m input s
 
   -- ---- as it is lowered
 
-  module _ (splits writes : Bool) (t : Ty) (a i : Lower) (run : Run Access) (y : Run Value) (is : Indexes p a.ty t) (real_base : a.ty ≢ Void) (real : i.ty ≢ Void) (known : IsComputed i y) (gives : GivesValue m input sections f p around i.traits.splits i.ty i.value y) where
+  module _ (splits writes : Bool) (start : Start) (t : Ty) (a i : Lower) (run : Run Access) (y : Run Value) (start_is : is_of_value start ≡ a.traits.is_loose) (is : Indexes p a.ty t) (real_base : a.ty ≢ Void) (real : i.ty ≢ Void) (known : IsComputed i y) (gives : GivesValue m input sections f p around i.traits.splits i.ty i.value y) where
     abbrev spill_of : Bool
     spill_of = a.traits.is_loose && is_dynamic i.traits.literal && not (is_plain a.ty)
 
@@ -166,23 +172,25 @@ module _ (m : Module) (input : Input) (sections : Sections) (f : Frame m input s
     shapeless_of None e = refl
     shapeless_of (Some shape) e = absurd (let z : false ≡ true = e in cc)
 
-    may : MaySpill m input sections f p around are writes a.ty is.sound spill_of a.traits.is_loose
+    may : MaySpill m input sections f p around are writes a.ty is.sound spill_of start
     may = record {
-      lies_so = λ e. (and_parts a.traits.is_loose (is_dynamic i.traits.literal) (and_parts (a.traits.is_loose && is_dynamic i.traits.literal) (not (is_plain a.ty)) e).0).0;
+      lies_so = λ e. value_start start (start_is ∙ (and_parts a.traits.is_loose (is_dynamic i.traits.literal) (and_parts (a.traits.is_loose && is_dynamic i.traits.literal) (not (is_plain a.ty)) e).0).0);
       shapeless = λ e. shapeless_of (shape_of a.ty) (and_parts (a.traits.is_loose && is_dynamic i.traits.literal) (not (is_plain a.ty)) e).1;
     }
 
-    fast : shape_of a.ty ≡ None → loose_then m input sections f p around are writes a.ty is.sound spill_of a.traits.is_loose ≡ false
-    fast none =
-        ap (λ c. loose_then m input sections f p around are writes a.ty is.sound c a.traits.is_loose) (spill_is ∙ ap (λ o. a.traits.is_loose && true && not (has_shape o)) none)
-        ∙ by a.traits.is_loose
+    fast : shape_of a.ty ≡ None → spilled_to spill_of start ≡ OfValue → ⊥
+    fast none e = by start a.traits.is_loose start_is (sym (ap (λ c. spilled_to c start) (spill_is ∙ ap (λ o. a.traits.is_loose && true && not (has_shape o)) none)) ∙ e)
       where
-        by : (c : Bool) → loose_then m input sections f p around are writes a.ty is.sound (c && true && not false) c ≡ false
-        by true = refl
-        by false = refl
+        by : (start : Start) (c : Bool) → is_of_value start ≡ c → spilled_to (c && true && not false) start ≡ OfValue → ⊥
+        by OfVariable true is e = absurd (let z : false ≡ true = is in cc)
+        by OfVariable false is e = absurd (let z : OfVariable ≡ OfValue = e in cc)
+        by OfValue true is e = absurd (let z : OfVariable ≡ OfValue = e in cc)
+        by OfValue false is e = absurd (let z : true ≡ false = is in cc)
+        by OfBlock true is e = absurd (let z : false ≡ true = is in cc)
+        by OfBlock false is e = absurd (let z : OfBlock ≡ OfValue = e in cc)
 
     abbrev next_all : Reached → Emit Reached
-    next_all = next spill_of a.traits.is_loose writes a.ty t is real_base may fast i y real known gives
+    next_all = next spill_of start writes a.ty t is real_base may fast i y real known gives
 
     abbrev next_by : Bool → Option ℕ → Reached → Emit Reached
     next_by calls literal r =
@@ -205,23 +213,13 @@ module _ (m : Module) (input : Input) (sections : Sections) (f : Frame m input s
         behind_assoc (a.reach b) (before_index p.structs (known_of a) i.traits) (λ kept. index_by i i.traits.literal >>= after_index a.ty i.traits kept)
         ∙ ap (behind (a.reach b)) (λ j r flow. next_is r flow j)
 
-    loose_is : loose_then m input sections f p around are writes a.ty is.sound spill_of a.traits.is_loose ≡ (a.traits.is_loose && not spill_of)
-    loose_is = by spill_of a.traits.is_loose
-      where
-        by : (c d : Bool) → loose_then m input sections f p around are writes a.ty is.sound c d ≡ (d && not c)
-        by true true = refl
-        by true false = refl
-        by false true = refl
-        by false false = refl
-
-    pub computed_place : GivesPlace m input sections f p around splits a.traits.is_loose writes a.ty a.reach run → GivesPlace m input sections f p around (splits || i.traits.splits) (a.traits.is_loose && not spill_of) writes t (indexed p.structs a i) (indexed_means run y)
+    pub computed_place : GivesPlace m input sections f p around splits start writes a.ty a.reach run → GivesPlace m input sections f p around (splits || i.traits.splits) (spilled_to spill_of start) writes t (indexed p.structs a i) (indexed_means run y)
     computed_place leads =
-        let all = place_then m input sections f p around splits i.traits.splits a.traits.is_loose (loose_then m input sections f p around are writes a.ty is.sound spill_of a.traits.is_loose) writes a.ty t a.reach run next_all (λ x. shader_run.◌>>=◌ y (λ v. indexing x (word_in v))) leads
-        (goes_on spill_of a.traits.is_loose writes a.ty t is real_base may fast i y real known gives splits a.reach run) in
-        subst (λ c. GivesPlace m input sections f p around (splits || i.traits.splits) c writes t (indexed p.structs a i) (indexed_means run y)) loose_is
-        (record {
+        let all = place_then m input sections f p around splits i.traits.splits start (spilled_to spill_of start) writes a.ty t a.reach run next_all (λ x. shader_run.◌>>=◌ y (λ v. indexing x (word_in v))) leads
+        (goes_on spill_of start writes a.ty t is real_base may fast i y real known gives splits a.reach run) in
+        record {
           adds = λ b. subst (GrownTo b) (sym (joined b)) (all.adds b);
           does = λ b s units state good.
-              subst (λ low. Does m input sections f p 0 units state (HasReached m input sections f p around (splits || i.traits.splits) (loose_then m input sections f p around are writes a.ty is.sound spill_of a.traits.is_loose) writes t b state)
-              (HasStrayed m input sections f p around (splits || i.traits.splits) (loose_then m input sections f p around are writes a.ty is.sound spill_of a.traits.is_loose) writes t b state) (indexed_means run y s units) low) (sym (joined b)) (all.does b s units state good);
-        })
+              subst (λ low. Does m input sections f p 0 units state (HasReached m input sections f p around (splits || i.traits.splits) (spilled_to spill_of start) writes t b state)
+              (HasStrayed m input sections f p around (splits || i.traits.splits) (spilled_to spill_of start) writes t b state) (indexed_means run y s units) low) (sym (joined b)) (all.does b s units state good);
+        }

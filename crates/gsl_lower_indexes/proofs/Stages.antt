@@ -37,7 +37,8 @@ use Rattle.gsl_lower_follows.proofs.Doing.{does_then}
 use Rattle.gsl_lower_follows.proofs.Growing.{adds_lift, adds_then}
 use Rattle.gsl_lower_follows.proofs.Holding.{after_then}
 use Rattle.gsl_lower_law_expr.proofs.Operands.{after_less, given_value}
-use Rattle.gsl_lower_reaching.specs.Reaching.{HasReached, HasStrayed, IsTrail}
+use Rattle.gsl_lower_reaching.specs.Reaching.{HasReached, HasStrayed, IsTrail, Start}
+use Rattle.gsl_lower_reaching.specs.Reaching.Start.{OfValue}
 use Rattle.gsl_lower_reaching.specs.Trails.{IsInside, IsOutside, Trail}
 use Rattle.gsl_lower_elements.proofs.Indexing.{MayIndex, step_in, step_out}
 use Rattle.gsl_lower_reaching.proofs.Moving.{trail_after}
@@ -64,7 +65,7 @@ comes_strays Strays comes = refl
 comes_strays Goes comes = absurd comes
 
 module _ (m : Module) (input : Input) (sections : Sections) (f : Frame m input sections) (p : Program) (around : Around) (are : AreStructs p.structs) where
-  module _ (lies writes : Bool) (base t : Ty) (sound : IsSound (length p.structs) base) (sound_t : IsSound (length p.structs) t) (has : element_of base ≡ Some t) (fast : shape_of base ≡ None → lies ≡ false) (i : Lower) (y : Run Value) (real : i.ty ≢ Void) (known : IsComputed i y)
+  module _ (lies : Start) (writes : Bool) (base t : Ty) (sound : IsSound (length p.structs) base) (sound_t : IsSound (length p.structs) t) (has : element_of base ≡ Some t) (fast : shape_of base ≡ None → lies ≡ OfValue → ⊥) (i : Lower) (y : Run Value) (real : i.ty ≢ Void) (known : IsComputed i y)
       (gives : GivesValue m input sections f p around i.traits.splits i.ty i.value y) where
     abbrev Reaches : Bool → Flow → State → Reached → Flow → Access → shader.State → State → Type 0
     Reaches splits b state = HasReached m input sections f p around splits lies writes t b state
@@ -77,8 +78,8 @@ module _ (m : Module) (input : Input) (sections : Sections) (f : Frame m input s
 
     may : (id k : ℕ) → MayIndex m input sections f p around are lies writes base t (by_id id) k sound sound_t has
     may id k = record {
-      fixed = λ none loose. absurd (let z : false ≡ true = sym (fast none) ∙ loose in cc);
-      known = λ n same. absurd (let z : by_id id ≡ Fixed n = same in cc);
+      fixed = λ none loose. absurd (fast none loose);
+      known = λ n same fixed. absurd (let z : by_id id ≡ Fixed n = same in cc);
     }
 
     abbrev pub last_step : ℕ → Reached → Emit Reached

@@ -1,10 +1,12 @@
 -- Indexes that are computed (GLSL 4.50, 5.5 and 5.7).
-use Rattle.std.specs.Prelude.{◌≡◌, ℕ, false, None}
+use Rattle.std.specs.Prelude.{◌≡◌, ℕ, Bool, true, false, None}
 use Rattle.gsl_values.specs.declared.value.Value.{Value}
 use Rattle.gsl_tree.specs.Expressions.{IsIndex}
 use Rattle.gsl_meaning.specs.Running.{Ends, Goes, Got, Ran, Run, Strays}
 use Rattle.gsl_meaning.specs.State.{State}
 use Rattle.gsl_lower_expr.specs.Parts.{Lower}
+use Rattle.gsl_lower_reaching.specs.Reaching.{Start}
+use Rattle.gsl_lower_reaching.specs.Reaching.Start.{OfVariable}
 
 -- A part of a shader came to something, or an index in it was out of bounds; the invocation has not ended, and no unit was wanting.
 abbrev pub Comes : Ran Value → Type 0
@@ -19,3 +21,8 @@ pub record IsComputed (i : Lower) (run : Run Value) : Type 0 where
   pub calls_none : i.traits.calls ≡ false
   pub integer : IsIndex i.ty
   pub comes : (s : State) (units : ℕ) → Comes (run s units)
+
+-- What is indexed is in a variable, a holder, where it was put into one, and else where it was.
+abbrev pub spilled_to : Bool → Start → Start
+spilled_to true start = OfVariable
+spilled_to false start = start

@@ -1,6 +1,6 @@
 //! Laws of the definitions: calls that do nothing, whose contracts are the laws.
 
-ghost use Rattle.std.specs.Prelude.{◌≢◌, ◌&&◌, ◌||◌, Bool, not};
+ghost use Rattle.std.specs.Prelude.{◌≡◌, ◌≢◌, ◌||◌, Bool};
 ghost use Rattle.gsl_base.specs.declared.input.Input.{Input};
 ghost use Rattle.gsl_types.specs.Known.{AreStructs};
 ghost use Rattle.gsl_types.specs.declared.ty.Ty.{Ty};
@@ -17,12 +17,12 @@ ghost use Rattle.gsl_lower_expr.specs.Parts.{Lower, indexed, known_of};
 ghost use Rattle.gsl_lower_follows.specs.Frames.{Frame};
 ghost use Rattle.gsl_lower_follows.specs.Giving.{GivesValue};
 ghost use Rattle.gsl_lower_elements.specs.Indexes.{Indexes, indexed_means};
-ghost use Rattle.gsl_lower_reaching.specs.Reaching.{GivesPlace};
-ghost use Rattle.gsl_lower_indexes.specs.Computed.{IsComputed};
+ghost use Rattle.gsl_lower_reaching.specs.Reaching.{GivesPlace, Start, is_of_value};
+ghost use Rattle.gsl_lower_indexes.specs.Computed.{IsComputed, spilled_to};
 
 /// An index that is computed, and calls no function of the program, leads to that element or component of what the array or vector leads to, which is held where the
 /// index has blocks, and put into a holder where it is an array in no variable. Where the index is out of bounds, the module strays: at once in a swizzle, and else as soon
 /// as something is read or stored there.
 pub fn indexes_lead()
-    ensures { (m : Module) (input : Input) (sections : Sections) (f : Frame m input sections) (p : Program) (around : Around) (splits writes : Bool) (t : Ty) (a i : Lower) (run : Run Access) (index : Run Value) → AreStructs p.structs → Indexes p a.ty t → a.ty ≢ Void → i.ty ≢ Void → IsComputed i index → GivesValue m input sections f p around i.traits.splits i.ty i.value index → GivesPlace m input sections f p around splits a.traits.is_loose writes a.ty a.reach run → GivesPlace m input sections f p around (splits || i.traits.splits) (a.traits.is_loose && not (spills (known_of a) i.traits)) writes t (indexed p.structs a i) (indexed_means run index) }
+    ensures { (m : Module) (input : Input) (sections : Sections) (f : Frame m input sections) (p : Program) (around : Around) (splits writes : Bool) (start : Start) (t : Ty) (a i : Lower) (run : Run Access) (index : Run Value) → AreStructs p.structs → is_of_value start ≡ a.traits.is_loose → Indexes p a.ty t → a.ty ≢ Void → i.ty ≢ Void → IsComputed i index → GivesValue m input sections f p around i.traits.splits i.ty i.value index → GivesPlace m input sections f p around splits start writes a.ty a.reach run → GivesPlace m input sections f p around (splits || i.traits.splits) (spilled_to (spills (known_of a) i.traits) start) writes t (indexed p.structs a i) (indexed_means run index) }
 {}

@@ -55,7 +55,7 @@ words_lie s bytes at a zero small = tt
 words_lie s bytes at a (suc n) small = (word_lies s (word_at bytes (at + 4 * a)) (word_small bytes (at + 4 * a) small), words_lie s bytes at (a + 1) n small)
 
 -- the words of a run are a scalar or vector as it lies in a block
-run_lies : (class : ℕ) (shape : Shape) (bytes : List ℕ) (at : ℕ) → is_block_class class ≡ true → AllByRecursion (λ byte. byte < 256) bytes → IsOf (stored_shape class shape) (of_components (map (λ k. word_at bytes (at + 4 * k)) (range_with_len 0 shape.1)))
+pub run_lies : (class : ℕ) (shape : Shape) (bytes : List ℕ) (at : ℕ) → is_block_class class ≡ true → AllByRecursion (λ byte. byte < 256) bytes → IsOf (stored_shape class shape) (of_components (map (λ k. word_at bytes (at + 4 * k)) (range_with_len 0 shape.1)))
 run_lies class shape bytes at block small =
     subst (λ b. IsOf (if b then (stored_scalar shape.0, shape.1) else shape) (of_components (map (λ k. word_at bytes (at + 4 * k)) (range_with_len 0 shape.1)))) (sym block)
     (record { words = map (λ k. word_at bytes (at + 4 * k)) (range_with_len 0 shape.1); is = refl; count = length-map-range_with_len (λ k. word_at bytes (at + 4 * k)) 0 shape.1; fits = words_lie shape.0 bytes at 0 shape.1 small })

@@ -25,23 +25,19 @@ use Rattle.gsl_values.specs.declared.op.BinaryOp.{BinaryOp}
 use Rattle.gsl_values.specs.declared.op.UnaryOp.{UnaryOp}
 use Rattle.gsl_values.specs.declared.value.Value.{Value}
 use Rattle.gsl_values.specs.declared.value.Value.TheVariants.{Word, outs-Word}
-use Rattle.gsl_tree.specs.Around.{Around, consts_of, uvec3}
-use Rattle.gsl_tree.specs.Constants.{constant_of, gives, kind_gives, kind_standing, known_as as known_as_folded, known_by}
-use Rattle.gsl_tree.proofs.Steps.{gives-Const, gives_opens, standing-Const, standing_opens}
+use Rattle.gsl_tree.specs.Around.{Around, uvec3}
+use Rattle.gsl_tree.specs.Constants.{gives}
 use Rattle.gsl_tree.specs.Expressions as tree
-use Rattle.gsl_tree.specs.Expressions.{HasType, IsBinary, IsBuild, IsBuilt, IsConst, IsIndex, IsSwizzle, IsUnary, MayBeRead, boolean, element_of, is_in_range, is_in_range_kind, is_runtime_layer, shapes_of}
-use Rattle.gsl_tree.specs.Operations.{binary_value, decides, has_fixed_length, is_fixed_kind, is_postfix, is_signed, length_kind, length_of, step_value}
-use Rattle.gsl_tree.specs.Paths.{is_writable, kind_in, repeats, writable_by}
+use Rattle.gsl_tree.specs.Expressions.{HasType, IsBinary, IsBuild, IsBuilt, IsConst, IsIndex, IsSwizzle, IsUnary, MayBeRead, boolean, element_of, is_in_range, is_runtime_layer, shapes_of}
+use Rattle.gsl_tree.specs.Operations.{binary_value, decides, has_fixed_length, is_fixed_kind, is_postfix, is_signed, length_of, step_value}
+use Rattle.gsl_tree.specs.Paths.{in_block, in_block_by, is_writable, kind_in, repeats, writable_by}
 use Rattle.gsl_tree.specs.Shapes.{Shape, is_integer, shape_kind, shape_of}
 use Rattle.gsl_tree.specs.Trees.{form_of, type_of}
 use Rattle.gsl_tree.specs.Values.{all_pass, is_value_of, parts_in, word_in, word_layer}
 use Rattle.gsl_tree.specs.WellTyped.{IsVariableType, around_body, program_lists}
-use Rattle.gsl_tree.specs.declared.folded.Folded.TheVariants as folded
 use Rattle.gsl_tree.specs.declared.expr.Expr.{Expr}
 use Rattle.gsl_tree.specs.declared.expr.ExprKind.{ExprKind}
 use Rattle.gsl_tree.specs.declared.expr.ExprKind.TheFolds.{fold-Expr, fold-ExprKind, map-ExprKind}
-use Rattle.gsl_tree.specs.declared.expr.ExprKind.TheVariants as kind
-use Rattle.gsl_tree.specs.declared.expr.ExprKind.TheViews.{out-Expr, roll-ExprKind, roll-out-ExprKind}
 use Rattle.gsl_tree.specs.declared.expr.ExprKind.TheOpen.{ExprKind-F}
 use Rattle.gsl_tree.specs.declared.expr.LogicOp.{LogicOp}
 use Rattle.gsl_tree.specs.declared.expr.LogicOp.TheVariants as logic
@@ -64,6 +60,7 @@ use Rattle.gsl_lower_values.specs.Types.{scalar_constant}
 use Rattle.gsl_lower_traits.specs.declared.traits.Traits.{Traits}
 use Rattle.gsl_lower_traits.specs.Traits as traits
 use Rattle.gsl_lower_traits.specs.Traits.{Known, is_dynamic, is_one, is_selected, is_short, together, together_on, traits_by}
+use Rattle.gsl_lower_traits_law.proofs.Literals.{literal_below}
 use Rattle.gsl_lower_traits_law.specs.Telling.{Tells}
 use Rattle.gsl_lower_traits_law.proofs.Told as told
 use Rattle.gsl_lower_traits_law.proofs.Told.{by_form, means_form}
@@ -92,10 +89,12 @@ use Rattle.gsl_lower_law_built.proofs.Filling.{shape_constructs}
 use Rattle.gsl_lower_law_built.proofs.Fitting.{array_composes, passes, struct_composes}
 use Rattle.gsl_lower_law_built.proofs.Selected.{selected_gives}
 use Rattle.gsl_lower_law_built.proofs.Sequence.{sequence_gives}
-use Rattle.gsl_lower_reaching.specs.Reaching.{GivesPlace}
-use Rattle.gsl_lower_reaching.proofs.Places.{member_place, swizzle_place}
+use Rattle.gsl_lower_reaching.specs.Reaching.{GivesPlace, KnowsMember, Start, is_of_value}
+use Rattle.gsl_lower_reaching.specs.Reaching.Start.{OfBlock, OfVariable}
+use Rattle.gsl_lower_reaching.proofs.Places.{block_place, member_place, swizzle_place}
 use Rattle.gsl_lower_elements.specs.Indexes.{Indexes, indexed_means}
 use Rattle.gsl_lower_elements.proofs.Literal.{literal_place}
+use Rattle.gsl_lower_indexes.specs.Computed.{spilled_to}
 use Rattle.gsl_lower_indexes.proofs.Computing.{computed_place}
 use Rattle.gsl_lower_assigns.specs.Assigning.{assign_means}
 use Rattle.gsl_lower_assigns.proofs.Assigned.{place_assigned}
@@ -164,8 +163,14 @@ module _ (m : Module) (input : Input) (whole : Sections) (f : Frame m input whol
   abbrev pub may_write : ExprKind-F ExprKind Expr → Bool
   may_write form = writable_by around (map-ExprKind ExprKind Expr Bool Bool kinds_write (is_writable around) form)
 
+  abbrev kinds_blocked : ExprKind → Bool
+  kinds_blocked = fold-ExprKind Bool Bool in_block_by kind_in
+
+  abbrev pub is_blocked : ExprKind-F ExprKind Expr → Bool
+  is_blocked form = in_block_by (map-ExprKind ExprKind Expr Bool Bool kinds_blocked in_block form)
+
   abbrev pub Is : Expr → Type 0
-  Is e = Evaluates m input whole f p around (is_writable around e) (type_of e) (low e) (part e)
+  Is e = Evaluates m input whole f p around (is_writable around e && not (in_block e)) (in_block e) (type_of e) (low e) (part e)
 
   abbrev pub AllAre : List Expr → Type 0
   AllAre [] = Unit {0}
@@ -179,8 +184,8 @@ module _ (m : Module) (input : Input) (whole : Sections) (f : Frame m input whol
   own : (e : Expr) → Is e → is_runtime_layer (out-Ty (type_of e)) ≡ false → Gives (low e).traits.splits (low e).ty (low e).value (part e).value
   own e is read = subst (λ t. Gives (low e).traits.splits t (low e).value (part e).value) (sym is.typed) (is.gives read)
 
-  own_leads : (e : Expr) → Is e → type_of e ≢ ty.Void → (writes : Bool) → (writes ≡ true → is_writable around e ≡ true) → GivesPlace m input whole f p around (low e).traits.splits (low e).traits.is_loose writes (low e).ty (low e).reach (part e).access
-  own_leads e is real writes may = subst (λ t. GivesPlace m input whole f p around (low e).traits.splits (low e).traits.is_loose writes t (low e).reach (part e).access) (sym is.typed) (is.leads real writes may)
+  own_leads : (e : Expr) (is : Is e) → type_of e ≢ ty.Void → (writes : Bool) → (writes ≡ true → (is_writable around e && not (in_block e)) ≡ true) → GivesPlace m input whole f p around (low e).traits.splits is.start writes (low e).ty (low e).reach (part e).access
+  own_leads e is real writes may = subst (λ t. GivesPlace m input whole f p around (low e).traits.splits is.start writes t (low e).reach (part e).access) (sym is.typed) (is.leads real writes may)
 
   own_sound : (e : Expr) → Is e → IsSound count (low e).ty
   own_sound e is = subst (IsSound count) (sym is.typed) is.sound
@@ -261,7 +266,7 @@ module _ (m : Module) (input : Input) (whole : Sections) (f : Frame m input whol
 
   -- a form that gives a value, of which something is told
   pub valued : (t : Ty) (known : Traits) (value : Emit ℕ) (run : Run Value) → IsSound count t → known.is_loose ≡ true → Gives known.splits t value run → Tells known (meaning.valued t run)
-      → Evaluates m input whole f p around false t (lowering.giving_value t value known) (meaning.valued t run)
+      → Evaluates m input whole f p around false false t (lowering.giving_value t value known) (meaning.valued t run)
   valued = value_evaluates m input whole f p around
 
   pub const_gives : (v : Value) (t : Ty) → IsSound count t → IsConst around v t → Gives false t (lift (constant_by (shape_or t) v)) (shader_run.given v)
@@ -395,15 +400,16 @@ module _ (m : Module) (input : Input) (whole : Sections) (f : Frame m input whol
 
   -- ---- what is stored
 
-  place_of : (a : Expr) → Is a → type_of a ≢ ty.Void → IsTrue (is_writable around a) → GivesPlace m input whole f p around (low a).traits.splits (low a).traits.is_loose true (low a).ty (low a).reach (part a).access
-  place_of a x real may = own_leads a x real true (λ e. may)
+  -- outside blocks
+  place_of : (a : Expr) (x : Is a) → type_of a ≢ ty.Void → IsTrue (is_writable around a) → in_block a ≡ false → GivesPlace m input whole f p around (low a).traits.splits x.start true (low a).ty (low a).reach (part a).access
+  place_of a x real may apart = own_leads a x real true (λ e. ap (λ c. is_writable around a && not c) apart ∙ ap (λ c. c && true) may)
 
-  pub assign_is : (a b : Expr) (t : Ty) → Is a → Is b → type_of a ≡ t → type_of b ≡ t → IsTrue (tree.is_value_type t) → IsTrue (is_writable around a) → (v : Value) × (is_value_of p.structs (type_of a) v ≡ true)
+  pub assign_is : (a b : Expr) (t : Ty) → Is a → Is b → type_of a ≡ t → type_of b ≡ t → IsTrue (tree.is_value_type t) → IsTrue (is_writable around a) → in_block a ≡ false → (v : Value) × (is_value_of p.structs (type_of a) v ≡ true)
       → Gives ((low a).traits.splits || (low b).traits.splits) t (Parts.assigned p.structs (low a) (low b)) (assign_means (part a).access (part b).value)
-  assign_is a b t x y first second real may some =
+  assign_is a b t x y first second real may apart some =
       let real_a : type_of a ≢ ty.Void = (λ void. value_real t real (sym first ∙ void)) in
       subst (λ u. Gives ((low a).traits.splits || (low b).traits.splits) u (Parts.assigned p.structs (low a) (low b)) (assign_means (part a).access (part b).value)) (x.typed ∙ first)
-      (place_assigned m input whole f p around (low a).traits.is_loose (low a) (low b) (part b).value
+      (place_assigned m input whole f p around x.start (low a) (low b) (part b).value
       (record {
         are = are;
         sound = own_sound a x;
@@ -412,17 +418,17 @@ module _ (m : Module) (input : Input) (whole : Sections) (f : Frame m input whol
         same = y.typed ∙ second ∙ sym first ∙ sym x.typed;
         comes = λ none. (y.tells.comes none).1;
       })
-      (own b y (ap (λ u. is_runtime_layer (out-Ty u)) second ∙ value_read t real)) (low a).traits.splits (part a).access (place_of a x real_a may))
+      (own b y (ap (λ u. is_runtime_layer (out-Ty u)) second ∙ value_read t real)) (low a).traits.splits (part a).access (place_of a x real_a may apart))
 
-  pub update_is : (op : BinaryOp) (a b : Expr) (t : Ty) → Is a → Is b → type_of a ≡ t → tree.IsOperation op t (type_of b) t → IsTrue (is_writable around a)
+  pub update_is : (op : BinaryOp) (a b : Expr) (t : Ty) → Is a → Is b → type_of a ≡ t → tree.IsOperation op t (type_of b) t → IsTrue (is_writable around a) → in_block a ≡ false
       → Gives ((low a).traits.splits || (low b).traits.splits) t (Parts.updated p.structs op (low a) (low b)) (meaning.updating p.structs (part a) (part b) (binary_value op (is_signed (part a).ty)))
-  update_is op a b t x y first is may =
+  update_is op a b t x y first is may apart =
       let read = operands_read op t (type_of b) t (inr is) in
       let here : IsBinary around op (low a).ty (low b).ty (low a).ty = subst (λ u. IsBinary around op u (low b).ty u) (sym (x.typed ∙ first)) (subst (λ u. IsBinary around op t u t) (sym y.typed) (inr is)) in
       let real_a : type_of a ≢ ty.Void = (λ void. read.real_left (sym first ∙ void)) in
       subst (λ u. Gives ((low a).traits.splits || (low b).traits.splits) u (Parts.updated p.structs op (low a) (low b)) (meaning.updating p.structs (part a) (part b) (binary_value op (is_signed (part a).ty)))) (x.typed ∙ first)
       (subst (λ u. Gives ((low a).traits.splits || (low b).traits.splits) (low a).ty (Parts.updated p.structs op (low a) (low b)) (update_means p.structs u (part a).access (part b).value (binary_value op (is_signed u)))) (x.typed ∙ sym x.meant)
-      (place_updated m input whole f p around (low a).traits.is_loose (low a).traits.splits op (low a) (low b)
+      (place_updated m input whole f p around x.start (low a).traits.splits op (low a) (low b)
       (record {
         operates = record {
           are = are;
@@ -436,37 +442,46 @@ module _ (m : Module) (input : Input) (whole : Sections) (f : Frame m input whol
         shape = is.0;
         shaped = ap shape_of (x.typed ∙ first) ∙ is.3;
       })
-      (part a).access (part b).value (place_of a x real_a may) (own b y read.read_right)))
+      (part a).access (part b).value (place_of a x real_a may apart) (own b y read.read_right)))
 
-  pub step_is : (op : StepOp) (a : Expr) (t : Ty) → Is a → type_of a ≡ t → (shape : Shape) × (shape_of t ≡ Some shape) × IsTrue (is_integer shape.0) → IsTrue (is_writable around a)
+  pub step_is : (op : StepOp) (a : Expr) (t : Ty) → Is a → type_of a ≡ t → (shape : Shape) × (shape_of t ≡ Some shape) × IsTrue (is_integer shape.0) → IsTrue (is_writable around a) → in_block a ≡ false
       → Gives (low a).traits.splits t (Parts.stepped p.structs op (low a)) (meaning.stepping p.structs (part a) (step_value op) (is_postfix op))
-  step_is op a t x first is may =
+  step_is op a t x first is may apart =
       let shaped : shape_of (low a).ty ≡ Some is.0 = ap shape_of (x.typed ∙ first) ∙ is.1 in
       let real_a : type_of a ≢ ty.Void = (λ void. shaped_real t is.0 is.1 (sym first ∙ void)) in
       subst (λ u. Gives (low a).traits.splits u (Parts.stepped p.structs op (low a)) (meaning.stepping p.structs (part a) (step_value op) (is_postfix op))) (x.typed ∙ first)
       (subst (λ u. Gives (low a).traits.splits (low a).ty (Parts.stepped p.structs op (low a)) (step_means p.structs u (part a).access (step_value op) (is_postfix op))) (x.typed ∙ sym x.meant)
-      (place_stepped m input whole f p around (low a).traits.is_loose (low a) op
+      (place_stepped m input whole f p around x.start (low a) op
       (record { are = are; sound = own_sound a x; real = own_real a x real_a; shape = is.0; shaped = shaped; gives = λ v fits. step_typed p.structs op (low a).ty is.0 v (own_sound a x) shaped is.2 fits })
-      (low a).traits.splits (part a).access (place_of a x real_a may)))
+      (low a).traits.splits (part a).access (place_of a x real_a may apart)))
 
-  -- the length that a type tells
-  pub length_is : (a : Expr) → Is a → has_fixed_length (type_of a) ≡ true → length_of (type_of a) < 2 ^ 32 → Gives false (ty.One Int) (Parts.counted (low a)) (shader_run.told_by (meaning.counted (part a)))
-  length_is a x fixed small =
+  -- what has a length tells it by its type, or is a runtime array
+  length_kind_of : (layer : Ty-F Ty) → tree.has_length_kind layer ≡ true → is_fixed_kind layer ≡ false → is_runtime_layer layer ≡ true
+  length_kind_of (Ty-F.Vector s n) has fixed = absurd (let z : true ≡ false = fixed in cc)
+  length_kind_of (Ty-F.Array element n) has fixed = absurd (let z : true ≡ false = fixed in cc)
+  length_kind_of (Ty-F.Runtime element) has fixed = refl
+  length_kind_of Ty-F.Void has fixed = absurd (let z : false ≡ true = has in cc)
+  length_kind_of (Ty-F.One s) has fixed = absurd (let z : false ≡ true = has in cc)
+  length_kind_of (Ty-F.Struct number) has fixed = absurd (let z : false ≡ true = has in cc)
+
+  -- the length that a type tells, or that is counted
+  pub length_is : (a : Expr) → Is a → IsTrue (tree.has_length_kind (out-Ty (type_of a))) → (has_fixed_length (type_of a) ≡ true → length_of (type_of a) < 2 ^ 32) → Gives false (ty.One Int) (Parts.counted (low a)) (shader_run.told_by (meaning.counted (part a)))
+  length_is a x has small =
       subst (λ t. Gives false (ty.One Int) (if has_fixed_length t then lift (scalar_constant Int (length_of t)) else (low a).length) (shader_run.told_by (meaning.counted (part a)))) (sym x.typed)
       (subst (λ t. Gives false (ty.One Int) (if has_fixed_length (type_of a) then lift (scalar_constant Int (length_of (type_of a))) else (low a).length) (shader_run.told_by (λ state. if has_fixed_length t then Word (length_of t) else Word ((part a).parts state)))) (sym x.meant)
-      (by (has_fixed_length (type_of a)) fixed))
+      (by (has_fixed_length (type_of a)) refl))
     where
       n : ℕ
       n = length_of (type_of a)
 
-      fits : is_value_of p.structs (ty.One Int) (Word n) ≡ true
-      fits = scalar_typed p.structs Int n (integer_fits Int n refl small)
+      fits : has_fixed_length (type_of a) ≡ true → is_value_of p.structs (ty.One Int) (Word n) ≡ true
+      fits fixed = scalar_typed p.structs Int n (integer_fits Int n refl (small fixed))
 
-      by : (b : Bool) → b ≡ true → Gives false (ty.One Int) (if b then lift (scalar_constant Int n) else (low a).length) (shader_run.told_by (λ state. if b then Word n else Word ((part a).parts state)))
+      by : (b : Bool) → has_fixed_length (type_of a) ≡ b → Gives false (ty.One Int) (if b then lift (scalar_constant Int n) else (low a).length) (shader_run.told_by (λ state. if b then Word n else Word ((part a).parts state)))
       by true e =
           subst (λ word. Gives false (ty.One Int) (lift (scalar_constant Int word)) (shader_run.given (Word n))) (ap word_layer (outs-Word n))
-          (constant_gives m input whole f p around (Int, 1) (ty.One Int) (Word n) (omega arith) (value_shape p.structs (ty.One Int) (Int, 1) (Word n) are (sound_one count Int) (scalar_shape Int) fits).1 fits)
-      by false e = absurd (let z : false ≡ true = e in cc)
+          (constant_gives m input whole f p around (Int, 1) (ty.One Int) (Word n) (omega arith) (value_shape p.structs (ty.One Int) (Int, 1) (Word n) are (sound_one count Int) (scalar_shape Int) (fits e)).1 (fits e))
+      by false e = x.lengths (length_kind_of (out-Ty (type_of a)) has e)
 
   -- ---- several arguments
 
@@ -536,51 +551,41 @@ module _ (m : Module) (input : Input) (whole : Sections) (f : Frame m input whol
 
   -- ---- what leads to a part
 
-  pub member_leads : (a : Expr) (number : ℕ) (t : Ty) → IsSound count t → Is a → tree.HasPartType p.structs (type_of a) number t → (writes : Bool) → (writes ≡ true → is_writable around a ≡ true)
-      → GivesPlace m input whole f p around (low a).traits.splits (low a).traits.is_loose writes t (member (low a) number) (shader_run.◌>>=◌ (part a).access (λ x. shader_run.given (access.member_of x number)))
+  pub block_leads : (writable : Bool) (block number : ℕ) (t : Ty) → KnowsMember m input whole f p around block number t → (writes : Bool) → (writes ≡ true → (writable && not true) ≡ true) → GivesPlace m input whole f p around false OfBlock writes t (Parts.in_block block number) (shader_run.given (meaning.member_root block number))
+  block_leads writable block number t known false may = block_place m input whole f p around block number t known
+  block_leads true block number t known true may = absurd (let z : false ≡ true = may refl in cc)
+  block_leads false block number t known true may = absurd (let z : false ≡ true = may refl in cc)
+
+  pub swizzle_shape : (a : Expr) (lanes : Lanes) (t : Ty) (is : IsSwizzle (type_of a) lanes t) → shape_of t ≡ Some (is.0.0, lanes.count)
+  swizzle_shape a lanes t is = ap shape_of (sym is.4) ∙ shape_back (is.0.0, lanes.count)
+
+  pub member_leads : (a : Expr) (number : ℕ) (t : Ty) → IsSound count t → (x : Is a) → tree.HasPartType p.structs (type_of a) number t → (writes : Bool) → (writes ≡ true → (is_writable around a && not (in_block a)) ≡ true)
+      → GivesPlace m input whole f p around (low a).traits.splits x.start writes t (member (low a) number) (shader_run.◌>>=◌ (part a).access (λ x. shader_run.given (access.member_of x number)))
   member_leads a number t sound x is writes may =
-      member_place m input whole f p around (low a).traits.splits (low a).traits.is_loose writes t number (low a) (part a).access are (subst (λ u. tree.HasPartType p.structs u number t) (sym x.typed) is) sound
+      member_place m input whole f p around (low a).traits.splits x.start writes t number (low a) (part a).access are (subst (λ u. tree.HasPartType p.structs u number t) (sym x.typed) is) sound
       (own_leads a x (struct_real (type_of a) is.0 is.3) writes may)
 
-  pub swizzle_leads : (a : Expr) (lanes : Lanes) (t : Ty) → Is a → IsSwizzle (type_of a) lanes t → lanes.count ≤ length lanes.words → (writes : Bool) → (writes ≡ true → (is_writable around a && not (repeats (picked lanes))) ≡ true)
-      → GivesPlace m input whole f p around (low a).traits.splits (low a).traits.is_loose writes t (swizzled_by (low a) lanes) (shader_run.◌>>=◌ (part a).access (λ x. shader_run.given (access.swizzle_of x (picked lanes))))
+  pub swizzle_leads : (a : Expr) (lanes : Lanes) (t : Ty) (x : Is a) → IsSwizzle (type_of a) lanes t → lanes.count ≤ length lanes.words → (writes : Bool) → (writes ≡ true → (is_writable around a && not (repeats (picked lanes)) && not (in_block a)) ≡ true)
+      → GivesPlace m input whole f p around (low a).traits.splits x.start writes t (swizzled_by (low a) lanes) (shader_run.◌>>=◌ (part a).access (λ x. shader_run.given (access.swizzle_of x (picked lanes))))
   swizzle_leads a lanes t x is enough writes may =
-      swizzle_place m input whole f p around (low a).traits.splits (low a).traits.is_loose writes writes t is.0 lanes (low a) (part a).access
+      swizzle_place m input whole f p around (low a).traits.splits x.start writes writes t is.0 lanes (low a) (part a).access
       (record {
         of = ap shape_of x.typed ∙ is.1;
         gives = ap shape_of (sym is.4) ∙ shape_back (is.0.0, lanes.count) ∙ ap (λ n. Some (is.0.0, n)) (sym long);
         some = subst (λ n. 1 ≤ n) (sym long) is.2.0;
         below = all_below is.0.1 (picked lanes) is.3;
       })
-      (λ e. (e, is_false (repeats (picked lanes)) (and_parts (is_writable around a) (not (repeats (picked lanes))) (may e)).1))
-      (own_leads a x (shaped_real (type_of a) is.0 is.1) writes (λ e. (and_parts (is_writable around a) (not (repeats (picked lanes))) (may e)).0))
+      (λ e. (e, is_false (repeats (picked lanes)) (and_parts (is_writable around a) (not (repeats (picked lanes))) (firsts e).0).1))
+      (own_leads a x (shaped_real (type_of a) is.0 is.1) writes (λ e. ap (λ c. c && not (in_block a)) (and_parts (is_writable around a) (not (repeats (picked lanes))) (firsts e).0).0 ∙ (firsts e).1))
     where
+      firsts : writes ≡ true → ((is_writable around a && not (repeats (picked lanes))) ≡ true) × (not (in_block a) ≡ true)
+      firsts e = and_parts (is_writable around a && not (repeats (picked lanes))) (not (in_block a)) (may e)
+
       long : length (picked lanes) ≡ lanes.count
       long = length-take-le lanes.count lanes.words enough
 
   indexes : (a : Expr) (t : Ty) → IsSound count t → Is a → element_of (type_of a) ≡ Some t → Indexes p (low a).ty t
   indexes a t sound x is = record { sound = own_sound a x; sound_part = sound; element = ap element_of x.typed ∙ is }
-
-  -- an index that is known is in range, where the type tells a length
-  literal_below : (a i : Expr) (t : Ty) (v : Value) → form_of i ≡ ExprKind-F.Const v → element_of (type_of a) ≡ Some t → has_fixed_length (type_of a) ≡ true → is_in_range around a i ≡ true → word_in v < length_of (type_of a)
-  unfolding constant_of
-  literal_below a i t v form element fixed range = by (out-Ty (type_of a)) element fixed (ap (λ c. tree.in_range_by c (type_of a) (type_of i)) (sym constant) ∙ range)
-    where
-      kind_is : (out-Expr i).kind ≡ kind.Const v
-      kind_is = sym (roll-out-ExprKind (out-Expr i).kind) ∙ ap roll-ExprKind form ∙ kind.rolls-Const v
-
-      constant : constant_of (consts_of p.globals) i ≡ folded.Known v
-      constant =
-          ap (λ s. known_as_folded s (gives (consts_of p.globals) i (0 ∷ []))) (standing_opens (consts_of p.globals) i ∙ ap (kind_standing (consts_of p.globals)) kind_is ∙ standing-Const (consts_of p.globals) v)
-          ∙ ap known_by (gives_opens (consts_of p.globals) i (0 ∷ []) ∙ ap (λ k. kind_gives (consts_of p.globals) k (type_of i) (0 ∷ [])) kind_is ∙ gives-Const (consts_of p.globals) v (type_of i) (0 ∷ []))
-
-      by : (layer : Ty-F Ty) → tree.element_kind layer ≡ Some t → is_fixed_kind layer ≡ true → is_in_range_kind layer (out-Ty (type_of i)) (word_in v) ≡ true → word_in v < length_kind layer
-      by (Ty-F.Vector s n) element fixed is = ltb-true (word_in v) n is
-      by (Ty-F.Array a n) element fixed is = ltb-true (word_in v) n is
-      by (Ty-F.Runtime a) element fixed is = absurd (let z : false ≡ true = fixed in cc)
-      by Ty-F.Void element fixed is = absurd cc
-      by (Ty-F.One s) element fixed is = absurd cc
-      by (Ty-F.Struct k) element fixed is = absurd cc
 
   abbrev index_run : Expr → Expr → Run access.Access
   index_run a i = indexed_means (part a).access (part i).value
@@ -589,31 +594,58 @@ module _ (m : Module) (input : Input) (whole : Sections) (f : Frame m input whol
   abbrev IsLiteralForm : Expr → Type 0
   IsLiteralForm i = (number : ℕ) → (low i).traits.literal ≡ Some number → (v : Value) × (form_of i ≡ ExprKind-F.Const v) × (word_in v ≡ number)
 
-  abbrev Leads : Expr → Expr → Ty → Bool → Type 0
-  Leads a i t writes = GivesPlace m input whole f p around (traits.indexed t (known_as a) (low i).traits).splits (traits.indexed t (known_as a) (low i).traits).is_loose writes t (indexed p.structs (low a) (low i)) (index_run a i)
+  -- where it is then
+  abbrev pub index_start : (a i : Expr) → Is a → Start
+  index_start a i x = spilled_to (traits.spills (known_as a) (low i).traits) x.start
 
-  pub index_leads : (a i : Expr) (t : Ty) → IsSound count t → Is a → Is i → element_of (type_of a) ≡ Some t → IsIndex (type_of i) → is_in_range around a i ≡ true → (low i).traits.calls ≡ false → has_fixed_length (type_of a) ≡ true → IsLiteralForm i
-      → (writes : Bool) → (writes ≡ true → is_writable around a ≡ true) → Leads a i t writes
-  index_leads a i t sound x y element integer range calls fixed form writes may = by (low i).traits.literal refl
+  pub index_loose : (a i : Expr) (t : Ty) (x : Is a) → is_of_value (index_start a i x) ≡ (traits.indexed t (known_as a) (low i).traits).is_loose
+  index_loose a i t x = by (traits.spills (known_as a) (low i).traits) x.start (low a).traits.is_loose x.start_loose
     where
-      base : GivesPlace m input whole f p around (low a).traits.splits (low a).traits.is_loose writes (low a).ty (low a).reach (part a).access
+      by : (spill : Bool) (start : Start) (loose : Bool) → is_of_value start ≡ loose → is_of_value (spilled_to spill start) ≡ (loose && not spill)
+      by true start loose e = sym (and_none loose)
+        where
+          and_none : (c : Bool) → (c && not true) ≡ false
+          and_none true = refl
+          and_none false = refl
+      by false start loose e = e ∙ sym (and_all loose)
+        where
+          and_all : (c : Bool) → (c && not false) ≡ c
+          and_all true = refl
+          and_all false = refl
+
+  pub index_blocked : (a i : Expr) (x : Is a) → index_start a i x ≡ OfBlock → in_block a ≡ true
+  index_blocked a i x = by (traits.spills (known_as a) (low i).traits)
+    where
+      by : (spill : Bool) → spilled_to spill x.start ≡ OfBlock → in_block a ≡ true
+      by true e = absurd (let z : OfVariable ≡ OfBlock = e in cc)
+      by false e = x.start_blocked e
+
+  abbrev Leads : (a i : Expr) → Is a → Ty → Bool → Type 0
+  Leads a i x t writes = GivesPlace m input whole f p around (traits.indexed t (known_as a) (low i).traits).splits (index_start a i x) writes t (indexed p.structs (low a) (low i)) (index_run a i)
+
+  pub index_leads : (a i : Expr) (t : Ty) → IsSound count t → (x : Is a) → Is i → element_of (type_of a) ≡ Some t → IsIndex (type_of i) → is_in_range around a i ≡ true → (low i).traits.calls ≡ false → IsLiteralForm i
+      → (writes : Bool) → (writes ≡ true → (is_writable around a && not (in_block a)) ≡ true) → Leads a i x t writes
+  index_leads a i t sound x y element integer range calls form writes may = by (low i).traits.literal refl
+    where
+      base : GivesPlace m input whole f p around (low a).traits.splits x.start writes (low a).ty (low a).reach (part a).access
       base = own_leads a x (element_real (type_of a) t element) writes may
 
-      loose_same : (loose plain : Bool) (o : Option ℕ) (number : ℕ) → o ≡ Some number → loose ≡ (loose && not (loose && is_dynamic o && not plain))
-      loose_same true plain None number e = absurd cc
-      loose_same true plain (Some k) number e = refl
-      loose_same false plain o number e = refl
+      -- nothing is put into a holder for an index that is known
+      stays : (o : Option ℕ) (number : ℕ) → o ≡ Some number → (loose plain : Bool) (start : Start) → spilled_to (loose && is_dynamic o && not plain) start ≡ start
+      stays None number e loose plain start = absurd cc
+      stays (Some k) number e true plain start = refl
+      stays (Some k) number e false plain start = refl
 
-      by : (o : Option ℕ) → (low i).traits.literal ≡ o → Leads a i t writes
+      by : (o : Option ℕ) → (low i).traits.literal ≡ o → Leads a i x t writes
       by None e =
           let shape = index_shape (type_of i) integer in
-          computed_place m input whole f p around are (low a).traits.splits writes t (low a) (low i) (part a).access (part i).value (indexes a t sound x element) (own_real a x (element_real (type_of a) t element)) (own_real i y (shaped_real (type_of i) shape.0 shape.1))
+          computed_place m input whole f p around are (low a).traits.splits writes x.start t (low a) (low i) (part a).access (part i).value x.start_loose (indexes a t sound x element) (own_real a x (element_real (type_of a) t element)) (own_real i y (shaped_real (type_of i) shape.0 shape.1))
           (record { computed = e; calls_none = calls; integer = subst IsIndex (sym y.typed) integer; comes = (y.tells.comes calls).1 }) (own i y (shaped_read (type_of i) shape.0 shape.1)) base
       by (Some number) e =
           let told = y.tells.literal number e in
           let const = form number e in
-          let below : number < length_of (low a).ty = subst (λ u. number < length_of u) (sym x.typed) (subst (λ n. n < length_of (type_of a)) const.2 (literal_below a i t const.0 const.1 element fixed range)) in
-          subst (λ loose. GivesPlace m input whole f p around (traits.indexed t (known_as a) (low i).traits).splits loose writes t (indexed p.structs (low a) (low i)) (index_run a i)) (loose_same (low a).traits.is_loose (traits.is_plain (low a).ty) (low i).traits.literal number e)
-          (subst (λ splits. GivesPlace m input whole f p around ((low a).traits.splits || splits) (low a).traits.is_loose writes t (indexed p.structs (low a) (low i)) (index_run a i)) (sym told.0)
-          (literal_place m input whole f p around are (low a).traits.splits (low a).traits.is_loose writes t number (low a) (low i) (part a).access (part i).value (indexes a t sound x element)
+          let below : has_fixed_length (low a).ty ≡ true → number < length_of (low a).ty = (λ fixed. subst (λ u. number < length_of u) (sym x.typed) (subst (λ n. n < length_of (type_of a)) const.2 (literal_below around a i t const.0 const.1 element (ap has_fixed_length (sym x.typed) ∙ fixed) range))) in
+          subst (λ start. GivesPlace m input whole f p around (traits.indexed t (known_as a) (low i).traits).splits start writes t (indexed p.structs (low a) (low i)) (index_run a i)) (sym (stays (low i).traits.literal number e (low a).traits.is_loose (traits.is_plain (low a).ty) x.start))
+          (subst (λ splits. GivesPlace m input whole f p around ((low a).traits.splits || splits) x.start writes t (indexed p.structs (low a) (low i)) (index_run a i)) (sym told.0)
+          (literal_place m input whole f p around are (low a).traits.splits x.start writes t number (low a) (low i) (part a).access (part i).value (indexes a t sound x element)
           (record { literal = e; alone = told.0; quiet = told.1; gives = told.2 }) below base))

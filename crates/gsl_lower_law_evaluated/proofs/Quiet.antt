@@ -5,13 +5,14 @@ use Rattle.gsl_base.specs.declared.input.Input.{Input}
 use Rattle.gsl_types.specs.Known.{IsSound}
 use Rattle.gsl_types.specs.declared.ty.Direction.{Direction}
 use Rattle.gsl_types.specs.declared.ty.Ty.{Ty}
+use Rattle.gsl_types.specs.declared.ty.Ty.TheViews.{out-Ty}
 use Rattle.gsl_words.specs.declared.module.Module.{Module}
 use Rattle.gsl_values.specs.declared.value.Value.{Value}
 use Rattle.gsl_tree.specs.Around.{Around}
 use Rattle.gsl_tree.specs.Expressions.{HasType, IsNode, boolean}
 use Rattle.gsl_tree.specs.Shapes.{shape_of}
 use Rattle.gsl_tree.specs.Trees.{Throughout, ThroughoutAll, form_of, parts_of, type_of}
-use Rattle.gsl_tree.specs.Values.{is_value_of}
+use Rattle.gsl_tree.specs.Values.{is_value_of, word_in}
 use Rattle.gsl_tree.specs.WellTyped.{around_body, program_lists}
 use Rattle.gsl_tree.specs.declared.expr.Expr.{Expr}
 use Rattle.gsl_tree.specs.declared.expr.ExprKind.{ExprKind}
@@ -32,7 +33,8 @@ use Rattle.gsl_lower_traits.specs.Traits.{Known, is_one, is_selected, is_short, 
 use Rattle.gsl_lower_traits.specs.declared.traits.Traits.{Traits}
 use Rattle.gsl_lower_traits_law.specs.Quiet.{AreHeld, IsHeld, IsThere, MayBeThere}
 use Rattle.gsl_lower_traits_law.proofs.There as there
-use Rattle.gsl_lower_traits_law.proofs.Told.{part_is}
+use Rattle.gsl_lower_traits_law.proofs.Standing.{Stays}
+use Rattle.gsl_lower_traits_law.proofs.Told.{literal_word, part_is}
 use Rattle.gsl_lower_expr.specs.Lowering as lowering
 use Rattle.gsl_lower_expr.specs.Lowering.{lowered_by}
 use Rattle.gsl_lower_expr.specs.Parts.{Lower, known_of}
@@ -91,16 +93,47 @@ module _ (m : Module) (input : Input) (whole : Sections) (f : Frame m input whol
     interfaces = λ n t is. held_by (type_named around (Interface n)) (slice_get s.interfaces n) t (ap type_of_interface is.1 ∙ ap Some is.2) (typed.each (Interface n));
     params = λ n t is. held_by (type_named around (Param n)) (slice_get s.params n) t (ap type_of_param is.1) (typed.each (Param n));
     locals = λ n t is. held_by (type_named around (Local n)) (slice_get s.locals n) t is (typed.each (Local n));
+    blocks = typed.blocks;
     choices = typed.choices;
   }
 
   -- ---- by what is known of what is lowered
 
+  pub literal_form : (i : Expr) (number : ℕ) → (low i).traits.literal ≡ Some number → (v : Value) × (form_of i ≡ ExprKind-F.Const v) × (word_in v ≡ number)
+  literal_form i number e =
+      let l = literal_known (form_of i) (type_of i) number (ap (λ (l : Lower). l.traits.literal) (sym (low_is i)) ∙ e) in
+      (l.0, l.1, literal_word (out-Ty (type_of i)) l.0 number l.2)
+    where
+      literal_known : (form : ExprKind-F ExprKind Expr) (t : Ty) (number : ℕ) → (low_form form t).traits.literal ≡ Some number → (v : Value) × (form ≡ ExprKind-F.Const v) × (traits.literal_by (out-Ty t) v ≡ Some number)
+      literal_known (ExprKind-F.Const v) t number e = (v, refl, e)
+      literal_known (ExprKind-F.Local n) t number e = absurd (let z : None ≡ Some number = e in cc)
+      literal_known (ExprKind-F.Global n) t number e = absurd (let z : None ≡ Some number = e in cc)
+      literal_known (ExprKind-F.Param n) t number e = absurd (let z : None ≡ Some number = e in cc)
+      literal_known (ExprKind-F.BlockMember b n) t number e = absurd (let z : None ≡ Some number = e in cc)
+      literal_known (ExprKind-F.Stage var) t number e = absurd (let z : None ≡ Some number = e in cc)
+      literal_known (ExprKind-F.Interface n) t number e = absurd (let z : None ≡ Some number = e in cc)
+      literal_known (ExprKind-F.Member a n) t number e = absurd (let z : None ≡ Some number = e in cc)
+      literal_known (ExprKind-F.Index a i) t number e = absurd (let z : None ≡ Some number = e in cc)
+      literal_known (ExprKind-F.Swizzle a l) t number e = absurd (let z : None ≡ Some number = e in cc)
+      literal_known (ExprKind-F.Length a) t number e = absurd (let z : None ≡ Some number = e in cc)
+      literal_known (ExprKind-F.Unary o a) t number e = absurd (let z : None ≡ Some number = e in cc)
+      literal_known (ExprKind-F.Binary o a b) t number e = absurd (let z : None ≡ Some number = e in cc)
+      literal_known (ExprKind-F.Logic o a b) t number e = absurd (let z : None ≡ Some number = e in cc)
+      literal_known (ExprKind-F.Choose test a b) t number e = absurd (let z : None ≡ Some number = e in cc)
+      literal_known (ExprKind-F.Assign a b) t number e = absurd (let z : None ≡ Some number = e in cc)
+      literal_known (ExprKind-F.Update o a b) t number e = absurd (let z : None ≡ Some number = e in cc)
+      literal_known (ExprKind-F.Step o a) t number e = absurd (let z : None ≡ Some number = e in cc)
+      literal_known (ExprKind-F.Call n es) t number e = absurd (let z : None ≡ Some number = e in cc)
+      literal_known (ExprKind-F.Built g es) t number e = absurd (let z : None ≡ Some number = e in cc)
+      literal_known (ExprKind-F.Build es) t number e = absurd (let z : None ≡ Some number = e in cc)
+      literal_known (ExprKind-F.Convert a) t number e = absurd (let z : None ≡ Some number = e in cc)
+      literal_known (ExprKind-F.Comma es) t number e = absurd (let z : None ≡ Some number = e in cc)
+
   abbrev Here : Expr → Type 0
-  Here = there.IsQuiet around types.program.structs setting kinds_as known_as
+  Here = there.IsQuiet around types.program.structs setting kinds_as known_as literal_form
 
   abbrev AllHere : List Expr → Type 0
-  AllHere = there.AllQuiet around types.program.structs setting kinds_as known_as
+  AllHere = there.AllQuiet around types.program.structs setting kinds_as known_as literal_form
 
   lists_known : (es : List Expr) → map known_of (map low es) ≡ map known_as es
   lists_known [] = refl
@@ -110,12 +143,25 @@ module _ (m : Module) (input : Input) (whole : Sections) (f : Frame m input whol
   told_quiet (ExprKind-F.Build es) t q = subst (λ ks. (traits.built t (traits.together ks)).quiet ≡ true) (lists_known es) q
   told_quiet form t q = q
 
+  low_type : (form : ExprKind-F ExprKind Expr) (t : Ty) → (low_form form t).ty ≡ t
+  low_type (ExprKind-F.Const v) t = refl
+  low_type form t = refl
+
+  told_still : (form : ExprKind-F ExprKind Expr) (t : Ty) → (low_form form t).traits.still ≡ true → (traits_by (map-ExprKind ExprKind Expr (Ty → Traits) Known kinds_as known_as form) t).still ≡ true
+  told_still (ExprKind-F.Build es) t q = subst (λ ks. (traits.built t (traits.together ks)).still ≡ true) (lists_known es) q
+  told_still form t q = q
+
   one_there : (e : Expr) → IsNode around e → IsSound count (type_of e) → MayBeThere around setting e → AllHere (parts_of (form_of e)) → Here e
   one_there e node sound asks all = record {
     sound = sound;
     there = λ q.
         subst (λ (x : Meant). IsThere around (type_of e) x.value) (sym (part_is setting e))
-        (there.by_form around types.program.structs setting kinds_as known_as e (form_of e) (part_is setting e) all node.type asks (told_quiet (form_of e) (type_of e) (ap (λ (l : Lower). l.traits.quiet) (sym (low_is e)) ∙ q)));
+        (there.by_form around types.program.structs setting kinds_as known_as literal_form e (form_of e) (part_is setting e) sound all node.type asks (told_quiet (form_of e) (type_of e) (ap (λ (l : Lower). l.traits.quiet) (sym (low_is e)) ∙ q)));
+    stays = λ still.
+        subst (λ (x : Meant). Stays around types.program.structs (type_of e) x.access) (sym (part_is setting e))
+        (there.stays_by_form around types.program.structs setting kinds_as known_as literal_form e (form_of e) (part_is setting e) sound all node.type asks (told_still (form_of e) (type_of e) (ap (λ (l : Lower). l.traits.still) (sym (low_is e)) ∙ still)));
+    typed = ap (λ (x : Meant). x.ty) (part_is setting e) ∙ there.meant_type setting (form_of e) (type_of e);
+    known = ap (λ (l : Lower). l.ty) (low_is e) ∙ low_type (form_of e) (type_of e);
   }
 
   mutual

@@ -1,5 +1,5 @@
 -- Whole expressions, kind by kind, and the expressions in them.
-use Rattle.std.proofs.Common.{◌≡◌, refl, sym, ap, ◌∙◌, subst, inl, inr, ℕ, Bool, true, false, ◌||◌, slice_get, List, [], ◌∷◌, length, map, Some, None}
+use Rattle.std.proofs.Common.{◌≡◌, refl, sym, ap, ◌∙◌, subst, inl, inr, ℕ, Bool, true, false, not, ◌||◌, ◌&&◌, slice_get, List, [], ◌∷◌, length, map, Some, None}
 use Rattle.std.specs.List.{AllByRecursion}
 use Rattle.gsl_base.specs.declared.input.Input.{Input}
 use Rattle.gsl_types.specs.Known.{AreStructs, IsSound}
@@ -10,8 +10,9 @@ use Rattle.gsl_words.specs.declared.module.Module.{Module}
 use Rattle.gsl_values.specs.Vectors.{components as picked}
 use Rattle.gsl_values.specs.declared.value.Value.{Value}
 use Rattle.gsl_tree.specs.Around.{Around}
-use Rattle.gsl_tree.specs.Expressions.{HasType, IsExpr, IsNode, MayBeRead}
-use Rattle.gsl_tree.specs.Paths.{is_writable, kind_in, read_parts, writable_by}
+use Rattle.gsl_tree.specs.Expressions.{HasType, IsExpr, IsNode, MayBeRead, is_runtime_layer}
+use Rattle.gsl_tree.specs.Paths.{in_block, in_block_by, is_writable, kind_in, read_parts, writable_by}
+use Rattle.gsl_tree.specs.Shapes.{shape_of}
 use Rattle.gsl_tree.specs.Trees.{Throughout, ThroughoutAll, form_of, parts_of, type_of}
 use Rattle.gsl_tree.specs.Values.{word_in}
 use Rattle.gsl_tree.specs.WellTyped.{around_body, program_lists}
@@ -34,16 +35,18 @@ use Rattle.gsl_lower_traits.specs.Traits as traits
 use Rattle.gsl_lower_traits.specs.Traits.{is_selected, is_short}
 use Rattle.gsl_lower_traits.specs.declared.traits.Traits.{Traits}
 use Rattle.gsl_lower_traits_law.specs.Telling.{Tells}
-use Rattle.gsl_lower_traits_law.proofs.Told.{by_form, literal_word, means_form, part_is}
+use Rattle.gsl_lower_traits_law.proofs.Told.{by_form, means_form, part_is}
 use Rattle.gsl_lower_expr.specs.Lowering as lowering
 use Rattle.gsl_lower_expr.specs.Lowering.{lowered_by, lowers}
-use Rattle.gsl_lower_expr.specs.Parts.{Lower, any_splits, chosen, constant_by, counted, indexed, interface_class, known_of, logical, member, named, shape_or, stage_value, swizzled_by}
+use Rattle.gsl_lower_expr.specs.Parts.{Lower, any_splits, chosen, constant_by, counted, indexed, interface_class, known_of, logical, member, named, shape_or, stage_value, swizzled_by, in_block as in_block_code}
 use Rattle.gsl_lower_follows.specs.Frames.{Frame}
 use Rattle.gsl_lower_follows.specs.Giving.{GivesValue}
 use Rattle.gsl_lower_law_expr.specs.Known.{choice_means, logic_means}
 use Rattle.gsl_lower_elements.specs.Indexes.{indexed_means}
+use Rattle.gsl_lower_elements.proofs.Lengths.{length_gives}
+use Rattle.gsl_lower_reaching.specs.Reaching.Start.{OfBlock, OfVariable}
 use Rattle.gsl_lower_reaching.proofs.Places.{global_place, interface_place, local_place, param_place}
-use Rattle.gsl_lower_law_evaluated.specs.Evaluating.{AllEvaluated, Asks, Evaluates, HasValue, IsEvaluated, IsTyped, NoVectors, lowered_in, meant_in}
+use Rattle.gsl_lower_law_evaluated.specs.Evaluating.{AllEvaluated, Asks, Evaluates, HasValue, IsEvaluated, IsReadWhole, IsTyped, NoVectors, lowered_in, meant_in}
 use Rattle.gsl_lower_law_evaluated.proofs.Evaluated.{place_evaluates, value_evaluates}
 use Rattle.gsl_lower_law_evaluated.proofs.Forms as forms
 use Rattle.gsl_lower_law_evaluated.proofs.Lists.{or_false}
@@ -81,6 +84,9 @@ module _ (m : Module) (input : Input) (whole : Sections) (f : Frame m input whol
   abbrev may_write : ExprKind-F ExprKind Expr → Bool
   may_write = forms.may_write m input whole f p params locals call stage calls types vectors
 
+  abbrev is_blocked : ExprKind-F ExprKind Expr → Bool
+  is_blocked = forms.is_blocked m input whole f p params locals call stage calls types vectors
+
   abbrev Is : Expr → Type 0
   Is = forms.Is m input whole f p params locals call stage calls types vectors
 
@@ -97,46 +103,25 @@ module _ (m : Module) (input : Input) (whole : Sections) (f : Frame m input whol
       ap (is_writable around) (sym (roll-out-Expr e)) ∙ fold-roll-Expr Bool Bool (writable_by around) kind_in (out-Expr e)
       ∙ ap (fold-ExprKind Bool Bool (writable_by around) kind_in) (sym (roll-out-ExprKind (out-Expr e).kind)) ∙ fold-roll-ExprKind Bool Bool (writable_by around) kind_in (form_of e)
 
+  blocked_is : (e : Expr) → in_block e ≡ is_blocked (form_of e)
+  blocked_is e =
+      ap in_block (sym (roll-out-Expr e)) ∙ fold-roll-Expr Bool Bool in_block_by kind_in (out-Expr e)
+      ∙ ap (fold-ExprKind Bool Bool in_block_by kind_in) (sym (roll-out-ExprKind (out-Expr e).kind)) ∙ fold-roll-ExprKind Bool Bool in_block_by kind_in (form_of e)
+
   literal_form : (i : Expr) (number : ℕ) → (low i).traits.literal ≡ Some number → (v : Value) × (form_of i ≡ ExprKind-F.Const v) × (word_in v ≡ number)
-  literal_form i number e =
-      let l = literal_known (form_of i) (type_of i) number (ap (λ (l : Lower). l.traits.literal) (sym (low_is i)) ∙ e) in
-      (l.0, l.1, literal_word (out-Ty (type_of i)) l.0 number l.2)
-    where
-      literal_known : (form : ExprKind-F ExprKind Expr) (t : Ty) (number : ℕ) → (low_form form t).traits.literal ≡ Some number → (v : Value) × (form ≡ ExprKind-F.Const v) × (traits.literal_by (out-Ty t) v ≡ Some number)
-      literal_known (ExprKind-F.Const v) t number e = (v, refl, e)
-      literal_known (ExprKind-F.Local n) t number e = absurd (let z : None ≡ Some number = e in cc)
-      literal_known (ExprKind-F.Global n) t number e = absurd (let z : None ≡ Some number = e in cc)
-      literal_known (ExprKind-F.Param n) t number e = absurd (let z : None ≡ Some number = e in cc)
-      literal_known (ExprKind-F.BlockMember b n) t number e = absurd (let z : None ≡ Some number = e in cc)
-      literal_known (ExprKind-F.Stage var) t number e = absurd (let z : None ≡ Some number = e in cc)
-      literal_known (ExprKind-F.Interface n) t number e = absurd (let z : None ≡ Some number = e in cc)
-      literal_known (ExprKind-F.Member a n) t number e = absurd (let z : None ≡ Some number = e in cc)
-      literal_known (ExprKind-F.Index a i) t number e = absurd (let z : None ≡ Some number = e in cc)
-      literal_known (ExprKind-F.Swizzle a l) t number e = absurd (let z : None ≡ Some number = e in cc)
-      literal_known (ExprKind-F.Length a) t number e = absurd (let z : None ≡ Some number = e in cc)
-      literal_known (ExprKind-F.Unary o a) t number e = absurd (let z : None ≡ Some number = e in cc)
-      literal_known (ExprKind-F.Binary o a b) t number e = absurd (let z : None ≡ Some number = e in cc)
-      literal_known (ExprKind-F.Logic o a b) t number e = absurd (let z : None ≡ Some number = e in cc)
-      literal_known (ExprKind-F.Choose test a b) t number e = absurd (let z : None ≡ Some number = e in cc)
-      literal_known (ExprKind-F.Assign a b) t number e = absurd (let z : None ≡ Some number = e in cc)
-      literal_known (ExprKind-F.Update o a b) t number e = absurd (let z : None ≡ Some number = e in cc)
-      literal_known (ExprKind-F.Step o a) t number e = absurd (let z : None ≡ Some number = e in cc)
-      literal_known (ExprKind-F.Call n es) t number e = absurd (let z : None ≡ Some number = e in cc)
-      literal_known (ExprKind-F.Built g es) t number e = absurd (let z : None ≡ Some number = e in cc)
-      literal_known (ExprKind-F.Build es) t number e = absurd (let z : None ≡ Some number = e in cc)
-      literal_known (ExprKind-F.Convert a) t number e = absurd (let z : None ≡ Some number = e in cc)
-      literal_known (ExprKind-F.Comma es) t number e = absurd (let z : None ≡ Some number = e in cc)
+  literal_form = quiet.literal_form m input whole f p params locals call stage calls types vectors
 
   -- ---- every form
 
   abbrev Here : ExprKind-F ExprKind Expr → Ty → Type 0
-  Here form t = Evaluates m input whole f p around (may_write form) t (low_form form t) (means_form setting form t)
+  Here form t = Evaluates m input whole f p around (may_write form && not (is_blocked form)) (is_blocked form) t (low_form form t) (means_form setting form t)
 
   -- what is asked of an expression as a whole
   record Whole (e : Expr) (form : ExprKind-F ExprKind Expr) : Type 0 where
     lowered : low e ≡ low_form form (type_of e)
     meant : part e ≡ means_form setting form (type_of e)
     writes : is_writable around e ≡ may_write form
+    blocked : in_block e ≡ is_blocked form
 
   value_here : (e : Expr) (form : ExprKind-F ExprKind Expr) → Whole e form → HasValue m input whole f p params locals call stage calls e
       → GivesValue m input whole f p around (low_form form (type_of e)).traits.splits (type_of e) (low_form form (type_of e)).value (means_form setting form (type_of e)).value
@@ -147,9 +132,32 @@ module _ (m : Module) (input : Input) (whole : Sections) (f : Frame m input whol
 
   all_here : (e : Expr) (form : ExprKind-F ExprKind Expr) → Whole e form → Is e → Here form (type_of e)
   all_here e form w is =
-      subst (λ (b : Bool). Evaluates m input whole f p around b (type_of e) (low_form form (type_of e)) (means_form setting form (type_of e))) w.writes
-      (subst (λ (l : Lower). Evaluates m input whole f p around (is_writable around e) (type_of e) l (means_form setting form (type_of e))) w.lowered
-      (subst (λ (x : Meant). Evaluates m input whole f p around (is_writable around e) (type_of e) (low e) x) w.meant is))
+      subst (λ (b : Bool). Evaluates m input whole f p around (b && not (is_blocked form)) (is_blocked form) (type_of e) (low_form form (type_of e)) (means_form setting form (type_of e))) w.writes
+      (subst (λ (b : Bool). Evaluates m input whole f p around (is_writable around e && not b) b (type_of e) (low_form form (type_of e)) (means_form setting form (type_of e))) w.blocked
+      (subst (λ (l : Lower). Evaluates m input whole f p around (is_writable around e && not (in_block e)) (in_block e) (type_of e) l (means_form setting form (type_of e))) w.lowered
+      (subst (λ (x : Meant). Evaluates m input whole f p around (is_writable around e && not (in_block e)) (in_block e) (type_of e) (low e) x) w.meant is)))
+
+  abbrev GivesHere : (e : Expr) → ExprKind-F ExprKind Expr → Type 0
+  GivesHere e form = GivesValue m input whole f p around (low_form form (type_of e)).traits.splits (type_of e) (low_form form (type_of e)).value (means_form setting form (type_of e)).value
+
+  -- a struct or an array of a block that is read whole
+  read_whole : (e : Expr) (form : ExprKind-F ExprKind Expr) → Whole e form → IsReadWhole m input whole f p params locals call stage calls e → is_blocked form ≡ true → shape_of (type_of e) ≡ None → is_runtime_layer (out-Ty (type_of e)) ≡ false → GivesHere e form
+  read_whole e form w asks is none read = value_here e form w (asks (w.blocked ∙ is) none read)
+
+  -- what is stored in a block, or elsewhere
+  stored_or : (e : Expr) (form : ExprKind-F ExprKind Expr) (a : Expr) → Whole e form → (in_block a ≡ true → HasValue m input whole f p params locals call stage calls e) → (in_block a ≡ false → GivesHere e form) → GivesHere e form
+  stored_or e form a w asks elsewhere = by (in_block a) refl
+    where
+      by : (b : Bool) → in_block a ≡ b → GivesHere e form
+      by true is = value_here e form w (asks is)
+      by false is = elsewhere is
+
+  -- outside blocks nothing is asked
+  apart : {A : Type 0} → false ≡ true → A
+  apart e = absurd (let z : false ≡ true = e in cc)
+
+  not_here : {A : Type 0} → OfVariable ≡ OfBlock → A
+  not_here e = absurd (let z : OfVariable ≡ OfBlock = e in cc)
 
   same_all : (es : List Expr) → AllAre es → AllEvaluated m input whole f p params locals call stage calls es
   unfolding lowers means
@@ -168,36 +176,40 @@ module _ (m : Module) (input : Input) (whole : Sections) (f : Frame m input whol
   by_kind e (ExprKind-F.Const v) w sound all is reads asks =
       value_evaluates m input whole f p around (type_of e) _ (lift (constant_by (shape_or (type_of e)) v)) (shader_run.given v) sound refl (forms.const_gives m input whole f p params locals call stage calls types vectors v (type_of e) sound is) (tell (ExprKind-F.Const v) (type_of e) all)
   by_kind e (ExprKind-F.Local n) w sound all is reads asks =
-      place_evaluates m input whole f p around true (type_of e) (traits.in_variable (type_of e)) (named (λ place. place.locals) storage_class.FUNCTION n) (shader_run.given (access.whole (access.Local n))) are sound
+      place_evaluates m input whole f p around true false OfVariable (type_of e) (traits.in_variable (type_of e)) (named (λ place. place.locals) storage_class.FUNCTION n) (shader_run.given (access.whole (access.Local n))) are sound refl not_here apart
       (λ writes may. local_place m input whole f p around n writes (type_of e) (forms.named_local m input whole f p params locals call stage calls types vectors n (type_of e) is)) (tell (ExprKind-F.Local n) (type_of e) all)
   by_kind e (ExprKind-F.Global n) w sound all is reads asks =
-      place_evaluates m input whole f p around (may_write (ExprKind-F.Global n)) (type_of e) (traits.in_variable (type_of e)) (named (λ place. place.globals) storage_class.PRIVATE n) (shader_run.given (access.whole (access.Global n))) are sound
+      place_evaluates m input whole f p around (may_write (ExprKind-F.Global n) && not false) false OfVariable (type_of e) (traits.in_variable (type_of e)) (named (λ place. place.globals) storage_class.PRIVATE n) (shader_run.given (access.whole (access.Global n))) are sound refl not_here apart
       (λ writes may. global_place m input whole f p around n writes (type_of e) (forms.named_global m input whole f p params locals call stage calls types vectors n (type_of e) is)) (tell (ExprKind-F.Global n) (type_of e) all)
   by_kind e (ExprKind-F.Param n) w sound all is reads asks =
-      place_evaluates m input whole f p around true (type_of e) (traits.in_variable (type_of e)) (named (λ place. place.params) storage_class.FUNCTION n) (shader_run.given (access.whole (access.Param n))) are sound
+      place_evaluates m input whole f p around true false OfVariable (type_of e) (traits.in_variable (type_of e)) (named (λ place. place.params) storage_class.FUNCTION n) (shader_run.given (access.whole (access.Param n))) are sound refl not_here apart
       (λ writes may. param_place m input whole f p around n writes (type_of e) (forms.named_param m input whole f p params locals call stage calls types vectors n (type_of e) is)) (tell (ExprKind-F.Param n) (type_of e) all)
   by_kind e (ExprKind-F.Interface n) w sound all is reads asks =
-      place_evaluates m input whole f p around (may_write (ExprKind-F.Interface n)) (type_of e) (traits.in_variable (type_of e)) (named (λ place. place.interfaces) (interface_class (slice_get p.interfaces n)) n) (shader_run.given (access.whole (access.Interface n))) are sound
+      place_evaluates m input whole f p around (may_write (ExprKind-F.Interface n) && not false) false OfVariable (type_of e) (traits.in_variable (type_of e)) (named (λ place. place.interfaces) (interface_class (slice_get p.interfaces n)) n) (shader_run.given (access.whole (access.Interface n))) are sound refl not_here apart
       (λ writes may. interface_place m input whole f p around n (slice_get p.interfaces n) writes (type_of e) (forms.named_interface m input whole f p params locals call stage calls types vectors n (type_of e) is)) (tell (ExprKind-F.Interface n) (type_of e) all)
-  by_kind e (ExprKind-F.BlockMember block n) w sound all is reads asks = all_here e (ExprKind-F.BlockMember block n) w asks
+  by_kind e (ExprKind-F.BlockMember block n) w sound all is reads asks =
+      let told = tell (ExprKind-F.BlockMember block n) (type_of e) all in
+      let here = place_evaluates m input whole f p around (may_write (ExprKind-F.BlockMember block n) && not true) true OfBlock (type_of e) (traits.in_variable (type_of e)) (in_block_code block n) (shader_run.given (meaning.member_root block n)) are sound refl (λ e. refl)
+      (read_whole e (ExprKind-F.BlockMember block n) w asks.0) (forms.block_leads m input whole f p params locals call stage calls types vectors (may_write (ExprKind-F.BlockMember block n)) block n (type_of e) asks.1)
+      (record { comes = told.comes; literal = told.literal; quiet = told.quiet; still = told.still }) in
+      record { typed = refl; meant = refl; sound = sound; gives = here.gives; lengths = λ runtime. length_gives m input whole f p around are block n (type_of e) asks.1 runtime; start = here.start; start_loose = here.start_loose; start_blocked = here.start_blocked; leads = here.leads; tells = told }
   by_kind e (ExprKind-F.Stage var) w sound all is reads asks =
       value_evaluates m input whole f p around (type_of e) (traits.valued false false true) (stage_value var (type_of e)) (shader_run.given (stage var)) sound refl
       (subst (λ t. GivesValue m input whole f p around false t (stage_value var t) (shader_run.given (stage var))) is.1 (stage_gives m input whole f p around var (stage var) are (subst (IsSound count) (sym is.1) sound) asks.told asks.real)) (tell (ExprKind-F.Stage var) (type_of e) all)
   by_kind e (ExprKind-F.Member a n) w sound all is reads asks =
-      place_evaluates m input whole f p around (is_writable around a) (type_of e) (traits.part_of (type_of e) (low a).traits) (member (low a) n) (shader_run.◌>>=◌ (part a).access (λ x. shader_run.given (access.member_of x n))) are sound
+      place_evaluates m input whole f p around (is_writable around a && not (in_block a)) (in_block a) all.0.start (type_of e) (traits.part_of (type_of e) (low a).traits) (member (low a) n) (shader_run.◌>>=◌ (part a).access (λ x. shader_run.given (access.member_of x n))) are sound all.0.start_loose all.0.start_blocked (read_whole e (ExprKind-F.Member a n) w asks)
       (forms.member_leads m input whole f p params locals call stage calls types vectors a n (type_of e) sound all.0 is) (tell (ExprKind-F.Member a n) (type_of e) all)
-  by_kind e (ExprKind-F.Index a i) w sound all is reads (inl plain) =
-      place_evaluates m input whole f p around (is_writable around a) (type_of e) (traits.indexed (type_of e) (known_of (low a)) (low i).traits) (indexed p.structs (low a) (low i)) (indexed_means (part a).access (part i).value) are sound
-      (forms.index_leads m input whole f p params locals call stage calls types vectors a i (type_of e) sound all.0 all.1.0 is.0 is.1 is.2 plain.0 plain.1 (literal_form i)) (tell (ExprKind-F.Index a i) (type_of e) all)
-  by_kind e (ExprKind-F.Index a i) w sound all is reads (inr asks) = all_here e (ExprKind-F.Index a i) w (asks all.0 all.1.0)
+  by_kind e (ExprKind-F.Index a i) w sound all is reads (whole_asks, inl plain) =
+      place_evaluates m input whole f p around (is_writable around a && not (in_block a)) (in_block a) (forms.index_start m input whole f p params locals call stage calls types vectors a i all.0) (type_of e) (traits.indexed (type_of e) (known_of (low a)) (low i).traits) (indexed p.structs (low a) (low i)) (indexed_means (part a).access (part i).value) are sound
+      (forms.index_loose m input whole f p params locals call stage calls types vectors a i (type_of e) all.0) (forms.index_blocked m input whole f p params locals call stage calls types vectors a i all.0) (read_whole e (ExprKind-F.Index a i) w whole_asks)
+      (forms.index_leads m input whole f p params locals call stage calls types vectors a i (type_of e) sound all.0 all.1.0 is.0 is.1 is.2 plain (literal_form i)) (tell (ExprKind-F.Index a i) (type_of e) all)
+  by_kind e (ExprKind-F.Index a i) w sound all is reads (whole_asks, inr asks) = all_here e (ExprKind-F.Index a i) w (asks all.0 all.1.0)
   by_kind e (ExprKind-F.Swizzle a lanes) w sound all is reads asks =
-      place_evaluates m input whole f p around (may_write (ExprKind-F.Swizzle a lanes)) (type_of e) (traits.part_of (type_of e) (low a).traits) (swizzled_by (low a) lanes) (shader_run.◌>>=◌ (part a).access (λ x. shader_run.given (access.swizzle_of x (picked lanes)))) are sound
+      place_evaluates m input whole f p around (may_write (ExprKind-F.Swizzle a lanes) && not (in_block a)) (in_block a) all.0.start (type_of e) (traits.part_of (type_of e) (low a).traits) (swizzled_by (low a) lanes) (shader_run.◌>>=◌ (part a).access (λ x. shader_run.given (access.swizzle_of x (picked lanes)))) are sound all.0.start_loose all.0.start_blocked (λ in_one none. absurd (let z : None ≡ Some (is.0.0, lanes.count) = sym none ∙ forms.swizzle_shape m input whole f p params locals call stage calls types vectors a lanes (type_of e) is in cc))
       (forms.swizzle_leads m input whole f p params locals call stage calls types vectors a lanes (type_of e) all.0 is asks) (tell (ExprKind-F.Swizzle a lanes) (type_of e) all)
-  by_kind e (ExprKind-F.Length a) w sound all is reads (inl fixed) =
+  by_kind e (ExprKind-F.Length a) w sound all is reads asks =
       value_evaluates m input whole f p around (type_of e) (traits.valued false false true) (counted (low a)) (shader_run.told_by (meaning.counted (part a))) sound refl
-      (subst (λ t. GivesValue m input whole f p around false t (counted (low a)) (shader_run.told_by (meaning.counted (part a)))) (sym is.0) (forms.length_is m input whole f p params locals call stage calls types vectors a all.0 fixed.0 fixed.1)) (tell (ExprKind-F.Length a) (type_of e) all)
-  by_kind e (ExprKind-F.Length a) w sound all is reads (inr asks) =
-      value_evaluates m input whole f p around (type_of e) (traits.valued false false true) (counted (low a)) (shader_run.told_by (meaning.counted (part a))) sound refl (value_here e (ExprKind-F.Length a) w asks) (tell (ExprKind-F.Length a) (type_of e) all)
+      (subst (λ t. GivesValue m input whole f p around false t (counted (low a)) (shader_run.told_by (meaning.counted (part a)))) (sym is.0) (forms.length_is m input whole f p params locals call stage calls types vectors a all.0 is.1 asks)) (tell (ExprKind-F.Length a) (type_of e) all)
   by_kind e (ExprKind-F.Unary op a) w sound all is reads asks =
       value_evaluates m input whole f p around (type_of e) (traits.of_one (low a).traits) _ _ sound refl (forms.unary_is m input whole f p params locals call stage calls types vectors op a (type_of e) all.0 is) (tell (ExprKind-F.Unary op a) (type_of e) all)
   by_kind e (ExprKind-F.Binary op a b) w sound all is reads asks =
@@ -213,14 +225,15 @@ module _ (m : Module) (input : Input) (whole : Sections) (f : Frame m input whol
       (forms.choice_is m input whole f p params locals call stage calls types vectors (type_of e) test a b sound all.0 all.1.0 all.1.1.0 is.0 is.1 is.2 is.3 asks) (tell (ExprKind-F.Choose test a b) (type_of e) all)
   by_kind e (ExprKind-F.Assign a b) w sound all is reads asks =
       value_evaluates m input whole f p around (type_of e) (traits.of_two false false (low a).traits (low b).traits) _ _ sound refl
-      (subst (λ c. GivesValue m input whole f p around c (type_of e) (low_form (ExprKind-F.Assign a b) (type_of e)).value (means_form setting (ExprKind-F.Assign a b) (type_of e)).value) (sym (or_false ((low a).traits.splits || (low b).traits.splits)))
-      (forms.assign_is m input whole f p params locals call stage calls types vectors a b (type_of e) all.0 all.1.0 is.0 is.1 is.2 is.3 asks)) (tell (ExprKind-F.Assign a b) (type_of e) all)
+      (stored_or e (ExprKind-F.Assign a b) a w asks.1 (λ elsewhere. subst (λ c. GivesValue m input whole f p around c (type_of e) (low_form (ExprKind-F.Assign a b) (type_of e)).value (means_form setting (ExprKind-F.Assign a b) (type_of e)).value) (sym (or_false ((low a).traits.splits || (low b).traits.splits)))
+      (forms.assign_is m input whole f p params locals call stage calls types vectors a b (type_of e) all.0 all.1.0 is.0 is.1 is.2 is.3 elsewhere asks.0))) (tell (ExprKind-F.Assign a b) (type_of e) all)
   by_kind e (ExprKind-F.Update op a b) w sound all is reads asks =
       value_evaluates m input whole f p around (type_of e) (traits.of_two false false (low a).traits (low b).traits) _ _ sound refl
-      (subst (λ c. GivesValue m input whole f p around c (type_of e) (low_form (ExprKind-F.Update op a b) (type_of e)).value (means_form setting (ExprKind-F.Update op a b) (type_of e)).value) (sym (or_false ((low a).traits.splits || (low b).traits.splits)))
-      (forms.update_is m input whole f p params locals call stage calls types vectors op a b (type_of e) all.0 all.1.0 is.0 is.2 is.3)) (tell (ExprKind-F.Update op a b) (type_of e) all)
+      (stored_or e (ExprKind-F.Update op a b) a w asks (λ elsewhere. subst (λ c. GivesValue m input whole f p around c (type_of e) (low_form (ExprKind-F.Update op a b) (type_of e)).value (means_form setting (ExprKind-F.Update op a b) (type_of e)).value) (sym (or_false ((low a).traits.splits || (low b).traits.splits)))
+      (forms.update_is m input whole f p params locals call stage calls types vectors op a b (type_of e) all.0 all.1.0 is.0 is.2 is.3 elsewhere))) (tell (ExprKind-F.Update op a b) (type_of e) all)
   by_kind e (ExprKind-F.Step op a) w sound all is reads asks =
-      value_evaluates m input whole f p around (type_of e) (traits.loud (low a).traits) _ _ sound refl (forms.step_is m input whole f p params locals call stage calls types vectors op a (type_of e) all.0 is.0 is.1 is.2) (tell (ExprKind-F.Step op a) (type_of e) all)
+      value_evaluates m input whole f p around (type_of e) (traits.loud (low a).traits) _ _ sound refl
+      (stored_or e (ExprKind-F.Step op a) a w asks (λ elsewhere. forms.step_is m input whole f p params locals call stage calls types vectors op a (type_of e) all.0 is.0 is.1 is.2 elsewhere)) (tell (ExprKind-F.Step op a) (type_of e) all)
   by_kind e (ExprKind-F.Call n args) w sound all is reads asks =
       value_evaluates m input whole f p around (type_of e) (traits.called (traits.together (map known_of (map low args)))) (call n (map low args) (type_of e)) (meaning.calling setting n (map part args)) sound refl (value_here e (ExprKind-F.Call n args) w (asks (same_all args all)))
       (row_told args traits.called (means_form setting (ExprKind-F.Call n args) (type_of e)) (tell (ExprKind-F.Call n args) (type_of e) all))
@@ -238,10 +251,11 @@ module _ (m : Module) (input : Input) (whole : Sections) (f : Frame m input whol
 
   one_is : (e : Expr) → IsNode around e → IsSound count (type_of e) → quiet.AsksHere m input whole f p params locals call stage calls types vectors e (form_of e) → AllAre (parts_of (form_of e)) → Is e
   one_is e node sound asks all =
-      subst (λ (b : Bool). Evaluates m input whole f p around b (type_of e) (low e) (part e)) (sym (write_is e))
-      (subst (λ (l : Lower). Evaluates m input whole f p around (may_write (form_of e)) (type_of e) l (part e)) (sym (low_is e))
-      (subst (λ (x : Meant). Evaluates m input whole f p around (may_write (form_of e)) (type_of e) (low_form (form_of e) (type_of e)) x) (sym (part_is setting e))
-      (by_kind e (form_of e) (record { lowered = low_is e; meant = part_is setting e; writes = write_is e }) sound all node.type node.reads asks)))
+      subst (λ (b : Bool). Evaluates m input whole f p around (b && not (in_block e)) (in_block e) (type_of e) (low e) (part e)) (sym (write_is e))
+      (subst (λ (b : Bool). Evaluates m input whole f p around (may_write (form_of e) && not b) b (type_of e) (low e) (part e)) (sym (blocked_is e))
+      (subst (λ (l : Lower). Evaluates m input whole f p around (may_write (form_of e) && not (is_blocked (form_of e))) (is_blocked (form_of e)) (type_of e) l (part e)) (sym (low_is e))
+      (subst (λ (x : Meant). Evaluates m input whole f p around (may_write (form_of e) && not (is_blocked (form_of e))) (is_blocked (form_of e)) (type_of e) (low_form (form_of e) (type_of e)) x) (sym (part_is setting e))
+      (by_kind e (form_of e) (record { lowered = low_is e; meant = part_is setting e; writes = write_is e; blocked = blocked_is e }) sound all node.type node.reads asks))))
 
   mutual
     evaluated : (e : Expr) → Throughout (IsNode around) e → Throughout (λ (x : Expr). IsSound count (type_of x)) e → Throughout (Asks m input whole f p params locals call stage calls) e → Is e

@@ -1,18 +1,20 @@
 -- What it is for a whole expression, as it is lowered, to do what it does, and what is asked of expressions for it (GLSL 4.50, chapter 5).
-use Rattle.std.specs.Prelude.{◌≡◌, ◌≢◌, ℕ, ◌≤◌, ◌<◌, ◌^◌, ◌⊎◌, Bool, true, false, List, [], ◌∷◌, length, slice_get, Some, None}
+use Rattle.std.specs.Prelude.{◌≡◌, ◌≢◌, ℕ, ◌≤◌, ◌<◌, ◌^◌, ◌⊎◌, Bool, true, false, not, ◌&&◌, List, [], ◌∷◌, length, slice_get, Some, None}
 use Rattle.std.specs.List.{AllByRecursion}
 use Rattle.gsl_base.specs.declared.input.Input.{Input}
 use Rattle.gsl_types.specs.Known.{IsSound}
 use Rattle.gsl_types.specs.declared.ty.Direction.{Direction}
+use Rattle.gsl_types.specs.declared.ty.Scalar.TheVariants.{Int}
 use Rattle.gsl_types.specs.declared.ty.Ty.{Ty}
 use Rattle.gsl_types.specs.declared.ty.Ty.TheVariants as ty
 use Rattle.gsl_types.specs.declared.ty.Ty.TheViews.{out-Ty}
 use Rattle.gsl_words.specs.declared.module.Module.{Module}
 use Rattle.gsl_values.specs.declared.value.Value.{Value}
+use Rattle.gsl_values.specs.declared.value.Value.TheVariants.{Word}
 use Rattle.gsl_tree.specs.Around.{Around}
 use Rattle.gsl_tree.specs.Expressions.{is_runtime_layer}
 use Rattle.gsl_tree.specs.Operations.{has_fixed_length, length_of}
-use Rattle.gsl_tree.specs.Paths.{is_writable}
+use Rattle.gsl_tree.specs.Paths.{in_block, is_writable}
 use Rattle.gsl_tree.specs.Shapes.{shape_of}
 use Rattle.gsl_tree.specs.Trees.{Throughout, form_of, type_of}
 use Rattle.gsl_tree.specs.Values.{is_value_of}
@@ -24,6 +26,7 @@ use Rattle.gsl_tree.specs.declared.expr.StageVar.{StageVar}
 use Rattle.gsl_tree.specs.declared.program.Program.{Program}
 use Rattle.gsl_meaning.specs.Expressions as meaning
 use Rattle.gsl_meaning.specs.Expressions.{Calls, Meant}
+use Rattle.gsl_meaning.specs.Running.{told_by}
 use Rattle.gsl_spv.specs.Sections.{Sections}
 use Rattle.gsl_lower_holders.specs.Flow.{Emit}
 use Rattle.gsl_lower_traits.specs.Traits.{is_selected, is_short}
@@ -35,7 +38,8 @@ use Rattle.gsl_lower_follows.specs.Frames.{Frame}
 use Rattle.gsl_lower_follows.specs.Giving.{GivesValue}
 use Rattle.gsl_lower_law_built.specs.Places.{NoVector}
 use Rattle.gsl_lower_law_expr.specs.Known.{IsShort}
-use Rattle.gsl_lower_reaching.specs.Reaching.{GivesPlace}
+use Rattle.gsl_lower_reaching.specs.Reaching.{GivesPlace, KnowsMember, Start, is_of_value}
+use Rattle.gsl_lower_reaching.specs.Reaching.Start.{OfBlock}
 
 -- what expressions of a program are lowered in, by what calls are lowered to
 abbrev pub lowered_in : Program → (ℕ → List Lower → Ty → Emit ℕ) → lowering.Setting
@@ -52,14 +56,18 @@ pub record IsTyped (p : Program) (params : List (Direction × Ty)) (locals : Lis
   pub of_locals : AllByRecursion (IsVariableType p.structs) locals
 
 module _ (m : Module) (input : Input) (whole : Sections) (f : Frame m input whole) (p : Program) (around : Around) where
-  -- What an expression of a type is lowered to gives its value, unless it is a runtime array, and leads where it does: to a variable, where it may be
-  -- written. What is known of it before is so.
-  pub record Evaluates (may_write : Bool) (t : Ty) (l : Lower) (x : Meant) : Type 0 where
+  -- What an expression of a type is lowered to gives its value, or its length where it is a runtime array, and leads where it does: to a variable, where it may be
+  -- written, or into a block, where it is a part of one. What is known of it before is so.
+  pub record Evaluates (may_write blocked : Bool) (t : Ty) (l : Lower) (x : Meant) : Type 0 where
     pub typed : l.ty ≡ t
     pub meant : x.ty ≡ t
     pub sound : IsSound (length p.structs) t
     pub gives : is_runtime_layer (out-Ty t) ≡ false → GivesValue m input whole f p around l.traits.splits t l.value x.value
-    pub leads : t ≢ ty.Void → (writes : Bool) → (writes ≡ true → may_write ≡ true) → GivesPlace m input whole f p around l.traits.splits l.traits.is_loose writes t l.reach x.access
+    pub lengths : is_runtime_layer (out-Ty t) ≡ true → GivesValue m input whole f p around false (ty.One Int) l.length (told_by (λ state. Word (x.parts state)))
+    pub start : Start
+    pub start_loose : is_of_value start ≡ l.traits.is_loose
+    pub start_blocked : start ≡ OfBlock → blocked ≡ true
+    pub leads : t ≢ ty.Void → (writes : Bool) → (writes ≡ true → may_write ≡ true) → GivesPlace m input whole f p around l.traits.splits start writes t l.reach x.access
     pub tells : Tells l.traits x
 
 -- A function knows a variable for a built-in variable, which has its value.
@@ -77,9 +85,9 @@ module _ (m : Module) (input : Input) (whole : Sections) (f : Frame m input whol
   abbrev means : Expr → Meant
   means = meaning.means (meant_in p stage calls)
 
-  -- Lowered, an expression does what it does.
+  -- Lowered, an expression does what it does. What is in a block is not written here.
   abbrev pub IsEvaluated : Expr → Type 0
-  IsEvaluated e = Evaluates m input whole f p around (is_writable around e) (type_of e) (low e) (means e)
+  IsEvaluated e = Evaluates m input whole f p around (is_writable around e && not (in_block e)) (in_block e) (type_of e) (low e) (means e)
 
   abbrev pub AllEvaluated : List Expr → Type 0
   AllEvaluated [] = Unit {0}
@@ -89,23 +97,30 @@ module _ (m : Module) (input : Input) (whole : Sections) (f : Frame m input whol
   abbrev pub HasValue : Expr → Type 0
   HasValue e = GivesValue m input whole f p around (low e).traits.splits (type_of e) (low e).value (means e).value
 
-  -- In an operand that may be evaluated where it does not count, the parts of variables, the members of blocks and the lengths are there.
+  -- In an operand that may be evaluated where it does not count, the lengths of runtime arrays are there.
   abbrev pub AllThere : Expr → Type 0
   AllThere = Throughout (MayBeThere around (meant_in p stage calls))
 
-  -- What is asked of an expression by its form: of members of blocks, `.length()` of a runtime array and calls, that they do what they do where their parts do;
-  -- of an index that calls functions, or leads into a runtime array, too; of the parts of variables in operands that may be evaluated where they do not count, that they are there; of built-in variables, that the module has them; of lengths,
-  -- that they are words; of swizzles, that they have their words; of the type of what is assigned to, that it has a value; and of the
+  -- A struct or an array in a block gives its value, where it is read whole.
+  abbrev pub IsReadWhole : Expr → Type 0
+  IsReadWhole e = in_block e ≡ true → shape_of (type_of e) ≡ None → is_runtime_layer (out-Ty (type_of e)) ≡ false → HasValue e
+
+  -- What is asked of an expression by its form: of names of members of blocks, that the module and the function know the block; of structs and arrays in blocks, that they are read whole; of what is stored in
+  -- blocks, and of calls, that they do what they do where their parts do; of an index that calls functions, too; of lengths of runtime arrays in operands that may be evaluated where they do not count, that they are
+  -- there; of built-in variables, that the module has them; of lengths, that they are words; of swizzles, that they have their words; of the type of what is assigned to, that it has a value; and of the
   -- arguments of a constructor, that they have values.
   abbrev pub AsksFor : Expr → ExprKind-F ExprKind Expr → Type 0
-  AsksFor e (ExprKind-F.BlockMember block number) = IsEvaluated e
+  AsksFor e (ExprKind-F.BlockMember block number) = IsReadWhole e × KnowsMember m input whole f p around block number (type_of e)
   AsksFor e (ExprKind-F.Stage var) = KnowsStage m input whole f stage var
-  AsksFor e (ExprKind-F.Index a i) = (((low i).traits.calls ≡ false) × (has_fixed_length (type_of a) ≡ true)) ⊎ (IsEvaluated a → IsEvaluated i → IsEvaluated e)
+  AsksFor e (ExprKind-F.Member a number) = IsReadWhole e
+  AsksFor e (ExprKind-F.Index a i) = IsReadWhole e × (((low i).traits.calls ≡ false) ⊎ (IsEvaluated a → IsEvaluated i → IsEvaluated e))
   AsksFor e (ExprKind-F.Swizzle a lanes) = lanes.count ≤ length lanes.words
-  AsksFor e (ExprKind-F.Length a) = ((has_fixed_length (type_of a) ≡ true) × (length_of (type_of a) < 2 ^ 32)) ⊎ HasValue e
+  AsksFor e (ExprKind-F.Length a) = has_fixed_length (type_of a) ≡ true → length_of (type_of a) < 2 ^ 32
   AsksFor e (ExprKind-F.Logic op a b) = IsShort op → is_short op (low b).traits ≡ false → AllThere b
   AsksFor e (ExprKind-F.Choose test a b) = is_selected (type_of e) (low a).traits (low b).traits ≡ true → AllThere a × AllThere b
-  AsksFor e (ExprKind-F.Assign a b) = (v : Value) × (is_value_of p.structs (type_of a) v ≡ true)
+  AsksFor e (ExprKind-F.Assign a b) = ((v : Value) × (is_value_of p.structs (type_of a) v ≡ true)) × (in_block a ≡ true → HasValue e)
+  AsksFor e (ExprKind-F.Update op a b) = in_block a ≡ true → HasValue e
+  AsksFor e (ExprKind-F.Step op a) = in_block a ≡ true → HasValue e
   AsksFor e (ExprKind-F.Call number args) = AllEvaluated args → HasValue e
   AsksFor e (ExprKind-F.Build args) = AllByRecursion (λ (arg : Expr). type_of arg ≢ ty.Void) args
   AsksFor e _ = Unit {0}

@@ -109,13 +109,13 @@ module _ (m : Module) (input : Input) (whole : Sections) (f : Frame m input whol
       does_word : (low high : ℕ) (kept : Reached) (word : ℕ) (w : Value) (b : Flow) (s : shader.State) (units : ℕ) (state : State) → Good m input whole f p around b s state → IsBack m input whole f p around waits e low high b state kept a → is_value_of p.structs e.ty w ≡ true → Stands state.ids word w
           → Does m input whole f p 0 units state (IsWritten m input whole f p around b state) none_waits (Got tt (stored a w s) units) (with_word e.ty waits kept word b)
       does_word low high kept word w b s units state good is typed_w stands =
-          does_then m input whole f p 0 units b state (IsKept m input whole f p around false e.traits.is_loose is.trail s b state) none_waits (IsWritten m input whole f p around b state) none_waits (Got tt s units) (λ (one : Unit {0}) u left. Got tt (stored a w u) left) (fetch_reached waits kept b) (put_word e.ty word) good.inside
+          does_then m input whole f p 0 units b state (IsKept m input whole f p around false is.start is.trail s b state) none_waits (IsWritten m input whole f p around b state) none_waits (Got tt s units) (λ (one : Unit {0}) u left. Got tt (stored a w u) left) (fetch_reached waits kept b) (put_word e.ty word) good.inside
           (adds_fetched m input whole waits kept b) (λ r. adds_stores m input whole p.structs e.ty r word)
-          (is_fetched m input whole f p around s e.traits.is_loose waits kept is.trail units b state good is.is)
+          (is_fetched m input whole f p around s is.start waits kept is.trail units b state good is.is)
           (λ r between one u left mid within grown k less.
           does_so m input whole f p around 0 left mid (IsWritten m input whole f p around between mid) (IsWritten m input whole f p around b state) (Got tt (stored a w u) left) (stores p.structs e.ty r word between)
           (λ done later z t2 last h. after_then m input whole f p around false false b between later state mid last u t2 grown k.after h)
-          (trail_stored m input whole f p around are e.traits.is_loose e.ty c.sound_place word w typed_w a is.trail is.inside between u left mid r k.after.good k.is ((k.after.ids refl).same word _ stands)))
+          (trail_stored m input whole f p around are is.start e.ty c.sound_place word w typed_w a is.trail is.inside between u left mid r k.after.good k.is ((k.after.ids refl).same word _ stands)))
           (λ r between u left mid within grown none less. absurd none)
 
       does_to : (low high h : ℕ) (kept : Reached) (b : Flow) (s : shader.State) (units : ℕ) (state : State) → Good m input whole f p around b s state → IsBack m input whole f p around waits e low high b state kept a → Waits m input whole f b.place.used h v state

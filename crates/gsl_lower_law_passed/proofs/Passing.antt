@@ -45,8 +45,9 @@ use Rattle.gsl_lower_reaching.proofs.Moving.{trail_after}
 use Rattle.gsl_lower_reads.specs.Waiting.{IsKept}
 use Rattle.gsl_lower_reads.proofs.Holds.{adds_held, is_held}
 use Rattle.gsl_lower_reads.proofs.Adding.{adds_reads}
-use Rattle.gsl_lower_reads.proofs.Straying.{read_strays}
-use Rattle.gsl_lower_reads.proofs.Taking.{taken}
+use Rattle.gsl_lower_reads.proofs.Straying.{own_strays_all}
+use Rattle.gsl_lower_reads.proofs.Taking.{own_read}
+use Rattle.gsl_lower_writes.proofs.Stored.{own_named}
 use Rattle.gsl_lower_writes.proofs.Probing.{IsTested, adds_probe, probe_in, probe_out}
 use Rattle.gsl_lower_law_passed.specs.Arguments.{AllServe, ComesBack, GoesIn, HasZeros, Serves}
 use Rattle.gsl_lower_law_passed.proofs.Fresh.{AreIds, FreshBy, PartIf, PartIs, PickedIf, does_with, held_fresh}
@@ -104,7 +105,7 @@ module _ (m : Module) (input : Input) (whole : Sections) (f : Frame m input whol
   module _ (first : ℕ) (waits : Bool) (t : Ty) (e : Lower) (x : Meant) (c : ComesBack m input whole f p around t e x) (a : Access) where
     -- what it leads to is kept in holders that were not in use
     record HeldFresh (l : Trail) (s : shader.State) (b : Flow) (state : State) (kept : Reached) (later : Flow) (one : Unit {0}) (u : shader.State) (last : State) : Type 0 where
-      kept_is : IsKept m input whole f p around waits e.traits.is_loose l s b state kept later one u last
+      kept_is : IsKept m input whole f p around waits c.start l s b state kept later one u last
       fresh : AreIds (FreshBy waits b.place.holders b.place.used later.place.used) kept
 
     done : (l : Trail) → IsInside p.structs true e.ty a l → (v : Value) → is_value_of p.structs t v ≡ true → (b between later : Flow) (s u w : shader.State) (state mid last : State) → Good m input whole f p around b s state → first ≤ b.place.used → Grown b between → Grown between later → (kept : Reached) → HeldFresh l s b state kept between tt u mid
@@ -120,7 +121,8 @@ module _ (m : Module) (input : Input) (whole : Sections) (f : Frame m input whol
         below = now.1.0.among;
         back = record {
           trail = l;
-          is = trail_after m input whole f p around waits e.traits.is_loose between later mid last w kept l more (after_any m input whole f p around waits between later mid last w now.0) k.kept_is.is;
+          start = c.start;
+          is = trail_after m input whole f p around waits c.start between later mid last w kept l more (after_any m input whole f p around waits between later mid last w now.0) k.kept_is.is;
           inside = inside;
           fresh = ids_so (FreshBy waits b.place.holders b.place.used between.place.used) (FreshBy waits f.place.holders first now.1.0.holder)
               (λ id here. wider waits b.place.holders f.place.holders b.place.used between.place.used first now.1.0.holder id (ap (λ (place : FlowPlace). place.holders) good.seated.same) enough now.1.1 here) kept k.fresh;
@@ -129,15 +131,15 @@ module _ (m : Module) (input : Input) (whole : Sections) (f : Frame m input whol
       after = after_then m input whole f p around false false b between later state mid last u w grown k.kept_is.after now.0;
     }
 
-    does_coming : (l : Trail) → IsInside p.structs true e.ty a l → (r : Reached) (id : ℕ) (v : Value) (b : Flow) (s : shader.State) (units : ℕ) (state : State) → Good m input whole f p around b s state → first ≤ b.place.used → IsTrail m input whole f p around false e.traits.is_loose b state r l → is_value_of p.structs t v ≡ true
+    does_coming : (l : Trail) → IsInside p.structs true e.ty a l → (r : Reached) (id : ℕ) (v : Value) (b : Flow) (s : shader.State) (units : ℕ) (state : State) → Good m input whole f p around b s state → first ≤ b.place.used → IsTrail m input whole f p around false c.start b state r l → is_value_of p.structs t v ≡ true
         → Stands state.ids id v → Does m input whole f p 0 units state (IsPassed false first waits t e x b state) none_waits (Got (record { value = v; back = Some a }) s units) (coming_back waits r id b)
     unfolding coming_back
     does_coming l inside r id v b s units state good enough is typed stands =
         does_then m input whole f p 0 units b state (HeldFresh l s b state) none_waits (IsPassed false first waits t e x b state) none_waits (Got tt s units) (λ (one : Unit {0}). shader_run.given {A = ShaderPassed} (record { value = v; back = Some a })) (hold_reached waits r b) (λ kept. keep id >>= (λ h. given (passed h waits (Some kept)))) good.inside
         (adds_held waits r b) (λ kept. adds_then (keep id) (λ h. given (passed h waits (Some kept))) (adds_keep id) (λ h. adds_given (passed h waits (Some kept))))
-        (does_with m input whole f p units state (λ kept later. AreIds (FreshBy waits b.place.holders b.place.used later.place.used) kept) (IsKept m input whole f p around waits e.traits.is_loose l s b state) (HeldFresh l s b state) none_waits (Got tt s units) (hold_reached waits r b) (held_fresh waits r b)
+        (does_with m input whole f p units state (λ kept later. AreIds (FreshBy waits b.place.holders b.place.used later.place.used) kept) (IsKept m input whole f p around waits c.start l s b state) (HeldFresh l s b state) none_waits (Got tt s units) (hold_reached waits r b) (held_fresh waits r b)
         (λ kept later one u last fresh x. record { kept_is = x; fresh = fresh })
-        (is_held m input whole f p around s e.traits.is_loose waits r l units b state good is))
+        (is_held m input whole f p around s c.start waits r l units b state good is))
         (λ kept between one u left mid within grown k less.
         does_then m input whole f p 0 left between mid (NowWaits m input whole f p around v between mid) none_waits (IsPassed false first waits t e x b state) none_waits (Got tt u left) (λ (one : Unit {0}). shader_run.given {A = ShaderPassed} (record { value = v; back = Some a })) (keep id between) (λ h. given (passed h waits (Some kept))) within
         (adds_keep id between) (λ h. adds_given (passed h waits (Some kept)))
@@ -184,13 +186,13 @@ module _ (m : Module) (input : Input) (whole : Sections) (f : Frame m input whol
     module _ (c : ComesBack m input whole f p around t e x) where
       -- what it leads to, and what goes on with that
       module _ (next : Reached → Emit Passed) (adds : (r : Reached) → Adds (next r)) (go : Access → Run ShaderPassed)
-          (inside_does : (a : Access) (l : Trail) → IsInside p.structs true e.ty a l → (r : Reached) (b : Flow) (s : shader.State) (units : ℕ) (state : State) → Good m input whole f p around b s state → first ≤ b.place.used → IsTrail m input whole f p around false e.traits.is_loose b state r l
+          (inside_does : (a : Access) (l : Trail) → IsInside p.structs true e.ty a l → (r : Reached) (b : Flow) (s : shader.State) (units : ℕ) (state : State) → Good m input whole f p around b s state → first ≤ b.place.used → IsTrail m input whole f p around false c.start b state r l
           → Does m input whole f p 0 units state (IsPassed false first waits t e x b state) none_waits (go a s units) (next r b))
-          (outside_does : (l : Trail) → IsOutside p.structs true e.ty l → (r : Reached) (b : Flow) (s : shader.State) (units : ℕ) (state : State) → Good m input whole f p around b s state → IsTrail m input whole f p around false e.traits.is_loose b state r l
+          (outside_does : (l : Trail) → IsOutside p.structs true e.ty l → (r : Reached) (b : Flow) (s : shader.State) (units : ℕ) (state : State) → Good m input whole f p around b s state → IsTrail m input whole f p around false c.start b state r l
           → Does m input whole f p 0 units state (λ pass later (q : ShaderPassed) u last. ⊥) none_waits Strays (next r b)) where
         led : (b : Flow) (s : shader.State) (units : ℕ) (state : State) → Good m input whole f p around b s state → first ≤ b.place.used → Does m input whole f p 0 units state (IsPassed e.traits.splits first waits t e x b state) none_waits (shader_run.◌>>=◌ x.access go s units) ((e.reach >>= next) b)
         led b s units state good enough =
-            does_then m input whole f p 0 units b state (HasReached m input whole f p around e.traits.splits e.traits.is_loose true e.ty b state) (HasStrayed m input whole f p around e.traits.splits e.traits.is_loose true e.ty b state) (IsPassed e.traits.splits first waits t e x b state) none_waits
+            does_then m input whole f p 0 units b state (HasReached m input whole f p around e.traits.splits c.start true e.ty b state) (HasStrayed m input whole f p around e.traits.splits c.start true e.ty b state) (IsPassed e.traits.splits first waits t e x b state) none_waits
             (x.access s units) go (e.reach b) next good.inside (c.leads.adds b) adds
             (c.leads.does b s units state good)
             (λ r between a u left mid within grown q less.
@@ -214,13 +216,13 @@ module _ (m : Module) (input : Input) (whole : Sections) (f : Frame m input whol
         abbrev begins : Access → Run ShaderPassed
         begins a = shader_run.given {A = ShaderPassed} (record { value = zero_value p.structs t; back = Some a })
 
-        out_in : (a : Access) (l : Trail) → IsInside p.structs true e.ty a l → (r : Reached) (b : Flow) (s : shader.State) (units : ℕ) (state : State) → Good m input whole f p around b s state → first ≤ b.place.used → IsTrail m input whole f p around false e.traits.is_loose b state r l
+        out_in : (a : Access) (l : Trail) → IsInside p.structs true e.ty a l → (r : Reached) (b : Flow) (s : shader.State) (units : ℕ) (state : State) → Good m input whole f p around b s state → first ≤ b.place.used → IsTrail m input whole f p around false c.start b state r l
             → Does m input whole f p 0 units state (IsPassed false first waits t e x b state) none_waits (begins a s units) (passed_out p.structs waits t e.ty r b)
         unfolding passed_out
         out_in a l inside r b s units state good enough is =
-            does_then m input whole f p 0 units b state (IsTested m input whole f p around are e.traits.is_loose e.ty c.sound_place b s state) none_waits (IsPassed false first waits t e x b state) none_waits (Got tt s units) (λ (one : Unit {0}). begins a) (lift (probe p.structs true e.ty r) b) (λ done. zeros t >>= coming_back waits r) good.inside
+            does_then m input whole f p 0 units b state (IsTested m input whole f p around are c.start e.ty c.sound_place b s state) none_waits (IsPassed false first waits t e x b state) none_waits (Got tt s units) (λ (one : Unit {0}). begins a) (lift (probe p.structs true e.ty r) b) (λ done. zeros t >>= coming_back waits r) good.inside
             (adds_probe m input whole p.structs true e.ty r b) (λ done. adds_out_zeros r)
-            (probe_in m input whole f p around are e.traits.is_loose e.ty c.sound_place b s units state r l good is true a inside)
+            (probe_in m input whole f p around are c.start e.ty c.sound_place b s units state r l good is true a inside)
             (λ done b1 one u left mid within grown tested less.
             does_then m input whole f p 0 left b1 mid (HasGiven m input whole f p around false t b1 mid) none_waits (IsPassed false first waits t e x b state) none_waits (Got (zero_value p.structs t) u left) (λ v. shader_run.given {A = ShaderPassed} (record { value = v; back = Some a })) (zeros t b1) (coming_back waits r) within
             (z.gives.adds b1) (adds_coming waits r)
@@ -231,17 +233,17 @@ module _ (m : Module) (input : Input) (whole : Sections) (f : Frame m input whol
             does_so m input whole f p around 0 rest mid2 (IsPassed false first waits t e x b2 mid2) (IsPassed false first waits t e x b state) (Got (record { value = v; back = Some a }) w rest) (coming_back waits r id b2)
             (λ pass later q last_s last one. passed_from false first waits t e x b b2 later state mid2 last w last_s pass q (grown_then grown more) after one)
             (does_coming first waits t e x c a l inside r id v b2 w rest mid2 has.after.good (let used = grown.used in let used2 = more.used in omega (arith, used, used2, enough))
-            (trail_after m input whole f p around false e.traits.is_loose b b2 state mid2 w r l (grown_then grown more) after is) got.0 got.1))
+            (trail_after m input whole f p around false c.start b b2 state mid2 w r l (grown_then grown more) after is) got.0 got.1))
             (λ id b2 w rest mid2 within2 more none less2. absurd none))
             (λ done b1 u left mid within grown none less. absurd none)
 
-        out_out : (l : Trail) → IsOutside p.structs true e.ty l → (r : Reached) (b : Flow) (s : shader.State) (units : ℕ) (state : State) → Good m input whole f p around b s state → IsTrail m input whole f p around false e.traits.is_loose b state r l
+        out_out : (l : Trail) → IsOutside p.structs true e.ty l → (r : Reached) (b : Flow) (s : shader.State) (units : ℕ) (state : State) → Good m input whole f p around b s state → IsTrail m input whole f p around false c.start b state r l
             → Does m input whole f p 0 units state (λ pass later (q : ShaderPassed) u last. ⊥) none_waits Strays (passed_out p.structs waits t e.ty r b)
         unfolding passed_out
         out_out l outside r b s units state good is =
             does_then m input whole f p 0 units b state (λ done later (one : Unit {0}) u last. ⊥) none_waits (λ pass later (q : ShaderPassed) u last. ⊥) none_waits Strays (λ (one : Unit {0}) u left. Strays) (lift (probe p.structs true e.ty r) b) (λ done. zeros t >>= coming_back waits r) good.inside
             (adds_probe m input whole p.structs true e.ty r b) (λ done. adds_out_zeros r)
-            (probe_out m input whole f p around are e.traits.is_loose e.ty c.sound_place b s units state r l good is (λ done later (one : Unit {0}) u last. ⊥) c.some outside)
+            (probe_out m input whole f p around are c.start e.ty c.sound_place b s units state r l good is (λ done later (one : Unit {0}) u last. ⊥) c.some outside)
             (λ done b1 one u left mid within grown none less. absurd none)
             (λ done b1 u left mid within grown none less. absurd none)
 
@@ -258,29 +260,29 @@ module _ (m : Module) (input : Input) (whole : Sections) (f : Frame m input whol
       holds a = shader_run.told_by {A = ShaderPassed} (λ u. record { value = means_read p.structs x.ty a u; back = Some a })
 
       module _ (same : e.ty ≡ t) where
-        both_in : (a : Access) (l : Trail) → IsInside p.structs true e.ty a l → (r : Reached) (b : Flow) (s : shader.State) (units : ℕ) (state : State) → Good m input whole f p around b s state → first ≤ b.place.used → IsTrail m input whole f p around false e.traits.is_loose b state r l
+        both_in : (a : Access) (l : Trail) → IsInside p.structs true e.ty a l → (r : Reached) (b : Flow) (s : shader.State) (units : ℕ) (state : State) → Good m input whole f p around b s state → first ≤ b.place.used → IsTrail m input whole f p around false c.start b state r l
             → Does m input whole f p 0 units state (IsPassed false first waits t e x b state) none_waits (holds a s units) (passed_both p.structs waits e.ty r b)
         unfolding passed_both
         both_in a l inside r b s units state good enough is =
             subst (λ ty. Does m input whole f p 0 units state (IsPassed false first waits t e x b state) none_waits (Got (record { value = means_read p.structs ty a s; back = Some a }) s units) ((reads p.structs e.ty r >>= coming_back waits r) b)) (sym c.meant)
             (does_then m input whole f p 0 units b state (HasGiven m input whole f p around false e.ty b state) none_waits (IsPassed false first waits t e x b state) none_waits (Got (means_read p.structs e.ty a s) s units) (λ v. shader_run.given {A = ShaderPassed} (record { value = v; back = Some a })) (reads p.structs e.ty r b) (coming_back waits r) good.inside
             (adds_reads m input whole p.structs e.ty r b) (adds_coming waits r)
-            (taken m input whole f p around are e.traits.is_loose true e.ty c.sound_place b s state r a l good is inside units)
+            (own_read m input whole f p around are c.start true e.ty c.sound_place b s state r a l good (own_named m input whole f p around b state c.start r l is (inside.named refl)) inside units)
             (λ id b2 v w rest mid2 within2 more has less2.
             let got = given_value m input whole f p around mid2.ids id e.ty v c.real_place has.given in
             does_so m input whole f p around 0 rest mid2 (IsPassed false first waits t e x b2 mid2) (IsPassed false first waits t e x b state) (Got (record { value = v; back = Some a }) w rest) (coming_back waits r id b2)
             (λ pass later q last_s last one. passed_from false first waits t e x b b2 later state mid2 last w last_s pass q more has.after one)
             (does_coming first waits t e x c a l inside r id v b2 w rest mid2 has.after.good (let used2 = more.used in omega (arith, used2, enough))
-            (trail_after m input whole f p around false e.traits.is_loose b b2 state mid2 w r l more has.after is) (subst (λ ty. is_value_of p.structs ty v ≡ true) same got.0) got.1))
+            (trail_after m input whole f p around false c.start b b2 state mid2 w r l more has.after is) (subst (λ ty. is_value_of p.structs ty v ≡ true) same got.0) got.1))
             (λ id b2 w rest mid2 within2 more none less2. absurd none))
 
-        both_out : (l : Trail) → IsOutside p.structs true e.ty l → (r : Reached) (b : Flow) (s : shader.State) (units : ℕ) (state : State) → Good m input whole f p around b s state → IsTrail m input whole f p around false e.traits.is_loose b state r l
+        both_out : (l : Trail) → IsOutside p.structs true e.ty l → (r : Reached) (b : Flow) (s : shader.State) (units : ℕ) (state : State) → Good m input whole f p around b s state → IsTrail m input whole f p around false c.start b state r l
             → Does m input whole f p 0 units state (λ pass later (q : ShaderPassed) u last. ⊥) none_waits Strays (passed_both p.structs waits e.ty r b)
         unfolding passed_both
         both_out l outside r b s units state good is =
             does_then m input whole f p 0 units b state (λ id later (one : Unit {0}) u last. ⊥) none_waits (λ pass later (q : ShaderPassed) u last. ⊥) none_waits Strays (λ (one : Unit {0}) u left. Strays) (reads p.structs e.ty r b) (coming_back waits r) good.inside
             (adds_reads m input whole p.structs e.ty r b) (adds_coming waits r)
-            (read_strays m input whole f p around are e.traits.is_loose true e.ty b s state r l good is outside units (λ id later (one : Unit {0}) u last. ⊥))
+            (own_strays_all m input whole f p around are c.start true e.ty b s state r l good (own_named m input whole f p around b state c.start r l is (outside.named refl)) outside units (λ id later (one : Unit {0}) u last. ⊥))
             (λ id b1 one u left mid within grown none less. absurd none)
             (λ id b1 u left mid within grown none less. absurd none)
 

@@ -20,7 +20,7 @@ use Rattle.gsl_lower_expr.specs.Calls.{zeros}
 use Rattle.gsl_lower_expr.specs.Parts.{Lower, scalar_of}
 use Rattle.gsl_lower_follows.specs.Frames.{Frame}
 use Rattle.gsl_lower_follows.specs.Giving.{GivesValue}
-use Rattle.gsl_lower_reaching.specs.Reaching.{GivesPlace}
+use Rattle.gsl_lower_reaching.specs.Reaching.{GivesPlace, Start}
 
 module _ (m : Module) (input : Input) (whole : Sections) (f : Frame m input whole) (p : Program) (around : Around) where
   -- An argument gives the value with which a parameter of a type begins.
@@ -35,7 +35,8 @@ module _ (m : Module) (input : Input) (whole : Sections) (f : Frame m input whol
     pub sound_place : IsSound (length p.structs) e.ty
     pub real_place : e.ty ≢ Void
     pub meant : x.ty ≡ e.ty
-    pub leads : GivesPlace m input whole f p around e.traits.splits e.traits.is_loose true e.ty e.reach x.access
+    pub start : Start
+    pub leads : GivesPlace m input whole f p around e.traits.splits start true e.ty e.reach x.access
     pub some : (v : Value) × (is_value_of p.structs e.ty v ≡ true)
     pub fits : (v : Value) → is_value_of p.structs t v ≡ true → is_value_of p.structs e.ty v ≡ true
     pub words : (shape : Shape) (v : Value) → shape_of t ≡ Some shape → is_value_of p.structs t v ≡ true → converted_value (scalar_of e.ty) v ≡ v

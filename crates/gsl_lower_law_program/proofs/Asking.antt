@@ -175,8 +175,8 @@ module _ (m : Module) (input : Input) (whole : Sections) (p : Program) (place : 
   Wanted = AsksBelow m input whole p place stages rank below depth f params locals
 
   one_asked : (e : Expr) (form : ExprKind-F ExprKind Expr) → AllIn May (calls_form May form) → IsAssigned p form → AsksElseFor m input whole p place stages depth f params locals e form → AsksBelowFor m input whole p place stages rank below depth f params locals e form
-  one_asked e (ExprKind-F.Assign a b) all assigned ask = assigned
-  one_asked e (ExprKind-F.Call number args) all assigned ask = all number (in_back (flat (map calls_in args)) (number ∷ []) number (or_left (nat_eq number number) false (eq-eqb number number refl)))
+  one_asked e (ExprKind-F.Assign a b) all assigned ask = (assigned, ask)
+  one_asked e (ExprKind-F.Call number args) all assigned ask = (all number (in_back (flat (map calls_in args)) (number ∷ []) number (or_left (nat_eq number number) false (eq-eqb number number refl))), ask)
   one_asked e form all assigned ask = ask
 
   mutual

@@ -40,8 +40,8 @@ module _ (m : Module) (input : Input) (whole : Sections) (p : Program) (place : 
   one_asked : (e : Expr) (form : ExprKind-F ExprKind Expr) → form_of e ≡ form → IsNode around e → AsksBelowFor m input whole p place stages rank below depth f params locals e form
       → AsksFor m input whole f p params locals (call_of p) (stage_of p input) (calls p input depth) e form
   one_asked e (ExprKind-F.Call number args) is node may = λ xs.
-      call_evaluates m input whole f p params locals (stage_of p input) (calls p input depth) types knows place stages (globals_of p) e number may.function args is node of_module (record { globals = refl; interfaces = refl }) may.known
-      (λ head named. lower number may.less head may.function named may.known) xs
+      call_evaluates m input whole f p params locals (stage_of p input) (calls p input depth) types knows place stages (globals_of p) e number may.0.function args is node of_module (record { globals = refl; interfaces = refl }) may.0.known may.1
+      (λ head named. lower number may.0.less head may.0.function named may.0.known) xs
   one_asked e form is node asks = asks
 
   mutual

@@ -6,6 +6,8 @@ use Rattle.gsl_types.specs.declared.ty.Direction.{Direction}
 use Rattle.gsl_types.specs.declared.ty.Ty.{Ty}
 use Rattle.gsl_words.specs.declared.module.Module.{Module}
 use Rattle.gsl_values.specs.declared.value.Value.{Value}
+use Rattle.gsl_tree.specs.Paths.{coming_out, in_block}
+use Rattle.gsl_tree.specs.Weights.{params_of}
 use Rattle.gsl_tree.specs.Trees.{AlongAll, Exits, Throughout, exprs_of, form_of, outside, type_of, with_exits}
 use Rattle.gsl_tree.specs.declared.expr.Expr.{Expr}
 use Rattle.gsl_tree.specs.declared.expr.ExprKind.{ExprKind}
@@ -19,15 +21,15 @@ use Rattle.gsl_spv.specs.Sections.{Sections}
 use Rattle.gsl_lower_holders.specs.declared.place.FlowPlace.{FlowPlace}
 use Rattle.gsl_lower_follows.specs.Frames.{Frame}
 use Rattle.gsl_lower_law_entered.specs.Modules.{IsFrame}
-use Rattle.gsl_lower_law_evaluated.specs.Evaluating.{AsksFor}
-use Rattle.gsl_lower_law_shader.specs.Depths.{call_of, stage_of}
+use Rattle.gsl_lower_law_evaluated.specs.Evaluating.{AsksFor, HasValue}
+use Rattle.gsl_lower_law_shader.specs.Depths.{IsApart, call_of, stage_of}
 
 module _ (m : Module) (input : Input) (whole : Sections) (p : Program) (place : FlowPlace) (stages : List (Option Value)) where
   module _ (depth : ℕ) (f : Frame m input whole) (params : List (Direction × Ty)) (locals : List Ty) where
-    -- Of calls and assignments nothing is asked.
+    -- Of calls and assignments nothing is asked, but that they store nothing in blocks, or do what they do there.
     abbrev pub AsksElseFor : Expr → ExprKind-F ExprKind Expr → Type 0
-    AsksElseFor e (ExprKind-F.Call number args) = Unit {0}
-    AsksElseFor e (ExprKind-F.Assign a b) = Unit {0}
+    AsksElseFor e (ExprKind-F.Call number args) = AllByRecursion IsApart (coming_out (params_of (slice_get p.prototypes number)) args)
+    AsksElseFor e (ExprKind-F.Assign a b) = in_block a ≡ true → HasValue m input whole f p params locals (call_of p) (stage_of p input) (calls p input depth) e
     AsksElseFor e form = AsksFor m input whole f p params locals (call_of p) (stage_of p input) (calls p input depth) e form
 
     abbrev pub AsksElse : Expr → Type 0

@@ -1,5 +1,5 @@
 -- The functions of a program where they stand in a module, and what their calls do at a depth (GLSL 4.50, 6.1).
-use Rattle.std.specs.Prelude.{◌≡◌, ℕ, ◌<◌, List, [], map, length, slice_get, Option, Some}
+use Rattle.std.specs.Prelude.{◌≡◌, ℕ, ◌<◌, false, List, [], map, length, slice_get, Option, Some}
 use Rattle.std.specs.List.{AllByRecursion}
 use Rattle.gsl_base.specs.declared.input.Input.{Input}
 use Rattle.gsl_types.specs.Known.{IsSound}
@@ -8,8 +8,10 @@ use Rattle.gsl_types.specs.declared.ty.Ty.{Ty}
 use Rattle.gsl_words.specs.declared.module.Module.{Module}
 use Rattle.gsl_values.specs.declared.value.Value.{Value}
 use Rattle.gsl_tree.specs.Around.{Around}
+use Rattle.gsl_tree.specs.Paths.{coming_out, in_block}
 use Rattle.gsl_tree.specs.Statements.{IsBody}
 use Rattle.gsl_tree.specs.Trees.{AlongAll, Exits, Throughout, exprs_of, form_of, outside, type_of, with_exits}
+use Rattle.gsl_tree.specs.Weights.{params_of}
 use Rattle.gsl_tree.specs.WellTyped.{IsResult, around_body, program_lists}
 use Rattle.gsl_tree.specs.declared.expr.Expr.{Expr}
 use Rattle.gsl_tree.specs.declared.expr.ExprKind.{ExprKind}
@@ -56,6 +58,10 @@ body_of p f result = bodied (in_turn (statements_of p f)) (any_leaves (map (λ (
 abbrev pub globals_of : Program → Around
 globals_of p = around_body (program_lists p) [] []
 
+-- An expression stands for no part of a block.
+abbrev pub IsApart : Expr → Type 0
+IsApart e = in_block e ≡ false
+
 module _ (m : Module) (input : Input) (whole : Sections) (p : Program) (place : FlowPlace) (stages : List (Option Value)) where
   -- A function of the module does what that of a head means, where calls nest at most so deep.
   abbrev pub DoesAt : ℕ → ℕ → ℕ → Prototype → Type 0
@@ -72,9 +78,9 @@ module _ (m : Module) (input : Input) (whole : Sections) (p : Program) (place : 
     pub known : slice_get place.functions number ≡ Some function
 
   module _ (rank : ℕ → ℕ) (below depth : ℕ) (f : Frame m input whole) (params : List (Direction × Ty)) (locals : List Ty) where
-    -- What is asked of an expression: of a call that the module has its function, which ranks lower; of all others what is asked of them anywhere.
+    -- What is asked of an expression: of a call that the module has its function, which ranks lower, and that no value comes back to a part of a block; of all others what is asked of them anywhere.
     abbrev pub AsksBelowFor : Expr → ExprKind-F ExprKind Expr → Type 0
-    AsksBelowFor e (ExprKind-F.Call number args) = MayCall rank below number
+    AsksBelowFor e (ExprKind-F.Call number args) = MayCall rank below number × AllByRecursion IsApart (coming_out (params_of (slice_get p.prototypes number)) args)
     AsksBelowFor e form = AsksFor m input whole f p params locals (call_of p) (stage_of p input) (calls p input depth) e form
 
     abbrev pub AsksBelow : Expr → Type 0

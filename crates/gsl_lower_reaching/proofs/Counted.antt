@@ -19,7 +19,7 @@ use Rattle.gsl_values.specs.declared.value.Value.{Value}
 use Rattle.gsl_values.specs.declared.value.Value.TheOpen.{Value-F}
 use Rattle.gsl_values.specs.declared.value.Value.TheViews.{out-Value}
 use Rattle.gsl_tree.specs.Expressions.{element_kind, element_of, member_types}
-use Rattle.gsl_tree.specs.Operations.{length_kind, length_of, member_value}
+use Rattle.gsl_tree.specs.Operations.{has_fixed_length, is_fixed_kind, length_kind, length_of, member_value}
 use Rattle.gsl_tree.specs.Shapes.{Shape, shape_kind, shape_of}
 use Rattle.gsl_tree.specs.Values.{all_pass, has_parts, has_parts_layer, is_scalar, is_value_of, parts_in, parts_layer, value_meaning}
 use Rattle.gsl_tree.proofs.Nodes.{value_of_array, value_of_vector}
@@ -55,6 +55,29 @@ counted structs base element v has fits = by (out-Ty base) (roll-out-Ty base) ha
     by (Ty-F.Array other n) e is = parts_count (replicate n (is_value_of structs other)) (out-Value v) (sym (ap (λ u. is_value_of structs u v) (sym e ∙ rolls-Array other n) ∙ value_of_array structs other n v) ∙ fits) ∙ length-replicate n (is_value_of structs other)
     by (Ty-F.Runtime other) e is = absurd (false≢true (sym (ap (λ u. is_value_of structs u v) (sym e ∙ rolls-Runtime other) ∙ ap (λ (test : Value → Bool). test v) (over_runtime value_meaning (numbered value_meaning structs) other)) ∙ fits))
     by (Ty-F.Struct number) e is = absurd cc
+
+-- the type of what has elements and a value tells its length, and so does that of a vector
+pub value_fixed : (structs : List StructType) (base element : Ty) (v : Value) → element_of base ≡ Some element → is_value_of structs base v ≡ true → has_fixed_length base ≡ true
+value_fixed structs base element v has fits = by (out-Ty base) (roll-out-Ty base) has
+  where
+    by : (layer : Ty-F Ty) → roll-Ty layer ≡ base → element_kind layer ≡ Some element → is_fixed_kind layer ≡ true
+    by Ty-F.Void e is = absurd cc
+    by (Ty-F.One s) e is = absurd cc
+    by (Ty-F.Vector s n) e is = refl
+    by (Ty-F.Array other n) e is = refl
+    by (Ty-F.Runtime other) e is = absurd (false≢true (sym (ap (λ u. is_value_of structs u v) (sym e ∙ rolls-Runtime other) ∙ ap (λ (test : Value → Bool). test v) (over_runtime value_meaning (numbered value_meaning structs) other)) ∙ fits))
+    by (Ty-F.Struct number) e is = absurd cc
+
+pub shape_fixed : (base element : Ty) (shape : Shape) → element_of base ≡ Some element → shape_of base ≡ Some shape → has_fixed_length base ≡ true
+shape_fixed base element shape has of = by (out-Ty base) has of
+  where
+    by : (layer : Ty-F Ty) → element_kind layer ≡ Some element → shape_kind layer ≡ Some shape → is_fixed_kind layer ≡ true
+    by Ty-F.Void is of = absurd cc
+    by (Ty-F.One s) is of = absurd cc
+    by (Ty-F.Vector s n) is of = refl
+    by (Ty-F.Array other n) is of = refl
+    by (Ty-F.Runtime other) is of = absurd cc
+    by (Ty-F.Struct number) is of = absurd cc
 
 members_count : (members : List Member) → length (member_types members) ≡ length members
 members_count [] = refl

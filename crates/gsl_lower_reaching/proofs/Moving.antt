@@ -21,8 +21,9 @@ use Rattle.gsl_lower_holders.specs.Flow.{Flow}
 use Rattle.gsl_lower_follows.specs.Frames.{Frame, HeldAs, Waits}
 use Rattle.gsl_lower_follows.specs.Giving.{After, Grown}
 use Rattle.gsl_lower_follows.proofs.Holding.{held_after, waits_after}
-use Rattle.gsl_lower_reaching.specs.Reaching.{At, Begins, ChoosesBy, IsFixed, IsTrail, NumberBy, NumberEachBy, PicksBy}
+use Rattle.gsl_lower_reaching.specs.Reaching.{At, Begins, ChoosesBy, IsBlockTrail, IsFixed, IsOwnTrail, IsTrail, NumberBy, NumberEachBy, PicksBy, Start}
 use Rattle.gsl_lower_reaching.specs.Reaching.Begins.{variable, value, holder}
+use Rattle.gsl_lower_reaching.specs.Reaching.IsTrail.{own, in_block}
 use Rattle.gsl_lower_reaching.specs.Trails.{Chosen, Trail}
 
 -- ---- what ids are of numbers
@@ -83,7 +84,7 @@ module _ (ids : Ids) where
 -- ---- where trails begin
 
 module _ (m : Module) (input : Input) (whole : Sections) (f : Frame m input whole) (p : Program) (around : Around) where
-  pub begins_so : (one other : At) (few more : ℕ) (state last : State) (loose : Bool) (base : Base) (parts : List Part) (l : Trail) → ((id : ℕ) (v : Value) → one id v → other id v)
+  pub begins_so : (one other : At) (few more : ℕ) (state last : State) (loose : Start) (base : Base) (parts : List Part) (l : Trail) → ((id : ℕ) (v : Value) → one id v → other id v)
       → ((id : ℕ) (v : Value) → Waits m input whole f few id v state → Waits m input whole f more id v last)
       → Begins m input whole f p around one few state loose base parts l → Begins m input whole f p around other more last loose base parts l
   begins_so one other few more state last loose base parts l so waits (variable x) = variable (record { name = x.name; id = x.id; class = x.class; number = x.number; is = x.is; marked = x.marked; outside = x.outside; begins = x.begins; none = x.none; seat = x.seat; points = x.points; typed = x.typed })
@@ -91,9 +92,9 @@ module _ (m : Module) (input : Input) (whole : Sections) (f : Frame m input whol
   begins_so one other few more state last loose base parts l so waits (holder x) = holder (record { id = x.id; value = x.value; is = x.is; begins = x.begins; waits = waits x.id _ x.waits; typed = x.typed })
 
   -- a trail is one in a later state
-  pub trail_after : (waits loose : Bool) (b later : Flow) (state last : State) (s : shader.State) (r : Reached) (l : Trail) → Grown b later → After m input whole f p around waits b state later s last → IsTrail m input whole f p around waits loose b state r l
-      → IsTrail m input whole f p around waits loose later last r l
-  trail_after waits loose b later state last s r l grown after is = record {
+  pub own_after : (waits : Bool) (loose : Start) (b later : Flow) (state last : State) (s : shader.State) (r : Reached) (l : Trail) → Grown b later → After m input whole f p around waits b state later s last → IsOwnTrail m input whole f p around waits loose b state r l
+      → IsOwnTrail m input whole f p around waits loose later last r l
+  own_after waits loose b later state last s r l grown after is = record {
     begins = begins_so (λ id v. HeldAs m input whole f waits id v b state) (λ id v. HeldAs m input whole f waits id v later last) b.place.used later.place.used state last loose r.base r.path l so
         (λ id v w. waits_after m input whole f p around waits b later state last s id v grown after w) is.begins;
     numbers = numbers_so (λ id v. HeldAs m input whole f waits id v b state) (λ id v. HeldAs m input whole f waits id v later last) so r.path l.words is.numbers;
@@ -102,3 +103,19 @@ module _ (m : Module) (input : Input) (whole : Sections) (f : Frame m input whol
     where
       so : (id : ℕ) (v : Value) → HeldAs m input whole f waits id v b state → HeldAs m input whole f waits id v later last
       so id v held = held_after m input whole f p around waits b later state last s id v grown after held
+
+  pub block_after : (waits : Bool) (loose : Start) (b later : Flow) (state last : State) (s : shader.State) (r : Reached) (l : Trail) → Grown b later → After m input whole f p around waits b state later s last → IsBlockTrail m input whole f p around waits loose b state r l
+      → IsBlockTrail m input whole f p around waits loose later last r l
+  block_after waits loose b later state last s r l grown after is = record {
+    begins = is.begins;
+    numbers = numbers_so (λ id v. HeldAs m input whole f waits id v b state) (λ id v. HeldAs m input whole f waits id v later last) so r.path (l.front ++ l.words) is.numbers;
+    picks = picks_so (λ id v. HeldAs m input whole f waits id v b state) (λ id v. HeldAs m input whole f waits id v later last) so r.picked l.picks is.picks;
+  }
+    where
+      so : (id : ℕ) (v : Value) → HeldAs m input whole f waits id v b state → HeldAs m input whole f waits id v later last
+      so id v held = held_after m input whole f p around waits b later state last s id v grown after held
+
+  pub trail_after : (waits : Bool) (loose : Start) (b later : Flow) (state last : State) (s : shader.State) (r : Reached) (l : Trail) → Grown b later → After m input whole f p around waits b state later s last → IsTrail m input whole f p around waits loose b state r l
+      → IsTrail m input whole f p around waits loose later last r l
+  trail_after waits loose b later state last s r l grown after (own is) = own (own_after waits loose b later state last s r l grown after is)
+  trail_after waits loose b later state last s r l grown after (in_block is) = in_block (block_after waits loose b later state last s r l grown after is)

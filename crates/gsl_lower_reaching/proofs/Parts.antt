@@ -29,8 +29,9 @@ use Rattle.gsl_lower_law_places.specs.Components.{AreWithin, chosen}
 use Rattle.gsl_lower_law_picks.specs.Outside.{HasPart}
 use Rattle.gsl_lower_holders.specs.Flow.{Flow}
 use Rattle.gsl_lower_follows.specs.Frames.{Frame, HeldAs}
-use Rattle.gsl_lower_reaching.specs.Reaching.{At, AtValue, Begins, IsFixed, IsTrail, PicksBy}
+use Rattle.gsl_lower_reaching.specs.Reaching.{At, AtValue, Begins, IsFixed, IsOwnTrail, PicksBy, Start}
 use Rattle.gsl_lower_reaching.specs.Reaching.Begins.{variable, value, holder}
+use Rattle.gsl_lower_reaching.specs.Reaching.Start.{OfValue}
 use Rattle.gsl_lower_reaching.specs.Stepping.{Swizzles}
 use Rattle.gsl_lower_reaching.specs.Trails.{ArePicked, ArePositions, Chosen, IsInside, IsMissing, IsOut, IsOutside, IsPicked, LacksComponent, LeadsOut, MayWrite, Trail}
 use Rattle.gsl_lower_reaching.specs.Trails.ArePicked.{swizzled as as_swizzle, component, repeated}
@@ -199,7 +200,7 @@ module _ (structs : List StructType) (writes written : Bool) (base t : Ty) (shap
 -- ---- what was reached
 
 module _ (m : Module) (input : Input) (sections : Sections) (f : Frame m input sections) (p : Program) (around : Around) where
-  pub begins_longer : (at : At) (count : ℕ) (state : State) (loose : Bool) (base : Base) (parts : List Part) (l : Trail) (part : Part) (k : ℕ) → (loose ≡ true → (number : ℕ) × (part ≡ Fixed number))
+  pub begins_longer : (at : At) (count : ℕ) (state : State) (loose : Start) (base : Base) (parts : List Part) (l : Trail) (part : Part) (k : ℕ) → (loose ≡ OfValue → (number : ℕ) × (part ≡ Fixed number))
       → ((x : AtValue m input sections f p around at loose base parts l) → HasPart x.value (l.words ++ k ∷ [])) → Begins m input sections f p around at count state loose base parts l → Begins m input sections f p around at count state loose base (parts ++ part ∷ []) (longer l k)
   begins_longer at count state loose base parts l part k fixed more (variable x) = variable (record { name = x.name; id = x.id; class = x.class; number = x.number; is = x.is; marked = x.marked; outside = x.outside; begins = x.begins; none = x.none; seat = x.seat; points = x.points; typed = x.typed })
   begins_longer at count state loose base parts l part k fixed more (value x) =
@@ -207,22 +208,22 @@ module _ (m : Module) (input : Input) (sections : Sections) (f : Frame m input s
       value (record { id = x.id; type_id = x.type_id; value = x.value; is = x.is; marked = x.marked; fixed = subst (λ one. AllByRecursion IsFixed (parts ++ one ∷ [])) (sym known.1) (fixed_longer parts known.0 x.fixed); begins = x.begins; none = x.none; stands = x.stands; typed = x.typed; has = more x })
   begins_longer at count state loose base parts l part k fixed more (holder x) = holder (record { id = x.id; value = x.value; is = x.is; begins = x.begins; waits = x.waits; typed = x.typed })
 
-  pub begins_swizzled : (at : At) (count : ℕ) (state : State) (loose : Bool) (base : Base) (parts : List Part) (l : Trail) (picks : Option Chosen) → Begins m input sections f p around at count state loose base parts l → Begins m input sections f p around at count state loose base parts (record l { picks = picks })
+  pub begins_swizzled : (at : At) (count : ℕ) (state : State) (loose : Start) (base : Base) (parts : List Part) (l : Trail) (picks : Option Chosen) → Begins m input sections f p around at count state loose base parts l → Begins m input sections f p around at count state loose base parts (record l { picks = picks })
   begins_swizzled at count state loose base parts l picks (variable x) = variable (record { name = x.name; id = x.id; class = x.class; number = x.number; is = x.is; marked = x.marked; outside = x.outside; begins = x.begins; none = x.none; seat = x.seat; points = x.points; typed = x.typed })
   begins_swizzled at count state loose base parts l picks (value x) = value (record { id = x.id; type_id = x.type_id; value = x.value; is = x.is; marked = x.marked; fixed = x.fixed; begins = x.begins; none = x.none; stands = x.stands; typed = x.typed; has = x.has })
   begins_swizzled at count state loose base parts l picks (holder x) = holder (record { id = x.id; value = x.value; is = x.is; begins = x.begins; waits = x.waits; typed = x.typed })
 
-  pub trail_member : (loose : Bool) (b : Flow) (state : State) (r : Reached) (l : Trail) (number : ℕ) → ((x : AtValue m input sections f p around (λ id v. HeldAs m input sections f false id v b state) loose r.base r.path l) → HasPart x.value (l.words ++ number ∷ []))
-      → IsTrail m input sections f p around false loose b state r l → IsTrail m input sections f p around false loose b state (part_of r (Fixed number)) (longer l number)
-  trail_member loose b state r l number more x = record {
+  pub own_member : (loose : Start) (b : Flow) (state : State) (r : Reached) (l : Trail) (number : ℕ) → ((x : AtValue m input sections f p around (λ id v. HeldAs m input sections f false id v b state) loose r.base r.path l) → HasPart x.value (l.words ++ number ∷ []))
+      → IsOwnTrail m input sections f p around false loose b state r l → IsOwnTrail m input sections f p around false loose b state (part_of r (Fixed number)) (longer l number)
+  own_member loose b state r l number more x = record {
     begins = begins_longer (λ id v. HeldAs m input sections f false id v b state) b.place.used state loose r.base r.path l (Fixed number) number (λ e. (number, refl)) more x.begins;
     numbers = numbers_longer (λ id v. HeldAs m input sections f false id v b state) r.path l.words (Fixed number) number x.numbers refl;
     picks = x.picks;
   }
 
-  pub trail_swizzled : (loose : Bool) (b : Flow) (state : State) (r : Reached) (l : Trail) (shape : Shape) (positions : List ℕ) → IsTrail m input sections f p around false loose b state r l → IsTrail m input sections f p around false loose b state (swizzled shape positions r) (swizzled_trail shape positions l)
+  pub own_swizzled : (loose : Start) (b : Flow) (state : State) (r : Reached) (l : Trail) (shape : Shape) (positions : List ℕ) → IsOwnTrail m input sections f p around false loose b state r l → IsOwnTrail m input sections f p around false loose b state (swizzled shape positions r) (swizzled_trail shape positions l)
   unfolding swizzled
-  trail_swizzled loose b state r l shape positions x = record {
+  own_swizzled loose b state r l shape positions x = record {
     begins = begins_swizzled (λ id v. HeldAs m input sections f false id v b state) b.place.used state loose r.base r.path l (Some (swizzled_chosen shape positions l.picks)) x.begins;
     numbers = x.numbers;
     picks = picks_swizzled (λ id v. HeldAs m input sections f false id v b state) shape positions r.picked l.picks x.picks;

@@ -23,14 +23,14 @@ use Rattle.gsl_lower_law_places.specs.Components.{chosen}
 use Rattle.gsl_lower_law_places.proofs.Variables.{value_on}
 use Rattle.gsl_lower_holders.specs.Flow.{Flow}
 use Rattle.gsl_lower_follows.specs.Frames.{Frame, Global, Good, HasType, Holder, Interface as Passed, Local, Name, Param, Stage, value_of}
-use Rattle.gsl_lower_reaching.specs.Reaching.{At, AtVariable, Begins, root_of}
+use Rattle.gsl_lower_reaching.specs.Reaching.{At, AtVariable, Begins, Start, root_of}
 use Rattle.gsl_lower_reaching.specs.Reaching.Begins.{variable, value, holder}
 use Rattle.gsl_lower_reaching.specs.Trails.{ArePicked, Chosen, IsInside, IsPicked, Trail, effective}
 use Rattle.gsl_lower_reaching.specs.Trails.ArePicked.{swizzled, component, repeated}
 use Rattle.gsl_lower_reaching.proofs.Counted.{counted, vector_counted}
 
 -- the item at a number that is there
-index_is : (vs : List Value) (number : ℕ) (v : Value) → slice_get vs number ≡ Some v → slice_index_or vs number nothing ≡ v
+pub index_is : (vs : List Value) (number : ℕ) (v : Value) → slice_get vs number ≡ Some v → slice_index_or vs number nothing ≡ v
 index_is [] number v e = absurd cc
 index_is (w ∷ vs) zero v e = some_value e
   where
@@ -52,13 +52,13 @@ root_named stages s (Holder number) root v e is = absurd cc
 
 module _ (m : Module) (input : Input) (sections : Sections) (f : Frame m input sections) (p : Program) (around : Around) where
   -- The value of a variable at which a trail begins.
-  pub record HasValue (s : shader.State) (loose : Bool) (base : Base) (l : Trail) (x : AtVariable m input sections f p around loose base l) : Type 0 where
+  pub record HasValue (s : shader.State) (loose : Start) (base : Base) (l : Trail) (x : AtVariable m input sections f p around loose base l) : Type 0 where
     pub v : Value
     pub is : value_of f.stages s x.name ≡ Some v
     pub root : root_value l.root s ≡ v
     pub typed : is_value_of p.structs l.ty v ≡ true
 
-  pub has_value : (b : Flow) (s : shader.State) (state : State) (loose : Bool) (base : Base) (l : Trail) (x : AtVariable m input sections f p around loose base l) → Good m input sections f p around b s state → HasValue s loose base l x
+  pub has_value : (b : Flow) (s : shader.State) (state : State) (loose : Start) (base : Base) (l : Trail) (x : AtVariable m input sections f p around loose base l) → Good m input sections f p around b s state → HasValue s loose base l x
   has_value b s state loose base l x good = by (value_of f.stages s x.name) refl (subst (λ o. HasType m input sections f p around o (value_of f.stages s x.name)) x.typed (good.typed.each x.name))
     where
       by : (o : Option Value) → value_of f.stages s x.name ≡ o → HasType m input sections f p around (Some l.ty) o → HasValue s loose base l x
@@ -66,7 +66,7 @@ module _ (m : Module) (input : Input) (sections : Sections) (f : Frame m input s
       by (Some v) e has = record { v = v; is = e; root = root_named f.stages s x.name l.root v x.begins e; typed = has }
 
   -- what a trail begins at has a value of its type
-  pub begins_typed : (at : At) (count : ℕ) (b : Flow) (s : shader.State) (state last : State) (loose : Bool) (base : Base) (parts : List Part) (l : Trail) → Good m input sections f p around b s state → Begins m input sections f p around at count last loose base parts l
+  pub begins_typed : (at : At) (count : ℕ) (b : Flow) (s : shader.State) (state last : State) (loose : Start) (base : Base) (parts : List Part) (l : Trail) → Good m input sections f p around b s state → Begins m input sections f p around at count last loose base parts l
       → is_value_of p.structs l.ty (value_at (root_value l.root s) l.front) ≡ true
   begins_typed at count b s state last loose base parts l good (variable x) =
       let has = has_value b s state loose base l x good in
@@ -75,7 +75,7 @@ module _ (m : Module) (input : Input) (sections : Sections) (f : Frame m input s
       ap (λ front. is_value_of p.structs l.ty (value_at (root_value l.root s) front)) x.none ∙ ap (λ root. is_value_of p.structs l.ty (root_value root s)) x.begins ∙ x.typed
   begins_typed at count b s state last loose base parts l good (holder x) = ap (λ root. is_value_of p.structs l.ty (value_at (root_value root s) l.front)) x.begins ∙ x.typed
 
-  module _ (are : AreStructs p.structs) (at : At) (count : ℕ) (b : Flow) (s : shader.State) (state last : State) (loose writes : Bool) (base : Base) (parts : List Part) (t : Ty) (a : Access) (l : Trail)
+  module _ (are : AreStructs p.structs) (at : At) (count : ℕ) (b : Flow) (s : shader.State) (state last : State) (loose : Start) (writes : Bool) (base : Base) (parts : List Part) (t : Ty) (a : Access) (l : Trail)
       (good : Good m input sections f p around b s state) (begins : Begins m input sections f p around at count last loose base parts l) (inside : IsInside p.structs writes t a l) where
     abbrev pub there : Value
     there = value_at (root_value a.root s) (l.front ++ l.words)

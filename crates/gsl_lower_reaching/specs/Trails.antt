@@ -10,7 +10,7 @@ use Rattle.gsl_tree.specs.Operations.{length_of}
 use Rattle.gsl_tree.specs.Paths.{repeats}
 use Rattle.gsl_tree.specs.Shapes.{Shape, shape_of}
 use Rattle.gsl_typed_law.specs.Parts.{IsPart, LeadsTo}
-use Rattle.gsl_meaning.specs.Accesses.{Access, Loose, Root}
+use Rattle.gsl_meaning.specs.Accesses.{Access, Block, Loose, Root}
 use Rattle.gsl_lower_law_places.specs.Components.{AreWithin, chosen}
 
 -- What is picked of a scalar or vector of a shape: its components at some positions; or, where one is picked by a word, that one as often as there
@@ -21,7 +21,7 @@ pub record Chosen : Type 0 where
   pub positions : List ℕ
 
 -- What an expression leads to: the root of its access, and the numbers in front, which lead from there to what the words begin at, of a type; the words; and what is
--- picked where they lead.
+-- picked where they lead. In a block all numbers that are in bounds stand in front.
 pub record Trail : Type 0 where
   pub root : Root
   pub front : List ℕ
@@ -60,9 +60,10 @@ abbrev pub IsPicked : Ty → Ty → List ℕ → Option Chosen → List ℕ → 
 IsPicked whole t numbers None path picked = (whole ≡ t) × (path ≡ numbers) × (picked ≡ None)
 IsPicked whole t numbers (Some c) path picked = IsChosen whole t numbers c path picked
 
--- An access begins at a variable.
+-- An access begins at a variable that is in no block.
 abbrev pub IsOfVariable : Root → Type 0
 IsOfVariable (Loose v) = ⊥
+IsOfVariable (Block number) = ⊥
 IsOfVariable _ = Unit {0}
 
 -- What may be written picks no component twice.
@@ -70,7 +71,7 @@ abbrev pub MayWrite : Bool → Option Chosen → Type 0
 MayWrite writes None = Unit {0}
 MayWrite writes (Some c) = writes ≡ true → repeats c.positions ≡ false
 
--- A trail leads to a part of a type that is there, and is that of an access. What may be written is in a variable.
+-- A trail leads to a part of a type that is there, and is that of an access. What may be written is in a variable outside blocks.
 pub record IsInside (structs : List StructType) (writes : Bool) (t : Ty) (a : Access) (l : Trail) : Type 0 where
   pub begins : a.root ≡ l.root
   pub whole : Ty

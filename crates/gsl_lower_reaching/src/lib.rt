@@ -3,4 +3,4 @@
 
 mod laws;
 
-pub use laws::{members_lead, names_lead, swizzles_lead, values_lead};
+pub use laws::{blocks_lead, members_lead, names_lead, swizzles_lead, values_lead};

@@ -1,10 +1,11 @@
 -- What leads to a place gives the value there.
-use Rattle.std.proofs.Common.{◌≡◌, Bool, true, false, ◌||◌, length}
+use Rattle.std.proofs.Common.{◌≡◌, Bool, true, false, ◌||◌, length, None}
 use Rattle.gsl_base.specs.declared.input.Input.{Input}
 use Rattle.gsl_types.specs.Known.{AreStructs, IsSound}
 use Rattle.gsl_types.specs.declared.ty.Ty.{Ty}
 use Rattle.gsl_words.specs.declared.module.Module.{Module}
 use Rattle.gsl_tree.specs.Around.{Around}
+use Rattle.gsl_tree.specs.Shapes.{shape_of}
 use Rattle.gsl_tree.specs.declared.program.Program.{Program}
 use Rattle.gsl_meaning.specs.Accesses.{Access, read}
 use Rattle.gsl_meaning.specs.Running.{Got, Run, told_by}
@@ -18,7 +19,8 @@ use Rattle.gsl_lower_follows.proofs.Doing.{does_then}
 use Rattle.gsl_lower_follows.proofs.Growing.{adds_then}
 use Rattle.gsl_lower_follows.proofs.Holding.{does_so}
 use Rattle.gsl_lower_law_expr.proofs.Operands.{given_behind}
-use Rattle.gsl_lower_reaching.specs.Reaching.{GivesPlace, HasReached, HasStrayed}
+use Rattle.gsl_lower_reaching.specs.Reaching.{GivesPlace, HasReached, HasStrayed, Start}
+use Rattle.gsl_lower_reaching.specs.Reaching.Start.{OfBlock}
 use Rattle.gsl_lower_reads.specs.Accessing.{accessed_means}
 use Rattle.gsl_lower_reads.proofs.Adding.{adds_reads}
 use Rattle.gsl_lower_reads.proofs.Straying.{read_strays}
@@ -29,9 +31,9 @@ module _ (m : Module) (input : Input) (sections : Sections) (f : Frame m input s
   none_more true e = e
   none_more false e = e
 
-  pub place_gives : (splits loose writes : Bool) (t : Ty) (reach : Emit Reached) (run : Run Access) → AreStructs p.structs → IsSound (length p.structs) t → GivesPlace m input sections f p around splits loose writes t reach run
+  pub place_gives : (splits : Bool) (loose : Start) (writes : Bool) (t : Ty) (reach : Emit Reached) (run : Run Access) → AreStructs p.structs → IsSound (length p.structs) t → (shape_of t ≡ None → loose ≡ OfBlock → ⊥) → GivesPlace m input sections f p around splits loose writes t reach run
       → GivesValue m input sections f p around splits t (accessed p.structs t reach) (accessed_means p.structs t run)
-  place_gives splits loose writes t reach run are sound gives = record {
+  place_gives splits loose writes t reach run are sound apart gives = record {
     adds = adds_then reach (reads p.structs t) gives.adds (λ r. adds_reads m input sections p.structs t r);
     does = λ b s units state good.
         does_then m input sections f p 0 units b state (HasReached m input sections f p around splits loose writes t b state) (HasStrayed m input sections f p around splits loose writes t b state) (HasGiven m input sections f p around splits t b state) none_waits
@@ -40,6 +42,6 @@ module _ (m : Module) (input : Input) (sections : Sections) (f : Frame m input s
         (λ r between a u left mid inside grown x less.
         does_so m input sections f p around 0 left mid (HasGiven m input sections f p around false t between mid) (HasGiven m input sections f p around splits t b state) (Got (read p.structs t a u) u left) (reads p.structs t r between)
         (λ id later v w last h. given_behind m input sections f p around splits false splits t b between later state mid last u w id v (none_more splits) grown x.after h)
-        (taken m input sections f p around are loose writes t sound between u mid r a x.trail x.after.good x.is x.inside left))
-        (λ r between u left mid inside grown x less. read_strays m input sections f p around are loose writes t between u mid r x.trail x.after.good x.is x.outside left (HasGiven m input sections f p around splits t b state));
+        (taken m input sections f p around are loose writes t sound between u mid r a x.trail x.after.good x.is x.inside left apart))
+        (λ r between u left mid inside grown x less. read_strays m input sections f p around are loose writes t between u mid r x.trail x.after.good x.is x.outside left (HasGiven m input sections f p around splits t b state) apart);
   }

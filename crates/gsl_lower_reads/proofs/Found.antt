@@ -1,117 +1,33 @@
 -- What is found where an access leads.
-use Rattle.std.proofs.Common.{◌≡◌, refl, sym, ap, ◌∙◌, subst, ℕ, zero, suc, ◌<◌, ◌≤◌, Bool, true, false, ◌&&◌, List, [], ◌∷◌, ◌++◌, length, map, Option, Some, None, arith, if◌then◌else◌}
-use Rattle.std.specs.Prelude.{nat_le, slice_index, slice_index_or}
-use Rattle.std.proofs.lemmas.Bool.{and_parts, leb-true}
+use Rattle.std.proofs.Common.{◌≡◌, refl, sym, ap, ◌∙◌, subst, ℕ, ◌≤◌, Bool, true, false, List, ◌++◌, length, Option, Some, None, if◌then◌else◌}
 use Rattle.gsl_base.specs.declared.input.Input.{Input}
-use Rattle.gsl_types.specs.Known.{AreStructs, IsSound, sound, sound_kind}
-use Rattle.gsl_types.specs.declared.ty.Scalar.{Scalar}
-use Rattle.gsl_types.specs.declared.ty.StructType.{StructType}
+use Rattle.gsl_types.specs.Known.{AreStructs, IsSound, sound}
 use Rattle.gsl_types.specs.declared.ty.Ty.{Ty}
-use Rattle.gsl_types.specs.declared.ty.Ty.TheFolds.{fold-roll-Ty}
-use Rattle.gsl_types.specs.declared.ty.Ty.TheOpen.{Ty-F}
-use Rattle.gsl_types.specs.declared.ty.Ty.TheVariants as ty
-use Rattle.gsl_types.specs.declared.ty.Ty.TheVariants.{rolls-One, rolls-Vector}
-use Rattle.gsl_types.specs.declared.ty.Ty.TheViews.{out-Ty, roll-Ty, roll-out-Ty}
 use Rattle.gsl_words.specs.declared.module.Module.{Module}
 use Rattle.gsl_values.specs.declared.value.Value.{Value}
-use Rattle.gsl_values.specs.declared.value.Value.TheVariants.{Word}
 use Rattle.gsl_tree.specs.Around.{Around}
-use Rattle.gsl_tree.specs.Operations.{member_value, value_at}
-use Rattle.gsl_tree.specs.Shapes.{Shape, shape_kind, shape_of}
-use Rattle.gsl_tree.specs.Values.{components_in, is_value_of, is_word_of, of_components, parts_in}
+use Rattle.gsl_tree.specs.Operations.{value_at}
+use Rattle.gsl_tree.specs.Values.{is_value_of}
 use Rattle.gsl_tree.specs.declared.program.Program.{Program}
-use Rattle.gsl_typed_law.proofs.Components.{scalar_typed, vector_typed}
 use Rattle.gsl_meaning.specs.Accesses.{Access, Root, found, is_block, pick, read, root_value, told}
 use Rattle.gsl_meaning.specs.State as shader
 use Rattle.gsl_machine.specs.State.{State}
 use Rattle.gsl_spv.specs.Sections.{Sections}
 use Rattle.gsl_lower_places.specs.declared.reached.Base.{Base}
 use Rattle.gsl_lower_places.specs.declared.reached.Part.{Part}
-use Rattle.gsl_lower_law.specs.Values.{AreWords, IsOf}
-use Rattle.gsl_lower_law.proofs.Components.{components_of}
-use Rattle.gsl_lower_law_constructors.proofs.Shares.{words_in}
-use Rattle.gsl_lower_law_places.specs.Components.{AreWithin, chosen, picks_of}
-use Rattle.gsl_lower_law_places.proofs.Reading.{mapped_length}
-use Rattle.gsl_lower_law_places.proofs.Variables.{parts_are, value_on}
+use Rattle.gsl_lower_law.specs.Values.{IsOf}
+use Rattle.gsl_lower_law_places.specs.Components.{picks_of}
 use Rattle.gsl_lower_law_expr.proofs.Shapes.{value_shape}
 use Rattle.gsl_lower_holders.specs.Flow.{Flow}
 use Rattle.gsl_lower_follows.specs.Frames.{Frame, Global, Good, Holder, Interface as Passed, Local, Name, Param, Stage}
-use Rattle.gsl_lower_reaching.specs.Reaching.{At, Begins, root_of}
+use Rattle.gsl_lower_reaching.specs.Reaching.{At, Begins, Start, root_of}
 use Rattle.gsl_lower_reaching.specs.Reaching.Begins.{variable, value, holder}
-use Rattle.gsl_lower_reaching.specs.Trails.{ArePicked, Chosen, IsInside, IsPicked, Trail, effective}
-use Rattle.gsl_lower_reaching.specs.Trails.ArePicked.{swizzled, component, repeated}
-use Rattle.gsl_lower_reaching.proofs.Lists.{index_has, index_of_one}
+use Rattle.gsl_lower_reaching.specs.Trails.{Chosen, IsInside, IsPicked, Trail}
 use Rattle.gsl_lower_reaching.proofs.Seen.{there, there_typed}
-
--- ---- components
-
-map_twice : (cs : List ℕ) (word : Option ℕ) (positions : List ℕ) → map (λ position. slice_index cs (chosen word position)) positions ≡ map (slice_index cs) (map (chosen word) positions)
-map_twice cs word [] = refl
-map_twice cs word (position ∷ positions) = ap (λ l. slice_index cs (chosen word position) ∷ l) (map_twice cs word positions)
-
-map_constant : (cs : List ℕ) (k : ℕ) (firsts : List ℕ) → map (slice_index cs) (map (λ first. k) firsts) ≡ map (λ first. slice_index cs k) firsts
-map_constant cs k [] = refl
-map_constant cs k (first ∷ firsts) = ap (λ l. slice_index cs k ∷ l) (map_constant cs k firsts)
-
-word_there : (ws : List ℕ) (k : ℕ) → k < length ws → slice_index_or (map Word ws) k (Word 0) ≡ Word (slice_index ws k)
-word_there [] k less = absurd (let z : k < 0 = less in omega (arith, z))
-word_there (w ∷ ws) zero less = refl
-word_there (w ∷ ws) (suc k) less = word_there ws k (let z : suc k < suc (length ws) = less in omega (arith, z))
-
--- a component of a vector
-member_word : (shape : Shape) (v : Value) (k : ℕ) → IsOf shape v → 2 ≤ shape.1 → k < shape.1 → member_value v k ≡ Word (slice_index (components_in v) k)
-member_word shape v k is many less =
-    ap (λ parts. slice_index_or parts k (Word 0)) (ap parts_in is.is ∙ parts_are is.words (omega (arith, many, is.count)))
-    ∙ word_there is.words k (omega (arith, less, is.count)) ∙ ap (λ ws. Word (slice_index ws k)) (sym (words_in v is))
-
-picked_words : (s : Scalar) (count : ℕ) (cs : List ℕ) (word : Option ℕ) (positions : List ℕ) → AreWords s cs → length cs ≡ count → AreWithin count word positions → AreWords s (map (λ position. slice_index cs (chosen word position)) positions)
-picked_words s count cs None [] fits same within = tt
-picked_words s count cs None (position ∷ positions) fits same within = (index_has (λ word. is_word_of s word ≡ true) cs position fits (let less : position < count = within.0 in omega (arith, less, same)), picked_words s count cs None positions fits same within.1)
-picked_words s count cs (Some word) positions fits same within = by positions
-  where
-    by : (positions : List ℕ) → AreWords s (map (λ position. slice_index cs word) positions)
-    by [] = tt
-    by (position ∷ positions) = (index_has (λ word. is_word_of s word ≡ true) cs word fits (let less : word < count = within.0 in omega (arith, less, same)), by positions)
-
--- what is picked of a scalar or vector is one
-pub picks_are : (shape : Shape) (v : Value) (word : Option ℕ) (positions : List ℕ) → IsOf shape v → AreWithin shape.1 word positions → IsOf (shape.0, length positions) (picks_of v word positions)
-picks_are shape v word positions is within = record {
-  words = map (λ position. slice_index (components_in v) (chosen word position)) positions;
-  is = refl;
-  count = mapped_length (λ position. slice_index (components_in v) (chosen word position)) positions;
-  fits = picked_words shape.0 shape.1 (components_in v) word positions (subst (AreWords shape.0) (sym (words_in v is)) is.fits) (ap length (words_in v is) ∙ is.count) within;
-}
+use Rattle.gsl_lower_elements.proofs.Picked.{picked_found, picks_are, shape_typed}
 
 some_same : {A : Type 0} {a b : A} → Some a ≡ Some b → a ≡ b
 some_same e = cc
-
--- a scalar or vector of a type's shape is one of the type
-pub shape_typed : (structs : List StructType) (t : Ty) (shape : Shape) (v : Value) → IsSound (length structs) t → shape_of t ≡ Some shape → IsOf shape v → is_value_of structs t v ≡ true
-shape_typed structs t shape v sound_t is of = by (out-Ty t) (roll-out-Ty t) is
-  where
-    scalar_of : (s : Scalar) (words : List ℕ) → length words ≡ 1 → AreWords s words → is_value_of structs (ty.One s) (of_components words) ≡ true
-    scalar_of s [] count fits = absurd (let z : 0 ≡ 1 = count in omega (arith, z))
-    scalar_of s (word ∷ []) count fits = scalar_typed structs s word fits.0
-    scalar_of s (word ∷ next ∷ words) count fits = absurd (let z : suc (suc (length words)) ≡ 1 = count in omega (arith, z))
-
-    vector_of : (s : Scalar) (n : ℕ) (words : List ℕ) → 2 ≤ n → length words ≡ n → AreWords s words → is_value_of structs (ty.Vector s n) (of_components words) ≡ true
-    vector_of s n [] many count fits = absurd (let z : 0 ≡ n = count in omega (arith, z, many))
-    vector_of s n (word ∷ []) many count fits = absurd (let z : 1 ≡ n = count in omega (arith, z, many))
-    vector_of s n (word ∷ next ∷ words) many count fits = vector_typed structs s n (word ∷ next ∷ words) (count, fits)
-
-    by : (layer : Ty-F Ty) → roll-Ty layer ≡ t → shape_kind layer ≡ Some shape → is_value_of structs t v ≡ true
-    by Ty-F.Void e has = absurd cc
-    by (Ty-F.One s) e has =
-        let same : (s, 1) ≡ shape = some_same has in
-        ap (λ u. is_value_of structs u v) (sym e ∙ rolls-One s) ∙ ap (is_value_of structs (ty.One s)) of.is ∙ scalar_of s of.words (of.count ∙ ap (λ (x : Shape). x.1) (sym same)) (subst (λ (x : Shape). AreWords x.0 of.words) (sym same) of.fits)
-    by (Ty-F.Vector s n) e has =
-        let same : (s, n) ≡ shape = some_same has in
-        let both : (nat_le 2 n && nat_le n 4) ≡ true = sym (ap (sound (length structs)) (sym e) ∙ fold-roll-Ty Bool (sound_kind (length structs)) (Ty-F.Vector s n)) ∙ sound_t in
-        ap (λ u. is_value_of structs u v) (sym e ∙ rolls-Vector s n) ∙ ap (is_value_of structs (ty.Vector s n)) of.is
-        ∙ vector_of s n of.words (leb-true 2 n (and_parts (nat_le 2 n) (nat_le n 4) both).0) (of.count ∙ ap (λ (x : Shape). x.1) (sym same)) (subst (λ (x : Shape). AreWords x.0 of.words) (sym same) of.fits)
-    by (Ty-F.Array other n) e has = absurd cc
-    by (Ty-F.Runtime other) e has = absurd cc
-    by (Ty-F.Struct number) e has = absurd cc
 
 -- ---- outside blocks
 
@@ -124,12 +40,12 @@ root_outside (Local number) root e = ap is_block (sym (some_same e))
 root_outside (Holder number) root e = absurd cc
 
 module _ (m : Module) (input : Input) (sections : Sections) (f : Frame m input sections) (p : Program) (around : Around) where
-  pub begins_outside : (at : At) (count : ℕ) (last : State) (loose : Bool) (base : Base) (parts : List Part) (l : Trail) → Begins m input sections f p around at count last loose base parts l → is_block l.root ≡ false
+  pub begins_outside : (at : At) (count : ℕ) (last : State) (loose : Start) (base : Base) (parts : List Part) (l : Trail) → Begins m input sections f p around at count last loose base parts l → is_block l.root ≡ false
   begins_outside at count last loose base parts l (variable x) = root_outside x.name l.root x.begins
   begins_outside at count last loose base parts l (value x) = ap is_block x.begins
   begins_outside at count last loose base parts l (holder x) = ap is_block x.begins
 
-  module _ (are : AreStructs p.structs) (at : At) (count : ℕ) (b : Flow) (s : shader.State) (state last : State) (loose writes : Bool) (base : Base) (parts : List Part) (t : Ty) (a : Access) (l : Trail)
+  module _ (are : AreStructs p.structs) (at : At) (count : ℕ) (b : Flow) (s : shader.State) (state last : State) (loose : Start) (writes : Bool) (base : Base) (parts : List Part) (t : Ty) (a : Access) (l : Trail)
       (good : Good m input sections f p around b s state) (begins : Begins m input sections f p around at count last loose base parts l) (inside : IsInside p.structs writes t a l) where
     -- the value where the words lead
     abbrev pub stands_there : Value
@@ -149,43 +65,7 @@ module _ (m : Module) (input : Input) (sections : Sections) (f : Frame m input s
     there_is c x = value_shape p.structs inside.whole c.shape stands_there are inside.sound x.of (there_typed m input sections f p around are at count b s state last loose writes base parts t a l good begins inside)
 
     pub found_picked : (c : Chosen) → IsPicked inside.whole t (l.front ++ l.words) (Some c) a.path a.picked → found a s ≡ picks_of stands_there c.word c.positions
-    found_picked c x = by x.are
-      where
-        of : IsOf c.shape stands_there
-        of = (there_is c x).1
-
-        cs : List ℕ
-        cs = components_in stands_there
-
-        below : (k : ℕ) → AreWithin c.shape.1 c.word c.positions → 1 ≤ length c.positions → (firsts : List ℕ) → effective c ≡ map (λ first. k) firsts → k < c.shape.1
-        below k within some firsts e = by_word c.word c.positions within some e
-          where
-            head_of : List ℕ → ℕ
-            head_of [] = k
-            head_of (n ∷ ns) = n
-
-            head_is : (firsts : List ℕ) → head_of (map (λ first. k) firsts) ≡ k
-            head_is [] = refl
-            head_is (first ∷ firsts) = refl
-
-            by_word : (word : Option ℕ) (positions : List ℕ) → AreWithin c.shape.1 word positions → 1 ≤ length positions → map (chosen word) positions ≡ map (λ first. k) firsts → k < c.shape.1
-            by_word word [] within some e = absurd (let z : 1 ≤ 0 = some in omega (arith, z))
-            by_word None (position ∷ positions) within some e = subst (λ n. n < c.shape.1) (ap head_of e ∙ head_is firsts) within.0
-            by_word (Some word) (position ∷ positions) within some e = subst (λ n. n < c.shape.1) (ap head_of e ∙ head_is firsts) within.0
-
-        at_one : (k : ℕ) → 2 ≤ c.shape.1 → k < c.shape.1 → value_at (root_value a.root s) ((l.front ++ l.words) ++ k ∷ []) ≡ Word (slice_index cs k)
-        at_one k many less = value_on (root_value a.root s) (l.front ++ l.words) (k ∷ []) ∙ member_word c.shape stands_there k of many less
-
-        by : ArePicked c.shape.1 (l.front ++ l.words) (effective c) a.path a.picked → found a s ≡ picks_of stands_there c.word c.positions
-        by (swizzled path is) = ap (λ o. pick o (value_at (root_value a.root s) a.path)) is ∙ ap (λ path. of_components (map (slice_index (components_in (value_at (root_value a.root s) path))) (effective c))) path ∙ ap of_components (sym (map_twice cs c.word c.positions))
-        by (component k many path none one) =
-            ap (λ o. pick o (value_at (root_value a.root s) a.path)) none ∙ ap (value_at (root_value a.root s)) path ∙ at_one k many (below k x.within x.some (0 ∷ []) one)
-            ∙ ap (λ positions. of_components (map (slice_index cs) positions)) (sym one) ∙ ap of_components (sym (map_twice cs c.word c.positions))
-        by (repeated k firsts many path is all equal) =
-            ap (λ o. pick o (value_at (root_value a.root s) a.path)) is ∙ ap (λ path. of_components (map (slice_index (components_in (value_at (root_value a.root s) path))) firsts)) path
-            ∙ ap (λ v. of_components (map (slice_index (components_in v)) firsts)) (at_one k many (below k x.within x.some firsts equal))
-            ∙ ap (λ ws. of_components (map (slice_index ws) firsts)) (components_of (slice_index cs k ∷ [])) ∙ ap of_components (index_of_one (slice_index cs k) firsts all)
-            ∙ ap of_components (sym (map_constant cs k firsts)) ∙ ap (λ positions. of_components (map (slice_index cs) positions)) (sym equal) ∙ ap of_components (sym (map_twice cs c.word c.positions))
+    found_picked c x = picked_found a s (l.front ++ l.words) c c.shape.0 (there_is c x).1 x.some x.within x.are
 
     -- what is read is of the type
     pub read_typed : IsSound (length p.structs) t → is_value_of p.structs t (read p.structs t a s) ≡ true

@@ -1,5 +1,5 @@
 -- Where trails begin while a function runs: in a variable that holds a value, or at a value.
-use Rattle.std.proofs.Common.{◌≡◌, refl, sym, ap, ◌∙◌, subst, inl, inr, ℕ, ◌⊎◌, Bool, true, false, List, [], ◌∷◌, map, Some}
+use Rattle.std.proofs.Common.{◌≡◌, refl, sym, ap, ◌∙◌, subst, inl, inr, ℕ, ◌⊎◌, true, false, List, [], ◌∷◌, map, Some}
 use Rattle.std.specs.Prelude.{slice_get}
 use Rattle.std.specs.List.{AllByRecursion}
 use Rattle.gsl_base.specs.declared.input.Input.{Input}
@@ -24,7 +24,7 @@ use Rattle.gsl_lower_law.specs.Values.{Stands}
 use Rattle.gsl_lower_law_picks.specs.Outside.{HasPart}
 use Rattle.gsl_lower_holders.specs.Flow.{Flow}
 use Rattle.gsl_lower_follows.specs.Frames.{Frame, Good, HeldAs}
-use Rattle.gsl_lower_reaching.specs.Reaching.{At, Begins, IsFixed, NumberEachBy}
+use Rattle.gsl_lower_reaching.specs.Reaching.{At, Begins, IsFixed, NumberEachBy, Start}
 use Rattle.gsl_lower_reaching.specs.Reaching.Begins.{variable, value, holder}
 use Rattle.gsl_lower_reaching.specs.Trails.{Trail}
 use Rattle.gsl_lower_reaching.proofs.Seen.{has_value}
@@ -66,7 +66,7 @@ module _ (m : Module) (input : Input) (sections : Sections) (f : Frame m input s
     pub typed : is_value_of p.structs l.ty v ≡ true
     pub has : HasPart v l.words
 
-  pub grounds : (b : Flow) (s : shader.State) (state : State) (loose : Bool) (base : Base) (parts : List Part) (l : Trail) → Good m input sections f p around b s state
+  pub grounds : (b : Flow) (s : shader.State) (state : State) (loose : Start) (base : Base) (parts : List Part) (l : Trail) → Good m input sections f p around b s state
       → Begins m input sections f p around (λ id v. HeldAs m input sections f false id v b state) b.place.used state loose base parts l → InPlace s state base l ⊎ InValue s state base parts l
   grounds b s state loose base parts l good (variable x) =
       let has = has_value m input sections f p around b s state loose base l x good in

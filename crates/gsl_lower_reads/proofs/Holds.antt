@@ -29,7 +29,7 @@ use Rattle.gsl_lower_follows.proofs.Fetching.{adds_keep, adds_take_back, no_stat
 use Rattle.gsl_lower_follows.proofs.Growing.{adds_given, adds_lift, adds_then}
 use Rattle.gsl_lower_follows.proofs.Holding.{NowWaits, Unchanged, after_any, does_keep, does_so, does_take_back, held_after}
 use Rattle.gsl_lower_law_expr.proofs.Short.{does_change}
-use Rattle.gsl_lower_reaching.specs.Reaching.{Begins, IsTrail, NumberBy}
+use Rattle.gsl_lower_reaching.specs.Reaching.{AtBlock, Begins, IsTrail, NumberBy, Start}
 use Rattle.gsl_lower_reaching.specs.Reaching.Begins.{variable, value, holder}
 use Rattle.gsl_lower_reaching.specs.Trails.{Trail}
 use Rattle.gsl_lower_reads.specs.Waiting.{IsKept}
@@ -91,7 +91,7 @@ module _ (m : Module) (input : Input) (sections : Sections) where
         does_change m input sections f p around units units state (Unchanged m input sections f p around b state) (Made m input sections f p around (λ (type : ℕ) later last. Unit {0}) s b state) tt tt s (lift (types.scalar_type kind) b) (λ type later last x. record { after = x; still = refl; so = tt })
         (does_aside m input sections f p around (Any m input sections) units b s state (types.scalar_type kind) good (scalar_type_does m input sections kind state b.sections))
 
-    module _ (loose : Bool) where
+    module _ (loose : Start) where
       -- ---- what is kept
 
       keeps_part : (part : Part) (word : ℕ) (units : ℕ) (b : Flow) (state : State) → Good m input sections f p around b s state → NumberBy (λ id v. HeldAs m input sections f false id v b state) part word
@@ -122,6 +122,19 @@ module _ (m : Module) (input : Input) (sections : Sections) where
       keeps_base base parts l units b state good (holder x) =
           subst (λ base. Makes m input sections f p around s (KeptBase parts l) units b state (keep_base base b)) (sym x.is)
           (made_here m input sections f p around s (KeptBase parts l) units b state (Variable x.id storage_class.FUNCTION) good (holder (record { id = x.id; value = x.value; is = refl; begins = x.begins; waits = x.waits; typed = x.typed })))
+
+      abbrev BlockBase : Trail → Base → Flow → State → Type 0
+      BlockBase l base later last = AtBlock m input sections f p around loose base l
+
+      keeps_block : (base : Base) (l : Trail) (units : ℕ) (b : Flow) (state : State) → Good m input sections f p around b s state → AtBlock m input sections f p around loose base l → Makes m input sections f p around s (BlockBase l) units b state (keep_base base b)
+      keeps_block base l units b state good x =
+          subst (λ base. Makes m input sections f p around s (BlockBase l) units b state (keep_base base b)) (sym x.is)
+          (made_here m input sections f p around s (BlockBase l) units b state (Variable x.id x.class) good (subst (λ base. AtBlock m input sections f p around loose base l) x.is x))
+
+      takes_block : (base : Base) (l : Trail) (units : ℕ) (b : Flow) (state : State) → Good m input sections f p around b s state → AtBlock m input sections f p around loose base l → Makes m input sections f p around s (BlockBase l) units b state (take_base base b)
+      takes_block base l units b state good x =
+          subst (λ base. Makes m input sections f p around s (BlockBase l) units b state (take_base base b)) (sym x.is)
+          (made_here m input sections f p around s (BlockBase l) units b state (Variable x.id x.class) good (subst (λ base. AtBlock m input sections f p around loose base l) x.is x))
 
       -- ---- what is taken back
 
@@ -166,13 +179,13 @@ module _ (m : Module) (input : Input) (sections : Sections) where
           → Makes m input sections f p around s (IsNow waits l) units b state (hold_reached waits r b)
       unfolding hold_reached
       does_held false r l units b state good x = made_here m input sections f p around s (IsNow false l) units b state r good x
-      does_held true r l units b state good x = moves_reached m input sections f p around s false true loose keep_base keep_part adds_keep_base adds_keep_part keeps_part keeps_base r l units b state good x
+      does_held true r l units b state good x = moves_reached m input sections f p around s false true loose keep_base keep_part adds_keep_base adds_keep_part keeps_part keeps_base keeps_block r l units b state good x
 
       pub does_fetched : (waits : Bool) (r : Reached) (l : Trail) (units : ℕ) (b : Flow) (state : State) → Good m input sections f p around b s state → IsTrail m input sections f p around waits loose b state r l
           → Makes m input sections f p around s (IsNow false l) units b state (fetch_reached waits r b)
       unfolding fetch_reached
       does_fetched false r l units b state good x = made_here m input sections f p around s (IsNow false l) units b state r good x
-      does_fetched true r l units b state good x = moves_reached m input sections f p around s true false loose take_base take_part adds_take_base adds_take_part takes_part takes_base r l units b state good x
+      does_fetched true r l units b state good x = moves_reached m input sections f p around s true false loose take_base take_part adds_take_base adds_take_part takes_part takes_base takes_block r l units b state good x
 
       -- as the laws say it
       pub is_held : (waits : Bool) (r : Reached) (l : Trail) (units : ℕ) (b : Flow) (state : State) → Good m input sections f p around b s state → IsTrail m input sections f p around false loose b state r l

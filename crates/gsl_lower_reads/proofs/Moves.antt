@@ -1,5 +1,5 @@
 -- What was reached is kept in holders, and taken back: the ids in it one by one.
-use Rattle.std.proofs.Common.{◌≡◌, refl, sym, subst, ℕ, Bool, false, List, [], ◌∷◌, Option, Some, None}
+use Rattle.std.proofs.Common.{◌≡◌, refl, sym, subst, ℕ, Bool, false, List, [], ◌∷◌, ◌++◌, Option, Some, None}
 use Rattle.std.specs.List.{AllByRecursion}
 use Rattle.gsl_base.specs.declared.input.Input.{Input}
 use Rattle.gsl_words.specs.declared.module.Module.{Module}
@@ -22,7 +22,8 @@ use Rattle.gsl_lower_follows.proofs.Behind.{reaches_here}
 use Rattle.gsl_lower_follows.proofs.Doing.{does_then}
 use Rattle.gsl_lower_follows.proofs.Growing.{adds_given, adds_then}
 use Rattle.gsl_lower_follows.proofs.Holding.{after_any, after_same, after_then, does_so, held_after, waits_after}
-use Rattle.gsl_lower_reaching.specs.Reaching.{At, Begins, ChoosesBy, IsFixed, IsTrail, NumberBy, NumberEachBy, PicksBy}
+use Rattle.gsl_lower_reaching.specs.Reaching.{At, AtBlock, Begins, ChoosesBy, IsBlockTrail, IsFixed, IsOwnTrail, IsTrail, NumberBy, NumberEachBy, PicksBy, Start}
+use Rattle.gsl_lower_reaching.specs.Reaching.IsTrail.{own, in_block}
 use Rattle.gsl_lower_reaching.specs.Reaching.Begins.{variable, value, holder}
 use Rattle.gsl_lower_reaching.specs.Trails.{Chosen, Trail}
 use Rattle.gsl_lower_reaching.proofs.Moving.{begins_so, number_so, numbers_so, picks_so}
@@ -85,7 +86,7 @@ module _ (m : Module) (input : Input) (sections : Sections) (f : Frame m input s
 
     -- ---- ids that stand or wait, made to wait or stand
 
-    module _ (from to loose : Bool) (emit_base : Base → Emit Base) (emit_part : Part → Emit Part) (adds_base : (base : Base) → Adds (emit_base base)) (adds_part : (part : Part) → Adds (emit_part part)) where
+    module _ (from to : Bool) (loose : Start) (emit_base : Base → Emit Base) (emit_part : Part → Emit Part) (adds_base : (base : Base) → Adds (emit_base base)) (adds_part : (part : Part) → Adds (emit_part part)) where
       abbrev pub Old : Flow → State → At
       Old b state id v = HeldAs m input sections f from id v b state
 
@@ -164,8 +165,8 @@ module _ (m : Module) (input : Input) (sections : Sections) (f : Frame m input s
         abbrev IsMoved : Trail → Reached → Flow → State → Type 0
         IsMoved l r later last = IsTrail m input sections f p around to loose later last r l
 
-        pub moves_reached : (r : Reached) (l : Trail) (units : ℕ) (b : Flow) (state : State) → Good m input sections f p around b s state → IsTrail m input sections f p around from loose b state r l → Makes (IsMoved l) units b state (in_reached emit_base emit_part r b)
-        moves_reached r l units b state good x =
+        moves_own : (r : Reached) (l : Trail) (units : ℕ) (b : Flow) (state : State) → Good m input sections f p around b s state → IsOwnTrail m input sections f p around from loose b state r l → Makes (IsMoved l) units b state (in_reached emit_base emit_part r b)
+        moves_own r l units b state good x =
             made_then (IsBase r.path l) (IsMoved l) units b state (emit_base r.base) (λ base. each emit_part r.path >>= (λ path. in_picked emit_part r.picked >>= (λ picked. given (record { base = base; path = path; picked = picked })))) good (adds_base r.base)
             (λ base. adds_then (each emit_part r.path) (λ path. in_picked emit_part r.picked >>= (λ picked. given (record { base = base; path = path; picked = picked }))) (adds_each emit_base emit_part adds_base adds_part r.path)
             (λ path. adds_then (in_picked emit_part r.picked) (λ picked. given (record { base = base; path = path; picked = picked })) (adds_picked emit_base emit_part adds_base adds_part r.picked) (λ picked. adds_given {A = Reached} (record { base = base; path = path; picked = picked }))))
@@ -179,8 +180,38 @@ module _ (m : Module) (input : Input) (sections : Sections) (f : Frame m input s
             (moves_picked r.picked l.picks u2 b2 s2 after2.good (picks_so (Old b1 s1) (Old b2 s2) (old_after b1 b2 s1 s2 g2 after2) r.picked l.picks (picks_so (Old b state) (Old b1 s1) (old_after b b1 state s1 g1 after1) r.picked l.picks x.picks)))
             (λ picked b3 s3 u3 g3 after3 y3.
             made_here (IsMoved l) u3 b3 s3 (record { base = base; path = path; picked = picked }) after3.good
-            (record {
+            (own (record {
               begins = with_parts (New b3 s3) b3.place.used s3 base r.path path l y2.fixed (base_after b2 b3 s2 s3 base r.path l g3 after3 (base_after b1 b2 s1 s2 base r.path l g2 after2 y1));
               numbers = numbers_so (New b2 s2) (New b3 s3) (new_after b2 b3 s2 s3 g3 after3) path l.words y2.numbers;
               picks = y3;
-            }))))
+            })))))
+
+        -- where a trail in a block begins stays
+        abbrev IsBlockBase : Trail → Base → Flow → State → Type 0
+        IsBlockBase l base later last = AtBlock m input sections f p around loose base l
+
+        module _ (moves_block_base : (base : Base) (l : Trail) (units : ℕ) (b : Flow) (state : State) → Good m input sections f p around b s state → AtBlock m input sections f p around loose base l → Makes (IsBlockBase l) units b state (emit_base base b)) where
+          moves_block : (r : Reached) (l : Trail) (units : ℕ) (b : Flow) (state : State) → Good m input sections f p around b s state → IsBlockTrail m input sections f p around from loose b state r l → Makes (IsMoved l) units b state (in_reached emit_base emit_part r b)
+          moves_block r l units b state good x =
+              made_then (IsBlockBase l) (IsMoved l) units b state (emit_base r.base) (λ base. each emit_part r.path >>= (λ path. in_picked emit_part r.picked >>= (λ picked. given (record { base = base; path = path; picked = picked })))) good (adds_base r.base)
+              (λ base. adds_then (each emit_part r.path) (λ path. in_picked emit_part r.picked >>= (λ picked. given (record { base = base; path = path; picked = picked }))) (adds_each emit_base emit_part adds_base adds_part r.path)
+              (λ path. adds_then (in_picked emit_part r.picked) (λ picked. given (record { base = base; path = path; picked = picked })) (adds_picked emit_base emit_part adds_base adds_part r.picked) (λ picked. adds_given {A = Reached} (record { base = base; path = path; picked = picked }))))
+              (moves_block_base r.base l units b state good x.begins)
+              (λ base b1 s1 u1 g1 after1 y1.
+              made_then (AreParts r.path (l.front ++ l.words)) (IsMoved l) u1 b1 s1 (each emit_part r.path) (λ path. in_picked emit_part r.picked >>= (λ picked. given (record { base = base; path = path; picked = picked }))) after1.good (adds_each emit_base emit_part adds_base adds_part r.path)
+              (λ path. adds_then (in_picked emit_part r.picked) (λ picked. given (record { base = base; path = path; picked = picked })) (adds_picked emit_base emit_part adds_base adds_part r.picked) (λ picked. adds_given {A = Reached} (record { base = base; path = path; picked = picked })))
+              (moves_each r.path (l.front ++ l.words) u1 b1 s1 after1.good (numbers_so (Old b state) (Old b1 s1) (old_after b b1 state s1 g1 after1) r.path (l.front ++ l.words) x.numbers))
+              (λ path b2 s2 u2 g2 after2 y2.
+              made_then (ArePicks l.picks) (IsMoved l) u2 b2 s2 (in_picked emit_part r.picked) (λ picked. given (record { base = base; path = path; picked = picked })) after2.good (adds_picked emit_base emit_part adds_base adds_part r.picked) (λ picked. adds_given {A = Reached} (record { base = base; path = path; picked = picked }))
+              (moves_picked r.picked l.picks u2 b2 s2 after2.good (picks_so (Old b1 s1) (Old b2 s2) (old_after b1 b2 s1 s2 g2 after2) r.picked l.picks (picks_so (Old b state) (Old b1 s1) (old_after b b1 state s1 g1 after1) r.picked l.picks x.picks)))
+              (λ picked b3 s3 u3 g3 after3 y3.
+              made_here (IsMoved l) u3 b3 s3 (record { base = base; path = path; picked = picked }) after3.good
+              (in_block (record {
+                begins = y1;
+                numbers = numbers_so (New b2 s2) (New b3 s3) (new_after b2 b3 s2 s3 g3 after3) path (l.front ++ l.words) y2.numbers;
+                picks = y3;
+              })))))
+
+          pub moves_reached : (r : Reached) (l : Trail) (units : ℕ) (b : Flow) (state : State) → Good m input sections f p around b s state → IsTrail m input sections f p around from loose b state r l → Makes (IsMoved l) units b state (in_reached emit_base emit_part r b)
+          moves_reached r l units b state good (own x) = moves_own r l units b state good x
+          moves_reached r l units b state good (in_block x) = moves_block r l units b state good x

@@ -41,12 +41,15 @@ use Rattle.gsl_lower_follows.specs.Giving.{Does, none_waits}
 use Rattle.gsl_lower_follows.proofs.Doing.{does_then, strays_lift}
 use Rattle.gsl_lower_follows.proofs.Fetching.{adds_giving}
 use Rattle.gsl_lower_follows.proofs.Growing.{adds_lift}
-use Rattle.gsl_lower_reaching.specs.Reaching.{ChoosesBy, IsTrail, PicksBy}
+use Rattle.gsl_lower_reaching.specs.Reaching.{ChoosesBy, IsBlockTrail, IsOwnTrail, IsTrail, PicksBy, Start}
+use Rattle.gsl_lower_reaching.specs.Reaching.IsTrail.{own, in_block}
+use Rattle.gsl_lower_reaching.specs.Reaching.Start.{OfBlock}
 use Rattle.gsl_lower_reaching.specs.Trails.{ArePositions, Chosen, IsMissing, IsOut, IsOutside, LacksComponent, LeadsOut, Trail}
 use Rattle.gsl_lower_reaching.proofs.Counted.{has_part, lacks_part, not_both}
 use Rattle.gsl_lower_elements.proofs.Indexing.{none_shape}
 use Rattle.gsl_lower_reaching.proofs.Moving.{chooses_stand, numbers_stand}
 use Rattle.gsl_lower_reaching.proofs.Parts.{out_whole}
+use Rattle.gsl_lower_elements.proofs.Strayed.{block_strays}
 use Rattle.gsl_lower_reads.proofs.Adding.{always_pointer}
 use Rattle.gsl_lower_reads.proofs.Grounds.{InPlace, InValue, fixed_words, grounds}
 
@@ -64,8 +67,8 @@ positions_by count None (Some word) positions at chooses within = absurd chooses
 positions_by count (Some part) None positions at chooses within = absurd chooses
 positions_by count (Some part) (Some word) positions at chooses within = within
 
-module _ (m : Module) (input : Input) (sections : Sections) (f : Frame m input sections) (p : Program) (around : Around) (are : AreStructs p.structs) (loose writes : Bool) (t : Ty) where
-  module _ (b : Flow) (s : shader.State) (state : State) (r : Reached) (l : Trail) (good : Good m input sections f p around b s state) (is : IsTrail m input sections f p around false loose b state r l) (outside : IsOutside p.structs writes t l) where
+module _ (m : Module) (input : Input) (sections : Sections) (f : Frame m input sections) (p : Program) (around : Around) (are : AreStructs p.structs) (loose : Start) (writes : Bool) (t : Ty) where
+  module _ (b : Flow) (s : shader.State) (state : State) (r : Reached) (l : Trail) (good : Good m input sections f p around b s state) (is : IsOwnTrail m input sections f p around false loose b state r l) (outside : IsOutside p.structs writes t l) where
     can : (q : Picked) (c : Chosen) → PicksBy (λ id v. HeldAs m input sections f false id v b state) (Some q) (Some c) → 1 ≤ length c.positions → ArePositions c.shape.1 c.word c.positions → CanPick q
     can q c picks some within = record {
       some = subst (λ ps. 1 ≤ length ps) (sym picks.1) some;
@@ -168,10 +171,25 @@ module _ (m : Module) (input : Input) (sections : Sections) (f : Frame m input s
           by (inr x) = absurd (no_path x (out_whole p.structs l.ty t l.words l.picks (none_shape t none) outside.out).1)
 
       -- what is read there strays
-      pub read_strays : Does m input sections f p 0 units state Then none_waits Strays (reads p.structs t r b)
+      pub own_strays_all : Does m input sections f p 0 units state Then none_waits Strays (reads p.structs t r b)
       unfolding reads
-      read_strays = by (shape_of t) refl
+      own_strays_all = by (shape_of t) refl
         where
           by : (o : Option Shape) → shape_of t ≡ o → Does m input sections f p 0 units state Then none_waits Strays (read_by p.structs t r o b)
           by (Some shape) e = strays_lift m input sections f p around units b s state Then none_waits (read shape r) good (shape_strays shape)
           by None e = composite_strays e
+
+  module _ (b : Flow) (s : shader.State) (state : State) (r : Reached) (l : Trail) (good : Good m input sections f p around b s state) (is : IsTrail m input sections f p around false loose b state r l) (outside : IsOutside p.structs writes t l) where
+    module _ {R : Type 0} (units : ℕ) (Then : ℕ → Flow → R → shader.State → State → Type 0) (apart : shape_of t ≡ None → loose ≡ OfBlock → ⊥) where
+      -- what is read there strays; of a block it is a scalar or vector
+      pub read_strays : Does m input sections f p 0 units state Then none_waits Strays (reads p.structs t r b)
+      unfolding reads
+      read_strays = by is
+        where
+          in_one : (x : IsBlockTrail m input sections f p around false loose b state r l) (o : Option Shape) → shape_of t ≡ o → Does m input sections f p 0 units state Then none_waits Strays (read_by p.structs t r o b)
+          in_one x (Some shape) e = strays_lift m input sections f p around units b s state Then none_waits (read shape r) good (block_strays m input sections f p around are loose b s state r l good x writes t outside shape)
+          in_one x None e = absurd (apart e x.begins.marked)
+
+          by : IsTrail m input sections f p around false loose b state r l → Does m input sections f p 0 units state Then none_waits Strays (read_by p.structs t r (shape_of t) b)
+          by (own x) = own_strays_all b s state r l good x outside units Then
+          by (in_block x) = in_one x (shape_of t) refl

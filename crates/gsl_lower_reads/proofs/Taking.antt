@@ -46,19 +46,22 @@ use Rattle.gsl_lower_follows.proofs.Fetching.{adds_giving}
 use Rattle.gsl_lower_follows.proofs.Growing.{adds_lift}
 use Rattle.gsl_lower_follows.proofs.Holding.{after_then, does_so}
 use Rattle.gsl_lower_law_expr.proofs.Steps.{always_giving}
-use Rattle.gsl_lower_reaching.specs.Reaching.{IsTrail, PicksBy}
+use Rattle.gsl_lower_reaching.specs.Reaching.{IsBlockTrail, IsOwnTrail, IsTrail, PicksBy, Start}
+use Rattle.gsl_lower_reaching.specs.Reaching.IsTrail.{own, in_block}
+use Rattle.gsl_lower_reaching.specs.Reaching.Start.{OfBlock}
 use Rattle.gsl_lower_reaching.specs.Trails.{Chosen, IsInside, IsPicked, Trail}
 use Rattle.gsl_lower_reaching.proofs.Counted.{has_part}
 use Rattle.gsl_lower_elements.proofs.Indexing.{after_step, none_shape}
 use Rattle.gsl_lower_reaching.proofs.Moving.{chooses_stand, numbers_stand}
 use Rattle.gsl_lower_reaching.proofs.Parts.{IsWhole, whole_picked}
 use Rattle.gsl_lower_reaching.proofs.Seen.{there_typed}
+use Rattle.gsl_lower_elements.proofs.Read.{block_read, block_shape}
 use Rattle.gsl_lower_reads.proofs.Adding.{always_extracted, always_pointer, always_read}
 use Rattle.gsl_lower_reads.proofs.Found.{found_picked, found_whole, read_found, read_typed, stands_there, there_is}
 use Rattle.gsl_lower_reads.proofs.Grounds.{InPlace, InValue, fixed_words, grounds}
 
-module _ (m : Module) (input : Input) (sections : Sections) (f : Frame m input sections) (p : Program) (around : Around) (are : AreStructs p.structs) (loose writes : Bool) (t : Ty) (sound_t : IsSound (length p.structs) t) where
-  module _ (b : Flow) (s : shader.State) (state : State) (r : Reached) (a : Access) (l : Trail) (good : Good m input sections f p around b s state) (is : IsTrail m input sections f p around false loose b state r l) (inside : IsInside p.structs writes t a l) where
+module _ (m : Module) (input : Input) (sections : Sections) (f : Frame m input sections) (p : Program) (around : Around) (are : AreStructs p.structs) (loose : Start) (writes : Bool) (t : Ty) (sound_t : IsSound (length p.structs) t) where
+  module _ (b : Flow) (s : shader.State) (state : State) (r : Reached) (a : Access) (l : Trail) (good : Good m input sections f p around b s state) (is : IsOwnTrail m input sections f p around false loose b state r l) (inside : IsInside p.structs writes t a l) where
     v : Value
     v = stands_there m input sections f p around are (λ id v. HeldAs m input sections f false id v b state) b.place.used b s state state loose writes r.base r.path t a l good is.begins inside
 
@@ -230,10 +233,35 @@ module _ (m : Module) (input : Input) (sections : Sections) (f : Frame m input s
           by (inr x) = subst (λ base. Does m input sections f p 0 units state (HasGiven m input sections f p around false t b state) none_waits (Got result s units) (read_composite p.structs t base r.path b)) (sym x.is) (loose_taken x none)
 
       -- what was reached gives its value
-      pub taken : Does m input sections f p 0 units state (HasGiven m input sections f p around false t b state) none_waits (Got (means_read p.structs t a s) s units) (reads p.structs t r b)
+      pub own_read : Does m input sections f p 0 units state (HasGiven m input sections f p around false t b state) none_waits (Got (means_read p.structs t a s) s units) (reads p.structs t r b)
       unfolding reads result
-      taken = by (shape_of t) refl
+      own_read = by (shape_of t) refl
         where
           by : (o : Option Shape) → shape_of t ≡ o → Does m input sections f p 0 units state (HasGiven m input sections f p around false t b state) none_waits (Got result s units) (read_by p.structs t r o b)
           by (Some shape) e = shape_taken shape e
           by None e = composite_taken e
+
+  module _ (b : Flow) (s : shader.State) (state : State) (r : Reached) (a : Access) (l : Trail) (good : Good m input sections f p around b s state) (is : IsTrail m input sections f p around false loose b state r l) (inside : IsInside p.structs writes t a l) where
+    module _ (units : ℕ) (apart : shape_of t ≡ None → loose ≡ OfBlock → ⊥) where
+      abbrev Gives_ : flow.Lowered ℕ → Type 0
+      Gives_ low = Does m input sections f p 0 units state (HasGiven m input sections f p around false t b state) none_waits (Got (means_read p.structs t a s) s units) low
+
+      -- a scalar or vector of a block
+      block_taken : (x : IsBlockTrail m input sections f p around false loose b state r l) (shape : Shape) → shape_of t ≡ Some shape → Gives_ (lift (read shape r) b)
+      block_taken x shape shaped =
+          computed_given m input sections f p around t (λ choices. (means_read p.structs t a s, choices)) (read shape r) (λ b. always_read m input sections shape r b.sections)
+          (λ choices all. record { typed = block_shape m input sections f p around are loose b s state r l good x writes t a inside sound_t shape shaped; left = all }) b s units state good
+          (block_read m input sections f p around are loose b s state r l good x writes t a inside sound_t shape shaped)
+
+      -- what was reached gives its value; of a block it is a scalar or vector
+      pub taken : Gives_ (reads p.structs t r b)
+      unfolding reads
+      taken = by is
+        where
+          in_one : (x : IsBlockTrail m input sections f p around false loose b state r l) (o : Option Shape) → shape_of t ≡ o → Gives_ (read_by p.structs t r o b)
+          in_one x (Some shape) e = block_taken x shape e
+          in_one x None e = absurd (apart e x.begins.marked)
+
+          by : IsTrail m input sections f p around false loose b state r l → Gives_ (read_by p.structs t r (shape_of t) b)
+          by (own x) = own_read b s state r a l good x inside units
+          by (in_block x) = in_one x (shape_of t) refl

@@ -1,11 +1,12 @@
 //! Laws of the definitions: calls that do nothing, whose contracts are the laws.
 
-ghost use Rattle.std.specs.Prelude.{ℕ, Bool, false, length};
+ghost use Rattle.std.specs.Prelude.{◌≡◌, ℕ, Bool, None, false, length};
 ghost use Rattle.gsl_base.specs.declared.input.Input.{Input};
 ghost use Rattle.gsl_types.specs.Known.{AreStructs, IsSound};
 ghost use Rattle.gsl_types.specs.declared.ty.Ty.{Ty};
 ghost use Rattle.gsl_words.specs.declared.module.Module.{Module};
 ghost use Rattle.gsl_tree.specs.Around.{Around};
+ghost use Rattle.gsl_tree.specs.Shapes.{shape_of};
 ghost use Rattle.gsl_tree.specs.declared.program.Program.{Program};
 ghost use Rattle.gsl_meaning.specs.Accesses.{Access};
 ghost use Rattle.gsl_meaning.specs.Running.{Got, Run};
@@ -18,22 +19,23 @@ ghost use Rattle.gsl_lower_holders.specs.Waiting.{fetch_reached, hold_reached};
 ghost use Rattle.gsl_lower_expr.specs.Parts.{accessed};
 ghost use Rattle.gsl_lower_follows.specs.Frames.{Frame, Good};
 ghost use Rattle.gsl_lower_follows.specs.Giving.{Does, GivesValue, none_waits};
-ghost use Rattle.gsl_lower_reaching.specs.Reaching.{GivesPlace, IsTrail};
+ghost use Rattle.gsl_lower_reaching.specs.Reaching.{GivesPlace, IsTrail, Start};
+ghost use Rattle.gsl_lower_reaching.specs.Reaching.Start.{OfBlock};
 ghost use Rattle.gsl_lower_reaching.specs.Trails.{Trail};
 ghost use Rattle.gsl_lower_reads.specs.Accessing.{accessed_means};
 ghost use Rattle.gsl_lower_reads.specs.Waiting.{IsKept};
 
-/// What leads to a variable, a value or a part of one gives the value that is read there, whatever its type, and strays where it leads out of bounds.
+/// What leads to a variable, a value, a block or a part of one gives the value that is read there, and strays where it leads out of bounds: whatever its type outside blocks, and scalars and vectors of blocks.
 pub fn places_give()
-    ensures { (m : Module) (input : Input) (sections : Sections) (f : Frame m input sections) (p : Program) (around : Around) (splits loose writes : Bool) (t : Ty) (reach : Emit Reached) (run : Run Access) → AreStructs p.structs → IsSound (length p.structs) t → GivesPlace m input sections f p around splits loose writes t reach run → GivesValue m input sections f p around splits t (accessed p.structs t reach) (accessed_means p.structs t run) }
+    ensures { (m : Module) (input : Input) (sections : Sections) (f : Frame m input sections) (p : Program) (around : Around) (splits : Bool) (loose : Start) (writes : Bool) (t : Ty) (reach : Emit Reached) (run : Run Access) → AreStructs p.structs → IsSound (length p.structs) t → (shape_of t ≡ None → loose ≡ OfBlock → ⊥) → GivesPlace m input sections f p around splits loose writes t reach run → GivesValue m input sections f p around splits t (accessed p.structs t reach) (accessed_means p.structs t run) }
 {}
 
 /// Where an expression leads waits while blocks end: the ids in it are kept in holders, and nothing else is done.
 pub fn places_wait()
-    ensures { (m : Module) (input : Input) (sections : Sections) (f : Frame m input sections) (p : Program) (around : Around) (waits loose : Bool) (r : Reached) (l : Trail) (units : ℕ) (b : Flow) (s : shader.State) (state : State) → Good m input sections f p around b s state → IsTrail m input sections f p around false loose b state r l → Does m input sections f p 0 units state (IsKept m input sections f p around waits loose l s b state) none_waits (Got tt s units) (hold_reached waits r b) }
+    ensures { (m : Module) (input : Input) (sections : Sections) (f : Frame m input sections) (p : Program) (around : Around) (waits : Bool) (loose : Start) (r : Reached) (l : Trail) (units : ℕ) (b : Flow) (s : shader.State) (state : State) → Good m input sections f p around b s state → IsTrail m input sections f p around false loose b state r l → Does m input sections f p 0 units state (IsKept m input sections f p around waits loose l s b state) none_waits (Got tt s units) (hold_reached waits r b) }
 {}
 
 /// It is there again.
 pub fn places_are_fetched()
-    ensures { (m : Module) (input : Input) (sections : Sections) (f : Frame m input sections) (p : Program) (around : Around) (waits loose : Bool) (r : Reached) (l : Trail) (units : ℕ) (b : Flow) (s : shader.State) (state : State) → Good m input sections f p around b s state → IsTrail m input sections f p around waits loose b state r l → Does m input sections f p 0 units state (IsKept m input sections f p around false loose l s b state) none_waits (Got tt s units) (fetch_reached waits r b) }
+    ensures { (m : Module) (input : Input) (sections : Sections) (f : Frame m input sections) (p : Program) (around : Around) (waits : Bool) (loose : Start) (r : Reached) (l : Trail) (units : ℕ) (b : Flow) (s : shader.State) (state : State) → Good m input sections f p around b s state → IsTrail m input sections f p around waits loose b state r l → Does m input sections f p 0 units state (IsKept m input sections f p around false loose l s b state) none_waits (Got tt s units) (fetch_reached waits r b) }
 {}

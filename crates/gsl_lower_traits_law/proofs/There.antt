@@ -1,13 +1,15 @@
 -- What may be evaluated where it does not count is there.
-use Rattle.std.proofs.Common.{◌≡◌, refl, sym, ap, ap₂, ◌∙◌, subst, ℕ, zero, suc, Bool, true, false, ◌&&◌, not, List, [], ◌∷◌, length, map, slice_get, Some, if◌then◌else◌}
+use Rattle.std.proofs.Common.{◌≡◌, refl, sym, ap, ap₂, ◌∙◌, subst, ℕ, zero, suc, ◌<◌, ◌^◌, Bool, true, false, ◌&&◌, not, List, [], ◌∷◌, length, map, slice_get, Option, Some, None, if◌then◌else◌}
 use Rattle.std.specs.Prelude.{◌==◌, slice_index_or}
 use Rattle.gsl_types.specs.Known.{AreStructs, IsSound}
-use Rattle.gsl_types.specs.declared.ty.Scalar.TheVariants.{Bool as Boolean}
+use Rattle.gsl_types.specs.declared.ty.Scalar.TheVariants.{Bool as Boolean, Int}
 use Rattle.gsl_types.specs.declared.ty.StructType.{StructType}
 use Rattle.gsl_types.specs.declared.ty.Ty.{Ty}
+use Rattle.gsl_types.specs.declared.ty.Ty.TheVariants as ty
+use Rattle.gsl_types.specs.declared.ty.Ty.TheViews.{out-Ty}
 use Rattle.gsl_values.specs.Choices.{answer}
 use Rattle.gsl_values.specs.Operators.{binary_answer, binary_word, is_free}
-use Rattle.gsl_values.specs.Vectors.{binary_each}
+use Rattle.gsl_values.specs.Vectors.{binary_each, components as picked}
 use Rattle.gsl_values.specs.declared.op.BinaryOp.{BinaryOp}
 use Rattle.gsl_values.specs.declared.op.BinaryOp.TheVariants as op
 use Rattle.gsl_values.specs.declared.value.Value.{Value}
@@ -15,31 +17,35 @@ use Rattle.gsl_values.specs.declared.value.Value.TheVariants.{Word}
 use Rattle.gsl_values.specs.declared.value.Value.TheOpen.{Value-F}
 use Rattle.gsl_values.specs.declared.value.Value.TheViews.{out-Value}
 use Rattle.gsl_tree.specs.Around.{Around}
-use Rattle.gsl_tree.specs.Expressions.{HasType, IsBinary, IsExpr, IsNode, boolean, types_of}
-use Rattle.gsl_tree.specs.Operations.{binary_value, binary_words, build_value, decides, is_signed, logic_word, spread, unary_value}
+use Rattle.gsl_tree.specs.Expressions.{HasType, IsBinary, IsExpr, IsNode, boolean, element_of, is_in_range, types_of}
+use Rattle.gsl_tree.specs.Operations.{binary_value, binary_words, build_value, decides, has_fixed_length, is_signed, length_of, logic_word, spread, unary_value}
 use Rattle.gsl_tree.proofs.Nodes.{value_of_one}
+use Rattle.gsl_tree.specs.Shapes.{Shape, shape_of}
 use Rattle.gsl_tree.specs.Trees.{Throughout, ThroughoutAll, form_of, parts_of, type_of}
 use Rattle.gsl_tree.specs.Values.{all_pass, components_in, is_scalar_layer, is_value_of, is_word_of, word_in, word_layer}
 use Rattle.gsl_tree.specs.declared.expr.Expr.{Expr}
 use Rattle.gsl_tree.specs.declared.expr.ExprKind.{ExprKind}
 use Rattle.gsl_tree.specs.declared.expr.ExprKind.TheOpen.{ExprKind-F}
-use Rattle.gsl_tree.specs.declared.expr.ExprKind.TheFolds.{fold-Expr, fold-ExprKind, map-ExprKind}
+use Rattle.gsl_tree.specs.declared.expr.ExprKind.TheFolds.{fold-Expr, fold-ExprKind, fold-roll-Expr, map-ExprKind}
+use Rattle.gsl_tree.specs.declared.expr.ExprKind.TheViews.{out-Expr, roll-out-Expr}
 use Rattle.gsl_tree.specs.declared.expr.LogicOp.{LogicOp}
 use Rattle.gsl_tree.specs.declared.expr.LogicOp.TheVariants as logic
-use Rattle.gsl_typed_law.proofs.Bounds.{truth_fits}
+use Rattle.gsl_typed_law.proofs.Bounds.{integer_fits, truth_fits}
 use Rattle.gsl_typed_law.proofs.Built.{build_typed}
 use Rattle.gsl_typed_law.proofs.Components.{scalar_typed}
 use Rattle.gsl_typed_law.proofs.Conversions.{converted_same}
 use Rattle.gsl_typed_law.proofs.Operators.{binary_typed, unary_typed}
-use Rattle.gsl_meaning.specs.Accesses.{nothing}
-use Rattle.gsl_meaning.specs.Expressions.{Meant, Setting, in_order, means, means_by, typed_by}
-use Rattle.gsl_meaning.specs.Running.{Run, Got, behind, drawing, given, ◌>>=◌}
+use Rattle.gsl_meaning.specs.Accesses.{Access, Global, Interface, Local, Param, member_of, nothing, read, swizzle_of}
+use Rattle.gsl_meaning.specs.Expressions.{Meant, Setting, counted, in_order, means, means_by, member_root, typed_by}
+use Rattle.gsl_meaning.specs.Running.{Run, Got, behind, drawing, given, indexing, told_by, ◌>>=◌}
 use Rattle.gsl_meaning.specs.State.{State}
 use Rattle.gsl_lower_traits.specs.declared.traits.Traits.{Traits}
-use Rattle.gsl_lower_traits.specs.Traits.{Known, is_sure, known, known_by, together_on, traits_by, traits_of, valued, with}
+use Rattle.gsl_lower_traits.specs.Traits.{Known, has_shape, is_dynamic, is_plain, is_still_index, is_sure, known, known_by, literal_by, together_on, traits_by, traits_of, valued, with}
 use Rattle.gsl_lower_traits_law.specs.Quiet.{AreHeld, AsksThere, IsThere, MayBeThere}
 use Rattle.gsl_lower_traits_law.proofs.Coming.{both_true, never}
-use Rattle.gsl_lower_traits_law.proofs.Told.{means_form, part_is, traits_are}
+use Rattle.gsl_lower_traits_law.proofs.Literals.{literal_below}
+use Rattle.gsl_lower_traits_law.proofs.Standing.{Stays, block_stays, index_stays, member_stays, read_there, root_stays, swizzle_stays, value_stays}
+use Rattle.gsl_lower_traits_law.proofs.Told.{literal_word, means_form, part_is, traits_are}
 
 -- ---- operators that draw nothing
 
@@ -100,14 +106,21 @@ joined_word logic.Xor a b fits = truth_fits (not (a == b))
 
 -- ---- every kind, over whatever says what is known of its parts
 
-module _ (around : Around) (are : AreStructs around.structs) (setting : Setting) (kinds_as : ExprKind → Ty → Traits) (known_as : Expr → Known) where
+-- what is known for a literal is a constant of that number
+abbrev pub AreConstants : (Expr → Known) → Type 0
+AreConstants known_as = (i : Expr) (number : ℕ) → (known_as i).traits.literal ≡ Some number → (v : Value) × (form_of i ≡ ExprKind-F.Const v) × (word_in v ≡ number)
+
+module _ (around : Around) (are : AreStructs around.structs) (setting : Setting) (kinds_as : ExprKind → Ty → Traits) (known_as : Expr → Known) (constants : AreConstants known_as) where
   abbrev part : Expr → Meant
   part = fold-Expr (Ty → Meant) Meant (means_by setting) typed_by
 
-  -- a part that may be evaluated where it does not count is there
+  -- a part that may be evaluated where it does not count is there, and so is a part of a variable that stands still
   pub record IsQuiet (e : Expr) : Type 0 where
     pub sound : IsSound (length around.structs) (type_of e)
     pub there : (known_as e).traits.quiet ≡ true → IsThere around (type_of e) (part e).value
+    pub stays : (known_as e).traits.still ≡ true → Stays around are (type_of e) (part e).access
+    pub typed : (part e).ty ≡ type_of e
+    pub known : (known_as e).ty ≡ type_of e
 
   abbrev pub AllQuiet : List Expr → Type 0
   AllQuiet [] = Unit {0}
@@ -138,6 +151,47 @@ module _ (around : Around) (are : AreStructs around.structs) (setting : Setting)
     (binary_typed around op signed a b t v w s.choices sound_a sound_b is fits_v fits_w held.choices).typed,
   )
 
+  -- ---- what stands still
+
+  -- what is read there
+  plain_there : (t : Ty) (access : Run Access) → IsSound (length around.structs) t → is_plain t ≡ true → Stays around are t access → IsThere around t (access >>= (λ a. told_by (read setting.structs t a)))
+  plain_there t access sound plain stays = by (shape_of t) refl plain
+    where
+      by : (o : Option Shape) → shape_of t ≡ o → has_shape o ≡ true → IsThere around t (access >>= (λ a. told_by (read setting.structs t a)))
+      by None e known = absurd (let z : false ≡ true = known in cc)
+      by (Some shape) e known = read_there around are setting.structs t shape access sound e stays
+
+  constant_is : (i : Expr) (v : Value) → form_of i ≡ ExprKind-F.Const v → (part i).value ≡ given v
+  constant_is i v is = ap (λ (x : Meant). x.value) (part_is setting i) ∙ ap (λ form. (means_form setting form (type_of i)).value) is
+
+  still_index : (a i : Expr) (t : Ty) → IsQuiet a → element_of (type_of a) ≡ Some t → is_in_range around a i ≡ true → is_still_index (known_as a) (known_as i).traits ≡ true
+      → Stays around are t ((part a).access >>= (λ x. (part i).value >>= (λ v. indexing x (word_in v))))
+  still_index a i t base element range still = by (known_as i).traits.literal refl second.1
+    where
+      first : (((known_as a).traits.still && not (is_dynamic (known_as i).traits.literal)) ≡ true) × (has_fixed_length (known_as a).ty ≡ true)
+      first = both_true _ (has_fixed_length (known_as a).ty) still
+
+      second : ((known_as a).traits.still ≡ true) × (not (is_dynamic (known_as i).traits.literal) ≡ true)
+      second = both_true (known_as a).traits.still (not (is_dynamic (known_as i).traits.literal)) first.0
+
+      by : (o : Option ℕ) → (known_as i).traits.literal ≡ o → not (is_dynamic o) ≡ true → Stays around are t ((part a).access >>= (λ x. (part i).value >>= (λ v. indexing x (word_in v))))
+      by None e known = absurd (let z : false ≡ true = known in cc)
+      by (Some number) e known =
+          let l = constants i number e in
+          index_stays around are (type_of a) l.0 t (part a).access (part i).value (constant_is i l.0 l.1) base.sound element (literal_below around a i t l.0 l.1 element (ap has_fixed_length (sym base.known) ∙ first.1) range) (base.stays second.0)
+
+  length_there : (a : Expr) (t : Ty) → t ≡ ty.One Int → IsQuiet a → (has_fixed_length (type_of a) ≡ true → length_of (type_of a) < 2 ^ 32) → (has_fixed_length (type_of a) ≡ false → IsThere around t (told_by (counted (part a))))
+      → IsThere around t (told_by (counted (part a)))
+  length_there a t is base small runtime = by (has_fixed_length (type_of a)) refl
+    where
+      by : (b : Bool) → has_fixed_length (type_of a) ≡ b → IsThere around t (told_by (counted (part a)))
+      by false fixed = runtime fixed
+      by true fixed = λ s units held. (
+        Word (length_of (type_of a)),
+        ap (λ v. Got v s units) (ap (λ b. if b then Word (length_of (part a).ty) else Word ((part a).parts s)) (ap has_fixed_length base.typed ∙ fixed) ∙ ap (λ u. Word (length_of u)) base.typed),
+        subst (λ u. is_value_of around.structs u (Word (length_of (type_of a))) ≡ true) (sym is) (scalar_typed around.structs Int (length_of (type_of a)) (integer_fits Int (length_of (type_of a)) refl (small fixed))),
+      )
+
   -- ---- in a row
 
   abbrev AllTrue : List Expr → Type 0
@@ -158,28 +212,34 @@ module _ (around : Around) (are : AreStructs around.structs) (setting : Setting)
       let rest = row_there es all.1 quiet.1 s units held in
       (first.0 ∷ rest.0, ap (λ ran. behind ran (λ v. in_order (map part es) >>= (λ vs. given (v ∷ vs)))) first.1 ∙ ap (λ ran. behind ran (λ vs. given (first.0 ∷ vs))) rest.1, ap₂ (λ a b. a && b) first.2 rest.2)
 
-  pub by_form : (e : Expr) (form : ExprKind-F ExprKind Expr) → part e ≡ means_form setting form (type_of e) → AllQuiet (parts_of form) → HasType around form (type_of e) → AsksThere around setting e form → Goal form (type_of e)
+  pub by_form : (e : Expr) (form : ExprKind-F ExprKind Expr) → part e ≡ means_form setting form (type_of e) → IsSound (length around.structs) (type_of e) → AllQuiet (parts_of form) → HasType around form (type_of e) → AsksThere around setting e form → Goal form (type_of e)
   unfolding means
-  by_form e (ExprKind-F.Const v) w all is asks q = given_there (type_of e) v is.0
-  by_form e (ExprKind-F.Local n) w all is asks q = λ s units held. let h = held.locals n (type_of e) is in (h.0, ap (λ v. Got v s units) (index_or s.locals n h.0 h.1), h.2)
-  by_form e (ExprKind-F.Global n) w all is asks q = λ s units held. let h = held.globals n (type_of e) is in (h.0, ap (λ v. Got v s units) (index_or s.globals n h.0 h.1), h.2)
-  by_form e (ExprKind-F.Param n) w all is asks q = λ s units held. let h = held.params n (type_of e) is in (h.0, ap (λ v. Got v s units) (index_or s.params n h.0 h.1), h.2)
-  by_form e (ExprKind-F.Interface n) w all is asks q = λ s units held. let h = held.interfaces n (type_of e) is in (h.0, ap (λ v. Got v s units) (index_or s.interfaces n h.0 h.1), h.2)
-  by_form e (ExprKind-F.Stage var) w all is asks q = given_there (type_of e) (setting.stage_value var) (subst (λ t. is_value_of around.structs t (setting.stage_value var) ≡ true) is.1 asks)
-  by_form e (ExprKind-F.BlockMember block n) w all is asks q = subst (λ (x : Meant). IsThere around (type_of e) x.value) w asks
-  by_form e (ExprKind-F.Member a n) w all is asks q = subst (λ (x : Meant). IsThere around (type_of e) x.value) w asks
-  by_form e (ExprKind-F.Index a i) w all is asks q = subst (λ (x : Meant). IsThere around (type_of e) x.value) w asks
-  by_form e (ExprKind-F.Swizzle a lanes) w all is asks q = subst (λ (x : Meant). IsThere around (type_of e) x.value) w asks
-  by_form e (ExprKind-F.Length a) w all is asks q = subst (λ (x : Meant). IsThere around (type_of e) x.value) w asks
-  by_form e (ExprKind-F.Unary op a) w all is asks q =
+  by_form e (ExprKind-F.Const v) w sound all is asks q = given_there (type_of e) v is.0
+  by_form e (ExprKind-F.Local n) w sound all is asks q = λ s units held. let h = held.locals n (type_of e) is in (h.0, ap (λ v. Got v s units) (index_or s.locals n h.0 h.1), h.2)
+  by_form e (ExprKind-F.Global n) w sound all is asks q = λ s units held. let h = held.globals n (type_of e) is in (h.0, ap (λ v. Got v s units) (index_or s.globals n h.0 h.1), h.2)
+  by_form e (ExprKind-F.Param n) w sound all is asks q = λ s units held. let h = held.params n (type_of e) is in (h.0, ap (λ v. Got v s units) (index_or s.params n h.0 h.1), h.2)
+  by_form e (ExprKind-F.Interface n) w sound all is asks q = λ s units held. let h = held.interfaces n (type_of e) is in (h.0, ap (λ v. Got v s units) (index_or s.interfaces n h.0 h.1), h.2)
+  by_form e (ExprKind-F.Stage var) w sound all is asks q = given_there (type_of e) (setting.stage_value var) (subst (λ t. is_value_of around.structs t (setting.stage_value var) ≡ true) is.1 asks)
+  by_form e (ExprKind-F.BlockMember block n) w sound all is asks q = plain_there (type_of e) (given (member_root block n)) sound q (block_stays around are block n (type_of e) is)
+  by_form e (ExprKind-F.Member a n) w sound all is asks q =
+      let both = both_true (known_as a).traits.still (is_plain (type_of e)) q in
+      plain_there (type_of e) ((part a).access >>= (λ x. given (member_of x n))) sound both.1 (member_stays around are (type_of a) n (type_of e) (part a).access is (all.0.stays both.0))
+  by_form e (ExprKind-F.Index a i) w sound all is asks q =
+      let both = both_true (is_still_index (known_as a) (known_as i).traits) (is_plain (type_of e)) q in
+      plain_there (type_of e) ((part a).access >>= (λ x. (part i).value >>= (λ v. indexing x (word_in v)))) sound both.1 (still_index a i (type_of e) all.0 is.0 is.2 both.0)
+  by_form e (ExprKind-F.Swizzle a lanes) w sound all is asks q =
+      let both = both_true (known_as a).traits.still (is_plain (type_of e)) q in
+      plain_there (type_of e) ((part a).access >>= (λ x. given (swizzle_of x (picked lanes)))) sound both.1 (swizzle_stays around are (type_of a) lanes (type_of e) (part a).access asks is (all.0.stays both.0))
+  by_form e (ExprKind-F.Length a) w sound all is asks q = length_there a (type_of e) is.0 all.0 asks.0 (λ runtime. subst (λ (x : Meant). IsThere around (type_of e) x.value) w (asks.1 runtime))
+  by_form e (ExprKind-F.Unary op a) w sound all is asks q =
       there_then (type_of a) (type_of e) (part a).value (λ v. given (unary_value op v)) (all.0.there q) (λ v fits. given_there (type_of e) (unary_value op v) (unary_typed around.structs op (type_of a) (type_of e) v is fits))
-  by_form e (ExprKind-F.Binary op a b) w all is asks q =
+  by_form e (ExprKind-F.Binary op a b) w sound all is asks q =
       let both = both_true _ (is_sure op) q in
       let each = both_true (known_as a).traits.quiet (known_as b).traits.quiet both.0 in
       there_then (type_of a) (type_of e) (part a).value (λ x. (part b).value >>= (λ y. drawing (binary_value op (is_signed (part a).ty) x y))) (all.0.there each.0)
       (λ x fits_x. there_then (type_of b) (type_of e) (part b).value (λ y. drawing (binary_value op (is_signed (part a).ty) x y)) (all.1.0.there each.1)
       (λ y fits_y. drawn_there op (is_signed (part a).ty) (type_of a) (type_of b) (type_of e) x y both.1 all.0.sound all.1.0.sound is fits_x fits_y))
-  by_form e (ExprKind-F.Logic op a b) w all is asks q =
+  by_form e (ExprKind-F.Logic op a b) w sound all is asks q =
       let each = both_true (known_as a).traits.quiet (known_as b).traits.quiet (both_true _ true q).0 in
       there_then (type_of a) (type_of e) (part a).value (λ x. if decides op (word_in x) then given x else (part b).value >>= (λ y. given (Word (logic_word op (word_in x) (word_in y))))) (all.0.there each.0)
       (λ x fits_x. if_there (type_of e) (decides op (word_in x)) (given x) ((part b).value >>= (λ y. given (Word (logic_word op (word_in x) (word_in y)))))
@@ -188,25 +248,47 @@ module _ (around : Around) (are : AreStructs around.structs) (setting : Setting)
       (λ y fits_y. given_there (type_of e) (Word (logic_word op (word_in x) (word_in y)))
       (subst (λ t. is_value_of around.structs t (Word (logic_word op (word_in x) (word_in y))) ≡ true) (sym is.2)
       (scalar_typed around.structs Boolean (logic_word op (word_in x) (word_in y)) (joined_word op (word_in x) (word_in y) (truth_word around.structs y (subst (λ t. is_value_of around.structs t y ≡ true) is.1 fits_y))))))))
-  by_form e (ExprKind-F.Choose test a b) w all is asks q =
+  by_form e (ExprKind-F.Choose test a b) w sound all is asks q =
       let first = both_true (known_as test).traits.quiet _ q in
       let last = both_true _ (known_as b).traits.quiet first.1 in
       let middle = both_true _ (known_as a).traits.quiet last.0 in
       there_then (type_of test) (type_of e) (part test).value (λ v. if word_in v == 0 then (part b).value else (part a).value) (all.0.there first.0)
       (λ v fits. if_there (type_of e) (word_in v == 0) (part b).value (part a).value (subst (λ t. IsThere around t (part b).value) is.2 (all.1.1.0.there last.1)) (subst (λ t. IsThere around t (part a).value) is.1 (all.1.0.there middle.1)))
-  by_form e (ExprKind-F.Assign a b) w all is asks q = never _ q
-  by_form e (ExprKind-F.Update op a b) w all is asks q = never _ q
-  by_form e (ExprKind-F.Step op a) w all is asks q = absurd (let z : false ≡ true = q in cc)
-  by_form e (ExprKind-F.Call n args) w all is asks q = absurd (let z : false ≡ true = q in cc)
-  by_form e (ExprKind-F.Built which args) w all is asks q = absurd (let z : false ≡ true = q in cc)
-  by_form e (ExprKind-F.Build args) w all is asks q = λ s units held.
+  by_form e (ExprKind-F.Assign a b) w sound all is asks q = never _ q
+  by_form e (ExprKind-F.Update op a b) w sound all is asks q = never _ q
+  by_form e (ExprKind-F.Step op a) w sound all is asks q = absurd (let z : false ≡ true = q in cc)
+  by_form e (ExprKind-F.Call n args) w sound all is asks q = absurd (let z : false ≡ true = q in cc)
+  by_form e (ExprKind-F.Built which args) w sound all is asks q = absurd (let z : false ≡ true = q in cc)
+  by_form e (ExprKind-F.Build args) w sound all is asks q = λ s units held.
       let quiet = row_quiet (valued false false true) args (both_true _ _ q).0 in
       let row = row_there args all quiet.1 s units held in
       (build_value (type_of e) row.0, ap (λ ran. behind ran (λ vs. given (build_value (type_of e) vs))) row.1, build_typed around are args row.0 row.2 (type_of e) is)
-  by_form e (ExprKind-F.Convert a) w all is asks q = λ s units held.
+  by_form e (ExprKind-F.Convert a) w sound all is asks q = λ s units held.
       let x = all.0.there q s units held in
       (x.0, x.1, sym (converted_same around.structs (type_of a) (type_of e) x.0 is.0) ∙ x.2)
-  by_form e (ExprKind-F.Comma items) w all is asks q = absurd (let z : false ≡ true = q in cc)
+  by_form e (ExprKind-F.Comma items) w sound all is asks q = absurd (let z : false ≡ true = q in cc)
+
+  -- where every kind leads
+  pub stays_by_form : (e : Expr) (form : ExprKind-F ExprKind Expr) → part e ≡ means_form setting form (type_of e) → IsSound (length around.structs) (type_of e) → AllQuiet (parts_of form) → HasType around form (type_of e) → AsksThere around setting e form
+      → (traits_by (map-ExprKind ExprKind Expr (Ty → Traits) Known kinds_as known_as form) (type_of e)).still ≡ true → Stays around are (type_of e) (means_form setting form (type_of e)).access
+  stays_by_form e (ExprKind-F.Local n) w sound all is asks still =
+      root_stays around are (type_of e) (Local n) refl (λ s held. let h = held.locals n (type_of e) is in ap (is_value_of around.structs (type_of e)) (index_or s.locals n h.0 h.1) ∙ h.2)
+  stays_by_form e (ExprKind-F.Global n) w sound all is asks still =
+      root_stays around are (type_of e) (Global n) refl (λ s held. let h = held.globals n (type_of e) is in ap (is_value_of around.structs (type_of e)) (index_or s.globals n h.0 h.1) ∙ h.2)
+  stays_by_form e (ExprKind-F.Param n) w sound all is asks still =
+      root_stays around are (type_of e) (Param n) refl (λ s held. let h = held.params n (type_of e) is in ap (is_value_of around.structs (type_of e)) (index_or s.params n h.0 h.1) ∙ h.2)
+  stays_by_form e (ExprKind-F.Interface n) w sound all is asks still =
+      root_stays around are (type_of e) (Interface n) refl (λ s held. let h = held.interfaces n (type_of e) is in ap (is_value_of around.structs (type_of e)) (index_or s.interfaces n h.0 h.1) ∙ h.2)
+  stays_by_form e (ExprKind-F.BlockMember block n) w sound all is asks still = block_stays around are block n (type_of e) is
+  stays_by_form e (ExprKind-F.Member a n) w sound all is asks still = member_stays around are (type_of a) n (type_of e) (part a).access is (all.0.stays still)
+  stays_by_form e (ExprKind-F.Index a i) w sound all is asks still = still_index a i (type_of e) all.0 is.0 is.2 still
+  stays_by_form e (ExprKind-F.Swizzle a lanes) w sound all is asks still = swizzle_stays around are (type_of a) lanes (type_of e) (part a).access asks is (all.0.stays still)
+  stays_by_form e form w sound all is asks still = value_stays around are (type_of e) (means_form setting form (type_of e)).value (by_form e form w sound all is asks still)
+
+-- every kind means something of its type
+pub meant_type : (setting : Setting) (form : ExprKind-F ExprKind Expr) (t : Ty) → (means_form setting form t).ty ≡ t
+meant_type setting (ExprKind-F.Const v) t = refl
+meant_type setting form t = refl
 
 -- ---- by what is known of trees
 
@@ -214,18 +296,32 @@ module _ (around : Around) (are : AreStructs around.structs) (setting : Setting)
   abbrev kinds_known : ExprKind → Ty → Traits
   kinds_known = fold-ExprKind (Ty → Traits) Known traits_by known_by
 
+  constants : AreConstants known
+  constants i number e =
+      let l = by (form_of i) (type_of i) (ap (λ (t : Traits). t.literal) (sym (traits_are setting i)) ∙ e) in
+      (l.0, l.1, literal_word (out-Ty (type_of i)) l.0 number l.2)
+    where
+      by : (form : ExprKind-F ExprKind Expr) (t : Ty) → (traits_by (map-ExprKind ExprKind Expr (Ty → Traits) Known kinds_known known form) t).literal ≡ Some number → (v : Value) × (form ≡ ExprKind-F.Const v) × (literal_by (out-Ty t) v ≡ Some number)
+      by (ExprKind-F.Const v) t e = (v, refl, e)
+      by form t e = absurd (let z : None ≡ Some number = e in cc)
+
   abbrev Here : Expr → Type 0
-  Here = IsQuiet around are setting kinds_known known
+  Here = IsQuiet around are setting kinds_known known constants
 
   abbrev AllHere : List Expr → Type 0
-  AllHere = AllQuiet around are setting kinds_known known
+  AllHere = AllQuiet around are setting kinds_known known constants
 
   one_there : (e : Expr) → IsNode around e → IsSound (length around.structs) (type_of e) → MayBeThere around setting e → AllHere (parts_of (form_of e)) → Here e
   one_there e node sound asks all = record {
     sound = sound;
     there = λ q.
         subst (λ (x : Meant). IsThere around (type_of e) x.value) (sym (part_is setting e))
-        (by_form around are setting kinds_known known e (form_of e) (part_is setting e) all node.type asks (ap (λ (k : Traits). k.quiet) (sym (traits_are setting e)) ∙ q));
+        (by_form around are setting kinds_known known constants e (form_of e) (part_is setting e) sound all node.type asks (ap (λ (k : Traits). k.quiet) (sym (traits_are setting e)) ∙ q));
+    stays = λ still.
+        subst (λ (x : Meant). Stays around are (type_of e) x.access) (sym (part_is setting e))
+        (stays_by_form around are setting kinds_known known constants e (form_of e) (part_is setting e) sound all node.type asks (ap (λ (k : Traits). k.still) (sym (traits_are setting e)) ∙ still));
+    typed = ap (λ (x : Meant). x.ty) (part_is setting e) ∙ meant_type setting (form_of e) (type_of e);
+    known = ap (λ (k : Known). k.ty) (ap known (sym (roll-out-Expr e)) ∙ fold-roll-Expr (Ty → Traits) Known traits_by known_by (out-Expr e));
   }
 
   mutual

@@ -49,7 +49,7 @@ use Rattle.gsl_lower_follows.specs.Frames.{Frame, Good, HeldAs}
 use Rattle.gsl_lower_follows.specs.Giving.{After, Does, none_waits}
 use Rattle.gsl_lower_follows.proofs.Doing.{does_lift}
 use Rattle.gsl_lower_elements.proofs.Indexing.{after_step}
-use Rattle.gsl_lower_reaching.specs.Reaching.{AtVariable, Begins, IsTrail, PicksBy}
+use Rattle.gsl_lower_reaching.specs.Reaching.{AtVariable, Begins, IsOwnTrail, PicksBy, Start}
 use Rattle.gsl_lower_reaching.specs.Reaching.Begins.{variable}
 use Rattle.gsl_lower_reaching.specs.Trails.{Chosen, IsInside, IsPicked, Trail}
 use Rattle.gsl_lower_reaching.proofs.Moving.{numbers_stand}
@@ -62,7 +62,7 @@ use Rattle.gsl_lower_writes.proofs.Stored.{picks_stand}
 some_same : {A : Type 0} {a b : A} → Some a ≡ Some b → a ≡ b
 some_same e = cc
 
-module _ (m : Module) (input : Input) (sections : Sections) (f : Frame m input sections) (p : Program) (around : Around) (are : AreStructs p.structs) (loose : Bool) (t : Ty) (sound_t : IsSound (length p.structs) t) (shape : Shape) (shaped : shape_of t ≡ Some shape) (r : Reached) (a : Access) (l : Trail)
+module _ (m : Module) (input : Input) (sections : Sections) (f : Frame m input sections) (p : Program) (around : Around) (are : AreStructs p.structs) (loose : Start) (t : Ty) (sound_t : IsSound (length p.structs) t) (shape : Shape) (shaped : shape_of t ≡ Some shape) (r : Reached) (a : Access) (l : Trail)
     (x : AtVariable m input sections f p around loose r.base l) (inside : IsInside p.structs true t a l) where
   -- Whenever ids still stand for the same, what was given reads what the access does, and what is stored there stands there for the shader too.
   pub record ServesPlace (to : Reached) (ids : Ids) : Type 0 where
@@ -186,7 +186,7 @@ module _ (m : Module) (input : Input) (sections : Sections) (f : Frame m input s
     pub still : u ≡ s
     pub serves : ServesPlace to last.ids
 
-  module _ (b : Flow) (s : shader.State) (units : ℕ) (state : State) (good : Good m input sections f p around b s state) (is : IsTrail m input sections f p around false loose b state r l) where
+  module _ (b : Flow) (s : shader.State) (units : ℕ) (state : State) (good : Good m input sections f p around b s state) (is : IsOwnTrail m input sections f p around false loose b state r l) where
     abbrev to_place : Value
     to_place = part m input sections f p around are loose t sound_t b s state r a l good x inside
 

@@ -45,7 +45,8 @@ use Rattle.gsl_lower_law_expr.proofs.Short.{does_change}
 use Rattle.gsl_lower_law_expr.proofs.Steps.{Always, always_given, always_then}
 use Rattle.gsl_lower_law_names.proofs.Reading.{variable_there}
 use Rattle.gsl_lower_elements.proofs.Indexing.{none_shape}
-use Rattle.gsl_lower_reaching.specs.Reaching.{AtVariable, IsFixed, IsTrail}
+use Rattle.gsl_lower_reaching.specs.Reaching.{AtVariable, IsFixed, IsOwnTrail, IsTrail, Start}
+use Rattle.gsl_lower_reaching.specs.Reaching.IsTrail.{own}
 use Rattle.gsl_lower_reaching.specs.Trails.{IsInside, IsOutside, Trail}
 use Rattle.gsl_lower_reaching.proofs.Counted.{lacks_part}
 use Rattle.gsl_lower_reaching.proofs.Moving.{numbers_stand}
@@ -56,7 +57,7 @@ use Rattle.gsl_lower_writes.proofs.Adding.{always_pointed}
 use Rattle.gsl_lower_writes.proofs.Outside.{pointed_strays}
 use Rattle.gsl_lower_writes.proofs.Pointed.{IsServed, place_pointed}
 use Rattle.gsl_lower_writes.proofs.Renewed.{has_words, old, part, there, whole_typed}
-use Rattle.gsl_lower_writes.proofs.Stored.{at_variable}
+use Rattle.gsl_lower_writes.proofs.Stored.{at_variable, own_named}
 use Rattle.gsl_lower_writes.proofs.First.{HasFirst, fixed_numbers, value_first}
 
 -- steps that are lifted one behind the other
@@ -88,13 +89,13 @@ module _ (m : Module) (input : Input) (sections : Sections) where
   pub adds_probe : (structs : List StructType) (calls : Bool) (t : Ty) (r : Reached) → Adds (lift (probe structs calls t r))
   adds_probe structs calls t r = adds_lift (probe structs calls t r) (λ b. always_probe structs calls t r b.sections)
 
-  module _ (f : Frame m input sections) (p : Program) (around : Around) (are : AreStructs p.structs) (loose : Bool) (t : Ty) (sound_t : IsSound (length p.structs) t) where
+  module _ (f : Frame m input sections) (p : Program) (around : Around) (are : AreStructs p.structs) (loose : Start) (t : Ty) (sound_t : IsSound (length p.structs) t) where
     -- nothing has changed, in the shader either
     pub record IsTested (b : Flow) (s : shader.State) (state : State) (done : Unit {0}) (later : Flow) (one : Unit {0}) (u : shader.State) (last : State) : Type 0 where
       pub after : After m input sections f p around false b state later u last
       pub still : u ≡ s
 
-    module _ (b : Flow) (s : shader.State) (units : ℕ) (state : State) (r : Reached) (l : Trail) (good : Good m input sections f p around b s state) (is : IsTrail m input sections f p around false loose b state r l) where
+    module _ (b : Flow) (s : shader.State) (units : ℕ) (state : State) (r : Reached) (l : Trail) (good : Good m input sections f p around b s state) (is : IsOwnTrail m input sections f p around false loose b state r l) where
       on_base : (shape : Shape) (x : AtVariable m input sections f p around loose r.base l) → tested r.base shape r ≡ steps.◌>>=◌ (pointed shape r) (λ to. steps.given tt)
       on_base shape x = ap (λ base. tested base shape r) x.is
 
@@ -106,9 +107,9 @@ module _ (m : Module) (input : Input) (sections : Sections) where
       probe_is shape shaped x = ap (λ o. lift (probe_by p.structs t r o) b) shaped ∙ ap (λ step. lift step b) (on_base shape x) ∙ lift_then (pointed shape r) (λ to. steps.given tt) b
 
       -- there is nothing to test for
-      pub probe_none : Does m input sections f p 0 units state (IsTested b s state) none_waits (Got tt s units) (lift (probe p.structs false t r) b)
+      nothing_tested : Does m input sections f p 0 units state (IsTested b s state) none_waits (Got tt s units) (lift (probe p.structs false t r) b)
       unfolding probe
-      probe_none = λ within. reaches_here m input units state (IsTested b s state tt b tt s) (record { after = after_same m input sections f p around b s state good; still = refl })
+      nothing_tested = λ within. reaches_here m input units state (IsTested b s state tt b tt s) (record { after = after_same m input sections f p around b s state good; still = refl })
 
       -- what is a scalar or a vector
       shape_in : (shape : Shape) → shape_of t ≡ Some shape → (x : AtVariable m input sections f p around loose r.base l) (a : Access) → IsInside p.structs true t a l → Does m input sections f p 0 units state (IsTested b s state) none_waits (Got tt s units) (lift (probe p.structs true t r) b)
@@ -125,7 +126,7 @@ module _ (m : Module) (input : Input) (sections : Sections) where
           subst (λ low. Does m input sections f p 0 units state Then none_waits Strays low) (sym (probe_is shape shaped x))
           (does_then m input sections f p 0 units b state (λ to later (one : R) u last. ⊥) none_waits Then none_waits Strays (λ one u left. Strays) (lift (pointed shape r) b) (λ to. given tt) good.inside
           (adds_lift (pointed shape r) (λ b. always_pointed m input sections shape r b.sections) b) (λ to. adds_given {A = Unit {0}} tt)
-          (pointed_strays m input sections f p around are loose t shape units b s state r l (λ to later (one : R) u last. ⊥) good is outside)
+          (pointed_strays m input sections f p around are loose t shape units b s state r l (λ to later (one : R) u last. ⊥) good (own is) outside)
           (λ to between one u left mid within grown none less. absurd none)
           (λ to between u left mid within grown none less. absurd none))
 
@@ -201,10 +202,10 @@ module _ (m : Module) (input : Input) (sections : Sections) where
             by [] first = absurd first
             by (one ∷ more) first = leaf_out x one first.fixed Then more (stray_on m input state (InVariable x.number []) l.words (map number_in one.path) path_strays)
 
-      pub probe_in : (calls : Bool) (a : Access) → IsInside p.structs true t a l → Does m input sections f p 0 units state (IsTested b s state) none_waits (Got tt s units) (lift (probe p.structs calls t r) b)
+      own_in : (calls : Bool) (a : Access) → IsInside p.structs true t a l → Does m input sections f p 0 units state (IsTested b s state) none_waits (Got tt s units) (lift (probe p.structs calls t r) b)
       unfolding probe
-      probe_in false a inside = probe_none
-      probe_in true a inside = by (shape_of t) refl
+      own_in false a inside = nothing_tested
+      own_in true a inside = by (shape_of t) refl
         where
           x : AtVariable m input sections f p around loose r.base l
           x = at_variable m input sections f p around b state loose r l is (inside.named refl)
@@ -213,9 +214,9 @@ module _ (m : Module) (input : Input) (sections : Sections) where
           by (Some shape) e = shape_in shape e x a inside
           by None e = subst (λ o. Does m input sections f p 0 units state (IsTested b s state) none_waits (Got tt s units) (lift (probe_by p.structs t r o) b)) (sym e) (whole_in x e a inside)
 
-      pub probe_out : {R : Type 0} (Then : Unit {0} → Flow → R → shader.State → State → Type 0) → ((v : Value) × (is_value_of p.structs t v ≡ true)) → IsOutside p.structs true t l → Does m input sections f p 0 units state Then none_waits Strays (lift (probe p.structs true t r) b)
+      own_out : {R : Type 0} (Then : Unit {0} → Flow → R → shader.State → State → Type 0) → ((v : Value) × (is_value_of p.structs t v ≡ true)) → IsOutside p.structs true t l → Does m input sections f p 0 units state Then none_waits Strays (lift (probe p.structs true t r) b)
       unfolding probe
-      probe_out {R} Then some outside = by (shape_of t) refl
+      own_out {R} Then some outside = by (shape_of t) refl
         where
           x : AtVariable m input sections f p around loose r.base l
           x = at_variable m input sections f p around b state loose r l is (outside.named refl)
@@ -223,3 +224,15 @@ module _ (m : Module) (input : Input) (sections : Sections) where
           by : (o : Option Shape) → shape_of t ≡ o → Does m input sections f p 0 units state Then none_waits Strays (lift (probe_by p.structs t r (shape_of t)) b)
           by (Some shape) e = shape_out Then shape e x outside
           by None e = subst (λ o. Does m input sections f p 0 units state Then none_waits Strays (lift (probe_by p.structs t r o) b)) (sym e) (whole_out x e Then some outside)
+
+    module _ (b : Flow) (s : shader.State) (units : ℕ) (state : State) (r : Reached) (l : Trail) (good : Good m input sections f p around b s state) (is : IsTrail m input sections f p around false loose b state r l) where
+      -- there is nothing to test for
+      pub probe_none : Does m input sections f p 0 units state (IsTested b s state) none_waits (Got tt s units) (lift (probe p.structs false t r) b)
+      unfolding probe
+      probe_none = λ within. reaches_here m input units state (IsTested b s state tt b tt s) (record { after = after_same m input sections f p around b s state good; still = refl })
+
+      pub probe_in : (calls : Bool) (a : Access) → IsInside p.structs true t a l → Does m input sections f p 0 units state (IsTested b s state) none_waits (Got tt s units) (lift (probe p.structs calls t r) b)
+      probe_in calls a inside = own_in b s units state r l good (own_named m input sections f p around b state loose r l is (inside.named refl)) calls a inside
+
+      pub probe_out : {R : Type 0} (Then : Unit {0} → Flow → R → shader.State → State → Type 0) → ((v : Value) × (is_value_of p.structs t v ≡ true)) → IsOutside p.structs true t l → Does m input sections f p 0 units state Then none_waits Strays (lift (probe p.structs true t r) b)
+      probe_out {R} Then some outside = own_out b s units state r l good (own_named m input sections f p around b state loose r l is (outside.named refl)) Then some outside

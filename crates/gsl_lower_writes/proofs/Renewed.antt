@@ -1,5 +1,5 @@
 -- The states behind a value that was stored where a trail leads.
-use Rattle.std.proofs.Common.{◌≡◌, refl, sym, ap, ◌∙◌, subst, Bool, true, false, [], ◌++◌, length, Option, Some, None}
+use Rattle.std.proofs.Common.{◌≡◌, refl, sym, ap, ◌∙◌, subst, true, false, [], ◌++◌, length, Option, Some, None}
 use Rattle.std.specs.Prelude.{set, slice_get}
 use Rattle.gsl_base.specs.declared.input.Input.{Input}
 use Rattle.gsl_types.specs.Known.{AreStructs, IsSound}
@@ -30,15 +30,15 @@ use Rattle.gsl_lower_law_names.proofs.Storing.{Other, holds_set, kept_set, typed
 use Rattle.gsl_lower_holders.specs.Flow.{Flow, flow_of}
 use Rattle.gsl_lower_follows.specs.Frames.{Frame, Good, Inside, Name, coming}
 use Rattle.gsl_lower_follows.specs.Giving.{After}
-use Rattle.gsl_lower_reaching.specs.Reaching.{AtVariable}
+use Rattle.gsl_lower_reaching.specs.Reaching.{AtVariable, Start}
 use Rattle.gsl_lower_reaching.specs.Trails.{Chosen, IsInside, IsPicked, MayWrite, Trail}
 use Rattle.gsl_lower_reaching.proofs.Counted.{has_part}
 use Rattle.gsl_lower_reaching.proofs.Seen.{HasValue, has_value}
-use Rattle.gsl_lower_reads.proofs.Found.{shape_typed}
+use Rattle.gsl_lower_elements.proofs.Picked.{shape_typed}
 use Rattle.gsl_lower_writes.proofs.Named.{named_anew, no_holder, others_stay}
 use Rattle.gsl_lower_writes.proofs.Picked.{picked_stored, renewed, renewed_is}
 
-module _ (m : Module) (input : Input) (sections : Sections) (f : Frame m input sections) (p : Program) (around : Around) (are : AreStructs p.structs) (loose : Bool) (t : Ty) (sound_t : IsSound (length p.structs) t) where
+module _ (m : Module) (input : Input) (sections : Sections) (f : Frame m input sections) (p : Program) (around : Around) (are : AreStructs p.structs) (loose : Start) (t : Ty) (sound_t : IsSound (length p.structs) t) where
   module _ (b : Flow) (s : shader.State) (state : State) (r : Reached) (a : Access) (l : Trail) (good : Good m input sections f p around b s state) (x : AtVariable m input sections f p around loose r.base l) (inside : IsInside p.structs true t a l) where
     has : HasValue m input sections f p around s loose r.base l x
     has = has_value m input sections f p around b s state loose r.base l x good

@@ -43,10 +43,11 @@ use Rattle.gsl_lower_follows.proofs.Fetching.{adds_put}
 use Rattle.gsl_lower_follows.proofs.Growing.{adds_lift}
 use Rattle.gsl_lower_follows.proofs.Holding.{after_then, does_so}
 use Rattle.gsl_lower_elements.proofs.Indexing.{after_step, none_shape}
-use Rattle.gsl_lower_reaching.specs.Reaching.{AtVariable, Begins, IsTrail, PicksBy}
+use Rattle.gsl_lower_reaching.specs.Reaching.{AtVariable, Begins, IsOwnTrail, IsTrail, PicksBy, Start}
+use Rattle.gsl_lower_reaching.specs.Reaching.IsTrail.{own, in_block}
 use Rattle.gsl_lower_reaching.specs.Reaching.Begins.{variable, value, holder}
 use Rattle.gsl_lower_reaching.specs.Trails.{Chosen, IsInside, IsOfVariable, IsPicked, Trail}
-use Rattle.gsl_lower_reaching.proofs.Moving.{chooses_stand, numbers_stand, trail_after}
+use Rattle.gsl_lower_reaching.proofs.Moving.{chooses_stand, numbers_stand, own_after}
 use Rattle.gsl_lower_reaching.proofs.Parts.{whole_picked}
 use Rattle.gsl_lower_reads.proofs.Adding.{always_pointer}
 use Rattle.gsl_lower_writes.specs.Written.{IsWritten}
@@ -56,7 +57,11 @@ use Rattle.gsl_lower_writes.proofs.Renewed.{after_stored, all, leads, new, new_s
 
 module _ (m : Module) (input : Input) (sections : Sections) (f : Frame m input sections) (p : Program) (around : Around) where
   -- what may be written is in a variable
-  pub at_variable : (b : Flow) (state : State) (loose : Bool) (r : Reached) (l : Trail) → IsTrail m input sections f p around false loose b state r l → IsOfVariable l.root → AtVariable m input sections f p around loose r.base l
+  pub own_named : (b : Flow) (state : State) (loose : Start) (r : Reached) (l : Trail) → IsTrail m input sections f p around false loose b state r l → IsOfVariable l.root → IsOwnTrail m input sections f p around false loose b state r l
+  own_named b state loose r l (own x) named = x
+  own_named b state loose r l (in_block x) named = absurd (subst IsOfVariable x.begins.begins named)
+
+  pub at_variable : (b : Flow) (state : State) (loose : Start) (r : Reached) (l : Trail) → IsOwnTrail m input sections f p around false loose b state r l → IsOfVariable l.root → AtVariable m input sections f p around loose r.base l
   at_variable b state loose r l is named = by is.begins
     where
       by : Begins m input sections f p around (λ id v. HeldAs m input sections f false id v b state) b.place.used state loose r.base r.path l → AtVariable m input sections f p around loose r.base l
@@ -72,11 +77,11 @@ module _ (m : Module) (input : Input) (sections : Sections) (f : Frame m input s
     within = subst (λ (shape : Shape). AreWithin shape.1 c.word q.positions) (sym picks.0) (subst (AreWithin c.shape.1 c.word) (sym picks.1) within);
   }
 
-  module _ (are : AreStructs p.structs) (loose : Bool) (t : Ty) (sound_t : IsSound (length p.structs) t) (value : ℕ) (v : Value) (typed : is_value_of p.structs t v ≡ true) (a : Access) (l : Trail) (inside : IsInside p.structs true t a l) where
+  module _ (are : AreStructs p.structs) (loose : Start) (t : Ty) (sound_t : IsSound (length p.structs) t) (value : ℕ) (v : Value) (typed : is_value_of p.structs t v ≡ true) (a : Access) (l : Trail) (inside : IsInside p.structs true t a l) where
     abbrev IsDone : Flow → State → Unit {0} → Flow → Unit {0} → shader.State → State → Type 0
     IsDone = IsWritten m input sections f p around
 
-    module _ (b : Flow) (s : shader.State) (state : State) (r : Reached) (good : Good m input sections f p around b s state) (is : IsTrail m input sections f p around false loose b state r l) (stands : Stands state.ids value v) (x : AtVariable m input sections f p around loose r.base l) where
+    module _ (b : Flow) (s : shader.State) (state : State) (r : Reached) (good : Good m input sections f p around b s state) (is : IsOwnTrail m input sections f p around false loose b state r l) (stands : Stands state.ids value v) (x : AtVariable m input sections f p around loose r.base l) where
       abbrev was : Value
       was = old m input sections f p around are loose t sound_t b s state r a l good x inside
 
@@ -158,7 +163,7 @@ module _ (m : Module) (input : Input) (sections : Sections) (f : Frame m input s
             (subst (λ o. Stores m input state (InVariable x.number l.words) v (Having (renewed place o v)) state.buffers) (sym w.none) (puts v)))
             (λ done later q inside_later extends. after_stored m input sections f p around are loose t sound_t b s state r a l good x inside v typed q.ids later inside_later q.ready q.keeps)
 
-    module _ (b : Flow) (s : shader.State) (units : ℕ) (state : State) (r : Reached) (good : Good m input sections f p around b s state) (is : IsTrail m input sections f p around false loose b state r l) (stands : Stands state.ids value v) where
+    module _ (b : Flow) (s : shader.State) (units : ℕ) (state : State) (r : Reached) (good : Good m input sections f p around b s state) (is : IsOwnTrail m input sections f p around false loose b state r l) (stands : Stands state.ids value v) where
       -- a pointer to it is there, and nothing has changed
       record IsPointed (number : ℕ) (to : ℕ) (later : Flow) (one : Unit {0}) (u : shader.State) (last : State) : Type 0 where
         after : After m input sections f p around false b state later u last
@@ -175,7 +180,7 @@ module _ (m : Module) (input : Input) (sections : Sections) (f : Frame m input s
           (λ to between one u left mid within grown q less.
           does_so m input sections f p around 0 left mid (IsDone between mid) (IsDone b state) (Got tt (means_stored a v u) left) (putting_here op.STORE (to ∷ value ∷ []) between)
           (λ done later z w last h. after_then m input sections f p around false false b between later state mid last u w grown q.after h)
-          (put_there between u mid r q.after.good (trail_after m input sections f p around false loose b between state mid u r l grown q.after is) ((q.after.ids refl).same value _ stands) x left to q.points_to none))
+          (put_there between u mid r q.after.good (own_after m input sections f p around false loose b between state mid u r l grown q.after is) ((q.after.ids refl).same value _ stands) x left to q.points_to none))
           (λ to between u left mid within grown none less. absurd none))
 
       composite_stored : (x : AtVariable m input sections f p around loose r.base l) → shape_of t ≡ None → Stored b s state r good is stands x units (store_composite p.structs t r.base r.path value b)
@@ -186,9 +191,9 @@ module _ (m : Module) (input : Input) (sections : Sections) (f : Frame m input s
           own_if false e = own_stored x none
 
       -- a value is stored where the trail leads
-      pub trail_stored : Does m input sections f p 0 units state (IsDone b state) none_waits (Got tt (means_stored a v s) units) (stores p.structs t r value b)
+      own_all : Does m input sections f p 0 units state (IsDone b state) none_waits (Got tt (means_stored a v s) units) (stores p.structs t r value b)
       unfolding stores
-      trail_stored = by (shape_of t) refl
+      own_all = by (shape_of t) refl
         where
           x : AtVariable m input sections f p around loose r.base l
           x = at_variable b state loose r l is (inside.named refl)
@@ -196,3 +201,8 @@ module _ (m : Module) (input : Input) (sections : Sections) (f : Frame m input s
           by : (o : Option Shape) → shape_of t ≡ o → Does m input sections f p 0 units state (IsDone b state) none_waits (Got tt (means_stored a v s) units) (store_by p.structs t r value o b)
           by (Some shape) e = shape_stored b s state r good is stands x units shape e
           by None e = composite_stored x e
+
+    -- a value is stored where the trail leads
+    pub trail_stored : (b : Flow) (s : shader.State) (units : ℕ) (state : State) (r : Reached) → Good m input sections f p around b s state → IsTrail m input sections f p around false loose b state r l → Stands state.ids value v
+        → Does m input sections f p 0 units state (IsDone b state) none_waits (Got tt (means_stored a v s) units) (stores p.structs t r value b)
+    trail_stored b s units state r good is stands = own_all b s units state r good (own_named b state loose r l is (inside.named refl)) stands

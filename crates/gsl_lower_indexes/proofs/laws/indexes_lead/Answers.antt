@@ -2,4 +2,4 @@ use Rattle.gsl_lower_indexes.proofs.Computing.{computed_place}
 use Rattle.gsl_lower_indexes.proofs.laws.indexes_lead.Goals as goal
 
 pub returns : goal.returns
-returns c m input sections f p around splits writes t a i run index are is real_base real known gives leads = computed_place m input sections f p around are splits writes t a i run index is real_base real known gives leads
+returns c m input sections f p around splits writes start t a i run index are start_is is real_base real known gives leads = computed_place m input sections f p around are splits writes start t a i run index start_is is real_base real known gives leads

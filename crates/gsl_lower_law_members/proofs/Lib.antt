@@ -1,0 +1,4 @@
+pub mod Sized
+pub mod Laid
+pub mod Vectors
+pub mod Told
