@@ -3,7 +3,7 @@ use Rattle.std.proofs.Common.{◌≡◌, refl, sym, ap, subst, ◌∙◌, suc, �
 use Rattle.std.specs.Prelude.{Bool, true, false, ◌&&◌}
 use Rattle.std.specs.List.{AllByRecursion}
 use Rattle.std.proofs.lemmas.Bool.{and_parts, true≢false}
-use Rattle.gsl_types.specs.Known.{IsSound}
+use Rattle.gsl_types.specs.Known.{IsSound, is_plain, is_plain_kind}
 use Rattle.gsl_types.specs.declared.ty.Member.{Member}
 use Rattle.gsl_types.specs.declared.ty.StructType.{StructType}
 use Rattle.gsl_types.specs.declared.ty.Ty.{Ty}
@@ -15,7 +15,7 @@ use Rattle.gsl_tree.specs.declared.unit.BlockKind.{BlockKind}
 use Rattle.gsl_tree.specs.declared.unit.BlockMember.{BlockMember}
 use Rattle.gsl_tree.specs.Around.{is_buffer}
 use Rattle.gsl_tree.specs.Laying.{members_of}
-use Rattle.gsl_tree.specs.WellTyped.{is_plain, is_plain_kind, is_member_kind, is_member_type, AreBlockMembers}
+use Rattle.gsl_tree.specs.WellTyped.{is_member_kind, is_member_type, AreBlockMembers}
 
 -- ---- what is plain
 

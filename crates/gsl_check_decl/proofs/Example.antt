@@ -12,8 +12,7 @@ use Rattle.gsl_types.specs.declared.ty.Ty.TheVariants as ty
 use Rattle.gsl_types.specs.declared.ty.Ty.TheVariants.{rolls-One, rolls-Void}
 use Rattle.gsl_types.specs.declared.ty.Ty.TheOpen.{Ty-F}
 use Rattle.gsl_types.specs.declared.ty.Ty.TheFolds.{fold-roll-Ty}
-use Rattle.gsl_types.specs.Known.{sound, sound_kind}
-use Rattle.gsl_tree.specs.WellTyped.{is_plain, is_plain_kind}
+use Rattle.gsl_types.specs.Known.{sound, sound_kind, is_plain, is_plain_kind}
 use Rattle.gsl_makers.proofs.Layers.{of_one}
 use Rattle.gsl_names.specs.declared.entry.Entry.TheVariants.{Global}
 use Rattle.gsl_tree.specs.declared.folded.Folded.TheVariants.{NotConstant}

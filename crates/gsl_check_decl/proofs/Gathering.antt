@@ -10,9 +10,8 @@ use Rattle.gsl_syntax.specs.declared.declaration.Name.{Name}
 use Rattle.gsl_syntax.specs.declared.declaration.StructMember.{StructMember}
 use Rattle.gsl_types.specs.declared.ty.Member.{Member}
 use Rattle.gsl_types.specs.declared.ty.Ty.{Ty}
-use Rattle.gsl_types.specs.Known.{IsSound, sound}
+use Rattle.gsl_types.specs.Known.{IsSound, sound, is_plain}
 use Rattle.gsl_layout.specs.Extents.{plain}
-use Rattle.gsl_tree.specs.WellTyped.{is_plain}
 use Rattle.gsl_typing.specs.declared.scene.Scene.{Scene}
 use Rattle.gsl_typing.specs.Rows.{unless}
 use Rattle.gsl_check_expr.specs.declared.env.Env.{Env}

@@ -6,7 +6,7 @@ use Rattle.gsl_types.specs.declared.ty.Ty.TheOpen.{Ty-F}
 use Rattle.gsl_types.specs.declared.ty.Ty.TheViews.{roll-Ty}
 use Rattle.gsl_types.specs.declared.ty.Ty.TheFolds.{fold-roll-Ty, ind-Ty, map-Ty}
 use Rattle.gsl_layout.specs.Extents.{plain, plain_kind}
-use Rattle.gsl_tree.specs.WellTyped.{is_plain, is_plain_kind}
+use Rattle.gsl_types.specs.Known.{is_plain, is_plain_kind}
 
 abbrev Same : Ty → Type 0
 Same t = is_plain t ≡ plain t

@@ -3,12 +3,11 @@ use Rattle.std.specs.Prelude.{ℕ, Bool, true, false, not, ◌&&◌, is_some, na
 use Rattle.std.specs.Str.{bytes_eq}
 use Rattle.gsl_base.specs.Checked.{Checked, ◌>>=◌}
 use Rattle.gsl_syntax.specs.declared.expr.Dim.{Dim}
-use Rattle.gsl_types.specs.Known.{sound}
+use Rattle.gsl_types.specs.Known.{sound, is_plain}
 use Rattle.gsl_types.specs.declared.ty.Ty.{Ty}
 use Rattle.gsl_types.specs.declared.ty.Ty.TheVariants as ty
 use Rattle.gsl_overload.specs.Identity.{identical}
 use Rattle.gsl_tree.specs.Weights.{height_of, most_high}
-use Rattle.gsl_tree.specs.WellTyped.{is_plain}
 use Rattle.gsl_names.specs.Scopes.{find_here}
 use Rattle.gsl_typing.specs.declared.scene.Scene.{Scene}
 use Rattle.gsl_check_expr.specs.declared.env.Env.{Env}

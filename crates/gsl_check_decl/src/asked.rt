@@ -1,9 +1,8 @@
 //! What is asked of whatever is declared.
 
 ghost use Rattle.std.specs.Prelude.{◌≡◌, IsTrue, length};
-ghost use Rattle.gsl_types.specs.Known.{IsSound, sound};
+ghost use Rattle.gsl_types.specs.Known.{IsSound, sound, is_plain as is_plain_type};
 ghost use Rattle.gsl_layout.specs.Extents.{plain};
-ghost use Rattle.gsl_tree.specs.WellTyped.{is_plain as is_plain_type};
 ghost use Rattle.gsl_makers.specs.Heights.{AreHeights};
 ghost use Rattle.gsl_check_decl.specs.Declaring as spec;
 

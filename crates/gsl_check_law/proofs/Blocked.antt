@@ -8,7 +8,7 @@ use Rattle.gsl_base.specs.declared.stage.Stage.{Stage}
 use Rattle.gsl_syntax.specs.declared.declaration.Name.{Name}
 use Rattle.gsl_syntax.specs.declared.declaration.Declared.{Declared}
 use Rattle.gsl_syntax.specs.declared.declaration.Member.{Member as Line}
-use Rattle.gsl_types.specs.Known.{IsSound, sound, sound_kind}
+use Rattle.gsl_types.specs.Known.{IsSound, sound, sound_kind, is_plain, is_plain_kind}
 use Rattle.gsl_types.specs.declared.ty.StructType.{StructType}
 use Rattle.gsl_types.specs.declared.ty.Ty.{Ty}
 use Rattle.gsl_types.specs.declared.ty.Ty.TheOpen.{Ty-F}
@@ -23,7 +23,7 @@ use Rattle.gsl_tree.specs.declared.unit.BlockMember.{BlockMember}
 use Rattle.gsl_tree.specs.Around.{is_buffer}
 use Rattle.gsl_tree.specs.Laying.{rule_of, members_of, placings_of}
 use Rattle.gsl_tree.specs.Weights.{height_of, most_high}
-use Rattle.gsl_tree.specs.WellTyped.{is_plain, is_plain_kind, is_member_kind, is_member_type, IsBlockMember, AreBlockMembers}
+use Rattle.gsl_tree.specs.WellTyped.{is_member_kind, is_member_type, IsBlockMember, AreBlockMembers}
 use Rattle.gsl_overload.proofs.Same.{no_more}
 use Rattle.gsl_check_expr.specs.declared.env.Env.{Env}
 use Rattle.gsl_check_expr.specs.declared.writing.Written.{Written}

@@ -1,11 +1,11 @@
 -- Constructors and initialiser lists over well typed parts are well typed.
-use Rattle.std.proofs.Common.{le_trans, ◌≡◌, refl, sym, ap, ◌∙◌, subst, ℕ, zero, suc, ◌≤◌, List, [], ◌∷◌, map, length, replicate, Option, Some, None, Bool, true, false, not, ◌||◌, IsTrue, nat_eq, nat_le, Ok, arith}
+use Rattle.std.proofs.Common.{le_trans, ◌≡◌, refl, sym, ap, ◌∙◌, subst, ℕ, zero, suc, ◌≤◌, List, [], ◌∷◌, map, length, replicate, Option, Some, None, Bool, true, false, not, ◌||◌, IsTrue, nat_eq, nat_le, Ok, arith, nat_lt, ◌^◌, ◌&&◌}
 use Rattle.std.specs.List.{AllByRecursion, list_any}
-use Rattle.std.proofs.lemmas.Bool.{and_parts, and_from, eqb-true, leb-true, le-leb, ltb-true}
+use Rattle.std.proofs.lemmas.Bool.{and_parts, and_from, eqb-true, leb-true, le-leb, lt-ltb, ltb-true}
 use Rattle.std.proofs.lemmas.Option.{none-some}
 use Rattle.gsl_base.specs.declared.fault.Place.{Place}
 use Rattle.gsl_base.specs.declared.fault.Code.TheVariants.{E0504, E0505, E0507, E0510, E0908}
-use Rattle.gsl_types.specs.Known.{IsSound, sound, sound_kind}
+use Rattle.gsl_types.specs.Known.{IsSound, sound, sound_kind, is_plain, is_plain_kind}
 use Rattle.gsl_types.specs.declared.ty.Member.{Member}
 use Rattle.gsl_types.specs.declared.ty.Ty.{Ty}
 use Rattle.gsl_types.specs.declared.ty.Ty.TheOpen.{Ty-F}
@@ -21,7 +21,7 @@ use Rattle.gsl_tree.specs.Shapes.{Shape, shape_of}
 use Rattle.gsl_tree.specs.Trees.{type_of, ThroughoutAll}
 use Rattle.gsl_tree.specs.Weights.{height_of, most_high}
 use Rattle.gsl_tree.specs.Expressions.{IsExpr, IsNode, MayBeRead, IsBuildKind, shapes_of, shapes_with, types_of, member_types, supplies, is_one_scalar, most_parts, is_runtime_layer}
-use Rattle.gsl_tree.specs.WellTyped.{IsVariableType, is_plain, is_plain_kind}
+use Rattle.gsl_tree.specs.WellTyped.{IsVariableType}
 use Rattle.gsl_tree.proofs.Nodes.{expr_at}
 use Rattle.gsl_typing.specs.declared.scene.Scene.{Scene}
 use Rattle.gsl_typing.specs.declared.scene.Part.{Part}
@@ -207,29 +207,30 @@ module _ (scene : Scene) (fine : IsScene scene) where
   supply_is n (Some shapes) is = (shapes, refl, is)
 
   made_is : (layer : Ty-F Ty) (t : Ty) (args : List Part) → roll-Ty layer ≡ t → PartsSound count layer t → AllTaken args → any_unread scene args ≡ false → IsTrue (is_plain t)
-      → IsTrue (serve_kind scene layer args) → IsTrue (count_kind scene layer args) → IsMade layer t args
-  made_is Ty-F.Void t args at known all read flat serves counts = no_more (sym (fold-roll-Ty Bool is_plain_kind Ty-F.Void) ∙ ap is_plain at ∙ flat)
-  made_is (Ty-F.Runtime e) t args at known all read flat serves counts = no_more (sym (fold-roll-Ty Bool is_plain_kind (Ty-F.Runtime e)) ∙ ap is_plain at ∙ flat)
-  made_is (Ty-F.One s) t args at known all read flat serves counts =
+      → length args ≤ most_parts → IsTrue (serve_kind scene layer args) → IsTrue (count_kind scene layer args) → IsMade layer t args
+  made_is Ty-F.Void t args at known all read flat few serves counts = no_more (sym (fold-roll-Ty Bool is_plain_kind Ty-F.Void) ∙ ap is_plain at ∙ flat)
+  made_is (Ty-F.Runtime e) t args at known all read flat few serves counts = no_more (sym (fold-roll-Ty Bool is_plain_kind (Ty-F.Runtime e)) ∙ ap is_plain at ∙ flat)
+  made_is (Ty-F.One s) t args at known all read flat few serves counts =
       let is = one_is (shapes_of (exprs_in args)) counts in
       record { kind = is; read = as_they_are args all read (shapes_settled (exprs_in args) (is.0 ∷ []) is.1); sound = known }
-  made_is (Ty-F.Vector s n) t args at known all read flat serves counts =
+  made_is (Ty-F.Vector s n) t args at known all read flat few serves counts =
       let is = supply_is n (shapes_of (exprs_in args)) counts in
       record { kind = is; read = as_they_are args all read (shapes_settled (exprs_in args) is.0 is.1); sound = known }
-  made_is (Ty-F.Array e n) t args at known all read flat serves counts =
+  made_is (Ty-F.Array e n) t args at known all read flat few serves counts =
       let parts = and_parts (nat_eq (length args) n) (not (nat_eq n 0)) counts in
       let settled = plain_settled e (sym (fold-roll-Ty Bool is_plain_kind (Ty-F.Array e n)) ∙ ap is_plain at ∙ flat) in
-      let some : nat_le 1 n ≡ true = positive n parts.1 in
+      let many = eqb-true (length args) n parts.0 in
+      let some : IsTrue (nat_le 1 n && nat_lt n (2 ^ 32)) = and_from (nat_le 1 n) (nat_lt n (2 ^ 32)) (positive n parts.1) (lt-ltb n (2 ^ 32) (omega (arith, many, few))) in
       record {
-        kind = elements_types e n args all read serves settled (eqb-true (length args) n parts.0);
+        kind = elements_types e n args all read serves settled many;
         read = elements_read e args all read serves settled;
-        sound = ap (sound count) (sym at) ∙ fold-roll-Ty Bool (sound_kind count) (Ty-F.Array e n) ∙ and_from (nat_le 1 n) (sound count e) some known;
+        sound = ap (sound count) (sym at) ∙ fold-roll-Ty Bool (sound_kind count) (Ty-F.Array e n) ∙ and_from (nat_le 1 n && nat_lt n (2 ^ 32)) (sound count e) some known;
       }
     where
       positive : (m : ℕ) → IsTrue (not (nat_eq m 0)) → nat_le 1 m ≡ true
       positive zero is = no_more is
       positive (suc m) is = le-leb 1 (suc m) (omega arith)
-  made_is (Ty-F.Struct n) t args at known all read flat serves counts =
+  made_is (Ty-F.Struct n) t args at known all read flat few serves counts =
       let within = ltb-true n count (sym (fold-roll-Ty Bool (sound_kind count) (Ty-F.Struct n)) ∙ ap (sound count) at ∙ known) in
       let s = below scene.structs n within in
       let members : members_of scene n ≡ s.0.members = ap members_in s.1 in
@@ -250,7 +251,7 @@ module _ (scene : Scene) (fine : IsScene scene) where
 
   module _ (place : Place) (t : Ty) (args : List Part) where
     abbrev pub Buildable : Unit {0} → Type 0
-    Buildable _ = IsMade (out-Ty t) t args × (length args ≤ most_parts) × (height_of scene.structs t ≤ most_high)
+    Buildable _ = IsMade (out-Ty t) t args × (length args ≤ most_parts) × (height_of scene.structs t ≤ most_high) × IsTrue (is_plain t)
 
     buildable_is : HasSoundParts count t → AllTaken args → Holds Buildable (buildable scene place t args)
     unfolding buildable serve counted plain is_too_large
@@ -262,7 +263,8 @@ module _ (scene : Scene) (fine : IsScene scene) where
         (λ flat. row Buildable place E0908 (is_too_large scene t args) [] (Ok tt)
         (λ low.
         let parts = neither _ _ low in
-        (made_is (out-Ty t) t args (roll-out-Ty t) known all read (not_false _ flat) (not_false _ serves) (not_false _ counts), leb-true _ _ (not_false _ parts.1), leb-true _ _ (not_false _ parts.0)))))))
+        let few = leb-true _ _ (not_false _ parts.1) in
+        (made_is (out-Ty t) t args (roll-out-Ty t) known all read (not_false _ flat) few (not_false _ serves) (not_false _ counts), few, leb-true _ _ (not_false _ parts.0), not_false _ flat))))))
 
     pub build_typed : HasSoundParts count t → AllTaken args → Holds (IsPart scene) (build scene place t args)
     unfolding build converted
@@ -270,7 +272,7 @@ module _ (scene : Scene) (fine : IsScene scene) where
         holds_after Buildable (IsPart scene) (buildable scene place t args) (λ _. Ok (made place t (kind.Build (converted scene t args)))) (buildable_is known all)
         (λ _ is. record {
           expr = expr_at here place t (kind.Build (converted scene t args)) (ExprKind-F.Build (converted scene t args)) (outs-Build (converted scene t args))
-              (is.0.kind, le_trans (converted_few (out-Ty t) args) is.1, is.0.sound, is.2) (reads_of (converted scene t args) is.0.read) tt (exprs_of (converted scene t args) is.0.read);
+              (is.0.kind, le_trans (converted_few (out-Ty t) args) is.1, is.0.sound, is.2, is.3) (reads_of (converted scene t args) is.0.read) tt (exprs_of (converted scene t args) is.0.read);
           sound = is.0.sound;
         })
 

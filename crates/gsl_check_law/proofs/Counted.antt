@@ -1,5 +1,5 @@
 -- Arrays in the types of well typed expressions have as many elements as a word counts, and constant expressions have words alone.
-use Rattle.std.proofs.Common.{◌≡◌, refl, sym, ap, ◌∙◌, subst, ℕ, zero, suc, ◌^◌, ◌≤◌, ◌<◌, List, [], ◌∷◌, length, replicate, slice_get, slice_index_or, Option, Some, None, unwrap_or, Bool, IsTrue, nat_le, nat_lt, inl, inr, arith, if◌then◌else◌}
+use Rattle.std.proofs.Common.{◌≡◌, refl, sym, ap, ◌∙◌, subst, ℕ, zero, suc, ◌^◌, ◌≤◌, ◌<◌, List, [], ◌∷◌, length, replicate, slice_get, slice_index_or, Option, Some, None, unwrap_or, Bool, IsTrue, nat_le, nat_lt, inl, inr, arith, if◌then◌else◌, ◌&&◌}
 use Rattle.std.specs.List.{AllByRecursion}
 use Rattle.std.proofs.lemmas.Bool.{and_parts, and_from, ltb-true, lt-ltb, leb-true}
 use Rattle.std.proofs.lemmas.Option.{none-some}
@@ -130,10 +130,10 @@ module _ (scene : Scene) (fine : IsScene scene) (counted : IsCountedScene scene)
   build_counted (Ty-F.One s) t args at is few known all = counted_at (Ty-F.One s) t at ∙ fold-roll-Ty Bool counted_layer (Ty-F.One s)
   build_counted (Ty-F.Vector s n) t args at is few known all = counted_at (Ty-F.Vector s n) t at ∙ fold-roll-Ty Bool counted_layer (Ty-F.Vector s n)
   build_counted (Ty-F.Array e n) t args at is few known all =
-      let sounds = and_parts (nat_le 1 n) (sound (length scene.structs) e) (sym (fold-roll-Ty Bool (sound_kind (length scene.structs)) (Ty-F.Array e n)) ∙ ap (sound (length scene.structs)) at ∙ known) in
+      let sounds = and_parts (nat_le 1 n && nat_lt n (2 ^ 32)) (sound (length scene.structs) e) (sym (fold-roll-Ty Bool (sound_kind (length scene.structs)) (Ty-F.Array e n)) ∙ ap (sound (length scene.structs)) at ∙ known) in
       let many : length args ≡ n = sym (types_count args) ∙ ap (λ (l : List Ty). length l) is ∙ repeated_count n e in
       counted_at (Ty-F.Array e n) t at ∙ fold-roll-Ty Bool counted_layer (Ty-F.Array e n)
-      ∙ and_from (nat_lt n (2 ^ 32)) (is_counted e) (lt-ltb n (2 ^ 32) (omega (arith, many, few))) (element_of_args e n args (leb-true 1 n sounds.0) is all)
+      ∙ and_from (nat_lt n (2 ^ 32)) (is_counted e) (lt-ltb n (2 ^ 32) (omega (arith, many, few))) (element_of_args e n args (leb-true 1 n (and_parts (nat_le 1 n) (nat_lt n (2 ^ 32)) sounds.0).0) is all)
   build_counted (Ty-F.Runtime e) t args at is few known all = elim is [ ]
   build_counted (Ty-F.Struct k) t args at is few known all = counted_at (Ty-F.Struct k) t at ∙ fold-roll-Ty Bool counted_layer (Ty-F.Struct k)
 

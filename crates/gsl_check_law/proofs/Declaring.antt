@@ -11,7 +11,7 @@ use Rattle.gsl_syntax.specs.declared.declaration.Name.{Name}
 use Rattle.gsl_syntax.specs.declared.declaration.Declared.{Declared}
 use Rattle.gsl_syntax.specs.declared.declaration.StructMember.{StructMember}
 use Rattle.gsl_syntax.specs.declared.declaration.Struct.{Struct}
-use Rattle.gsl_types.specs.Known.{IsSound, sound}
+use Rattle.gsl_types.specs.Known.{IsSound, sound, is_plain}
 use Rattle.gsl_types.specs.Leaves.{counting, most_leaves}
 use Rattle.gsl_types.proofs.Layers.{sound_stays, sound_struct}
 use Rattle.gsl_types.specs.declared.ty.Member.{Member}
@@ -29,7 +29,7 @@ use Rattle.gsl_tree.specs.declared.unit.Interface.{Interface}
 use Rattle.gsl_tree.specs.Values.{value_meaning}
 use Rattle.gsl_values.specs.declared.value.Value.{Value}
 use Rattle.gsl_tree.specs.Weights.{height_of, height_meaning, most_high}
-use Rattle.gsl_tree.specs.WellTyped.{IsVariableType, is_plain, IsName, IsStructDeclared}
+use Rattle.gsl_tree.specs.WellTyped.{IsVariableType, IsName, IsStructDeclared}
 use Rattle.gsl_typing.specs.declared.scene.Scene.{Scene}
 use Rattle.gsl_check_expr.specs.declared.env.Env.{Env}
 use Rattle.gsl_check_expr.specs.declared.brackets.Dimensions.{Dimensions}

@@ -235,7 +235,7 @@ module _ (s t : Scene) (fine : IsScene s) (grows : Grows s t) where
   type_grows (ExprKind-F.Step o a) u all sounds known is = (is.0, is.1, writable_grows a all.0 is.2)
   type_grows (ExprKind-F.Call n args) u all sounds known is = (is.0, grows.prototypes n is.0 is.1, is.2, arguments_grow is.0.params args all is.3)
   type_grows (ExprKind-F.Built which args) u all sounds known is = is
-  type_grows (ExprKind-F.Build args) u all sounds known is = (build_grows (out-Ty u) args is.0, is.1, stays u is.2, subst (λ h. h ≤ most_high) (grows.heights u is.2) is.3)
+  type_grows (ExprKind-F.Build args) u all sounds known is = (build_grows (out-Ty u) args is.0, is.1, stays u is.2, subst (λ h. h ≤ most_high) (grows.heights u is.2) is.3, is.4)
   type_grows (ExprKind-F.Convert a) u all sounds known is = is
   type_grows (ExprKind-F.Comma items) u all sounds known is = is
 

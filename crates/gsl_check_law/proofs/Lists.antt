@@ -7,13 +7,14 @@ use Rattle.gsl_base.specs.declared.fault.Place.{Place}
 use Rattle.gsl_syntax.specs.declared.declaration.Init.{Init, roll-Init}
 use Rattle.gsl_syntax.specs.declared.declaration.Init.TheOpen.{Init-F}
 use Rattle.gsl_syntax.specs.declared.declaration.Init.TheFolds.{fold-roll-Init, ind-Init, map-Init}
-use Rattle.gsl_types.specs.Known.{IsSound}
+use Rattle.gsl_types.specs.Known.{IsSound, is_plain, is_plain_kind}
 use Rattle.gsl_types.specs.Structs.{numbered}
 use Rattle.gsl_types.proofs.Layers.{over_vector}
 use Rattle.gsl_types.specs.declared.ty.Member.{Member}
 use Rattle.gsl_types.specs.declared.ty.StructType.{StructType}
 use Rattle.gsl_types.specs.declared.ty.Scalar.{Scalar}
 use Rattle.gsl_types.specs.declared.ty.Ty.{Ty}
+use Rattle.gsl_types.specs.declared.ty.Ty.TheFolds.{fold-roll-Ty}
 use Rattle.gsl_types.specs.declared.ty.Ty.TheOpen.{Ty-F}
 use Rattle.gsl_types.specs.declared.ty.Ty.TheViews.{out-Ty, roll-Ty, roll-out-Ty}
 use Rattle.gsl_types.specs.declared.ty.Ty.TheVariants as ty
@@ -138,7 +139,7 @@ module _ (scene : Scene) (fine : IsScene scene) where
         let low : height_of scene.structs t ≤ most_high = subst (λ (u : Ty). height_of scene.structs u ≤ most_high) (sym whole) (vector_low scene.structs s n) in
         built_taken place t es (record {
           expr = expr_at here place t (kind.Build es) (ExprKind-F.Build es) (outs-Build es)
-              (subst (λ layer. IsBuildKind here layer es) (sym at) (replicate n (s, 1), shapes, or_right (is_one_scalar (replicate n (s, 1))) (supplies n (replicate n (s, 1))) (supplied s n)), few, known, low)
+              (subst (λ layer. IsBuildKind here layer es) (sym at) (replicate n (s, 1), shapes, or_right (is_one_scalar (replicate n (s, 1))) (supplies n (replicate n (s, 1))) (supplied s n)), few, known, low, ap is_plain whole ∙ ap is_plain (sym (rolls-Vector s n)) ∙ fold-roll-Ty Bool is_plain_kind (Ty-F.Vector s n))
               (reads_of scene fine es is.0.read) tt (exprs_of scene fine es is.0.read);
           sound = known;
         })

@@ -42,7 +42,7 @@ module _ (count : ℕ) (lanes : Lanes) where
   with_all n (Some a) (Some b) (Some c) None least most p q r s is = elim (none-some lanes is) [ ]
   with_all n (Some a) (Some b) (Some c) (Some d) least most p q r s is =
       let same : record { words = a ∷ b ∷ c ∷ d ∷ []; count = n } ≡ lanes = ap (λ o. unwrap_or o lanes) is in
-      subst (Picks count) same ((least, most), all_below count n a b c d most (p a refl) (q b refl) (r c refl) (s d refl))
+      subst (Picks count) same ((least, most, most), all_below count n a b c d most (p a refl) (q b refl) (r c refl) (s d refl))
 
   by_letter : (name : List ℕ) (o : Option Letter) → 1 ≤ length name → length name ≤ 4 → swizzle_by o count name ≡ Some lanes → Picks count lanes
   by_letter name None least most is = elim (none-some lanes is) [ ]

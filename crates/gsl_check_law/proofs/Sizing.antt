@@ -1,5 +1,5 @@
 -- Sizes in brackets are at least 1, and types with them are types.
-use Rattle.std.proofs.Common.{sym, ap, ◌∙◌, subst, ℕ, ◌≤◌, ◌^◌, List, [], ◌∷◌, Option, Some, None, Bool, not, IsTrue, nat_le, nat_lt, Ok, arith, ◌<◌, lt-ltb}
+use Rattle.std.proofs.Common.{sym, ap, ◌∙◌, subst, ℕ, ◌≤◌, ◌^◌, List, [], ◌∷◌, Option, Some, None, Bool, not, IsTrue, nat_le, nat_lt, Ok, arith, ◌<◌, lt-ltb, ◌&&◌}
 use Rattle.std.specs.List.{AllByRecursion}
 use Rattle.std.proofs.lemmas.Bool.{and_parts, and_from, leb-true, le-leb}
 use Rattle.gsl_base.specs.Checked.{◌>>=◌}
@@ -111,7 +111,7 @@ arrayed_counted [] e all is = is
 arrayed_counted (n ∷ sizes) e all is = array_counted (arrayed sizes e) n all.0.1 (arrayed_counted sizes e all.1 is)
 
 pub array_sound : (count : ℕ) (e : Ty) (n : ℕ) → Positive n → IsSound count e → IsSound count (ty.Array e n)
-array_sound count e n some is = sound_array count e n ∙ and_from (nat_le 1 n) (sound count e) (le-leb 1 n some.0) is
+array_sound count e n some is = sound_array count e n ∙ and_from (nat_le 1 n && nat_lt n (2 ^ 32)) (sound count e) (and_from (nat_le 1 n) (nat_lt n (2 ^ 32)) (le-leb 1 n some.0) (lt-ltb n (2 ^ 32) some.1)) is
 
 pub arrayed_sound : (count : ℕ) (sizes : List ℕ) (e : Ty) → AllByRecursion Positive sizes → IsSound count e → IsSound count (arrayed sizes e)
 arrayed_sound count [] e all is = is

@@ -1,6 +1,6 @@
 -- What is too large for a part is so for the whole.
 use Rattle.std.proofs.Common.{◌≡◌, refl, sym, ap, subst, ◌∙◌, ℕ, zero, suc, ◌+◌, ◌^◌, ◌<◌, ◌≤◌, List, [], ◌∷◌, ◌++◌, take, drop, length, get_or, max, slice_get, Some, Result, Ok, Err, IfOk, IsTrue, arith}
-use Rattle.std.specs.Prelude.{Bool, nat_le}
+use Rattle.std.specs.Prelude.{Bool, ◌&&◌, nat_le, nat_lt}
 use Rattle.std.specs.List.{AllByRecursion}
 use Rattle.std.proofs.lemmas.Bool.{and_parts, leb-true, true≢false}
 use Rattle.std.proofs.Math.Nat.{mul-le-mul_left}
@@ -115,7 +115,7 @@ module _ (raise : ℕ → ℕ) (raises : (align : ℕ) → IsAlignment align →
   pub array_extent : (e : Ty) (n : ℕ) → IsSound (length structs) (ty.Array e n) → extent (measure raise structs e) ≤ extent (measure raise structs (ty.Array e n))
   array_extent e n sound =
       let m = measure raise structs e in
-      let some : 1 ≤ n = leb-true 1 n (and_parts (nat_le 1 n) _ (sym (sound_array (length structs) e n) ∙ sound)).0 in
+      let some : 1 ≤ n = leb-true 1 n (and_parts (nat_le 1 n) (nat_lt n (2 ^ 32)) (and_parts (nat_le 1 n && nat_lt n (2 ^ 32)) _ (sym (sound_array (length structs) e n) ∙ sound)).0).0 in
       let stride = least_multiple (raise m.align) m.size in
       let wide = not_below (raise m.align) m.size (raised_some e) in
       let counted = mul-le-mul_left stride some in

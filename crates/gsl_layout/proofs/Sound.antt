@@ -1,5 +1,5 @@
 -- Every type that is not too large has a well-formed layout.
-use Rattle.std.proofs.Common.{◌≡◌, refl, sym, ap, subst, ◌∙◌, ℕ, zero, suc, ◌^◌, ◌<◌, ◌≤◌, List, [], ◌∷◌, length, slice_get, Some, None, IsTrue, arith}
+use Rattle.std.proofs.Common.{◌≡◌, refl, sym, ap, subst, ◌∙◌, ℕ, zero, suc, ◌^◌, ◌<◌, ◌≤◌, List, [], ◌∷◌, length, slice_get, Some, None, IsTrue, arith, nat_lt, ◌&&◌}
 use Rattle.std.specs.Prelude.{Bool, true, nat_le}
 use Rattle.std.specs.List.{AllByRecursion}
 use Rattle.std.proofs.lemmas.Bool.{and_parts, leb-true, ltb-true, true≢false}
@@ -80,7 +80,7 @@ module _ (raise : ℕ → ℕ) (raises : (align : ℕ) → IsAlignment align →
         let x : Ty-F Ty = Ty-F.Array e.0 c in
         let m = measure raise structs e.0 in
         let is : measure raise structs (roll-Ty x) ≡ arrayed raise m (Some c) = fold-roll-Ty Measured (layer (measuring raise) (numbered (measuring raise) structs)) x in
-        let parts = and_parts (nat_le 1 c) (sound_of n e.0) (sym (fold-roll-Ty Bool (sound_kind n) x) ∙ sound) in
+        let parts = and_parts (nat_le 1 c && nat_lt c (2 ^ 32)) (sound_of n e.0) (sym (fold-roll-Ty Bool (sound_kind n) x) ∙ sound) in
         let plain_e : IsTrue (plain e.0) = sym (fold-roll-Ty Bool plain_kind x) ∙ sym (ap (λ z. last_open z (roll-Ty x)) (out-roll-Ty x)) ∙ last in
         let all = subst (IsSound (length structs)) (rolls-Array e.0 c) (sound_stays n (length structs) le (roll-Ty x) sound) in
         let bound = array_extent raise raises structs e.0 c all in
@@ -88,7 +88,7 @@ module _ (raise : ℕ → ℕ) (raises : (align : ℕ) → IsAlignment align →
         let inner = e.1 parts.1 le (plain_last e.0 plain_e) (omega (arith, bound, moved, small)) in
         let shut = inner.shut plain_e in
         let align = (raises m.align (aligned raise raises structs e.0)).alignment in
-        let some = leb-true 1 c parts.0 in
+        let some = leb-true 1 c (and_parts (nat_le 1 c) (nat_lt c (2 ^ 32)) parts.0).0 in
         let whole = ap extent is in
         let wide = not_below (raise m.align) m.size (omega (arith, (alignment_small _ align).0)) in
         let grown = mul-le-mul_left (least_multiple (raise m.align) m.size) some in

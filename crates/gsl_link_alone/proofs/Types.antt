@@ -1,5 +1,5 @@
 -- Types, and what is declared by them, stay as they are where structs keep their numbers.
-use Rattle.std.proofs.Common.{◌≡◌, refl, sym, ap, ◌∙◌, subst, ℕ, ◌&&◌, inl, inr, Bool, IsTrue, List, map}
+use Rattle.std.proofs.Common.{◌≡◌, refl, sym, ap, ◌∙◌, subst, ℕ, ◌&&◌, inl, inr, Bool, IsTrue, List, map, nat_lt, ◌^◌}
 use Rattle.std.specs.Prelude.{nat_le}
 use Rattle.std.specs.List.{AllByRecursion}
 use Rattle.std.proofs.lemmas.Bool.{and_parts, ltb-true, true≢false}
@@ -39,7 +39,7 @@ module _ (numbers : List ℕ) (count : ℕ) (row : InRow numbers count) where
   layer_stays (Ty-F.One x) s = rolled (Ty-F.One x) ∙ sym (rolls-One x)
   layer_stays (Ty-F.Vector x n) s = rolled (Ty-F.Vector x n) ∙ sym (rolls-Vector x n)
   layer_stays (Ty-F.Array e n) s =
-      let is : IsTrue (nat_le 1 n && sound count e.0) = sym (fold-roll-Ty Bool (sound_kind count) (Ty-F.Array e.0 n)) ∙ s in
+      let is : IsTrue ((nat_le 1 n && nat_lt n (2 ^ 32)) && sound count e.0) = sym (fold-roll-Ty Bool (sound_kind count) (Ty-F.Array e.0 n)) ∙ s in
       rolled (Ty-F.Array e.0 n) ∙ ap (λ t. ty.Array t n) (e.1 (and_parts _ _ is).1) ∙ sym (rolls-Array e.0 n)
   layer_stays (Ty-F.Runtime e) s =
       rolled (Ty-F.Runtime e.0) ∙ ap ty.Runtime (e.1 (sym (fold-roll-Ty Bool (sound_kind count) (Ty-F.Runtime e.0)) ∙ s)) ∙ sym (rolls-Runtime e.0)

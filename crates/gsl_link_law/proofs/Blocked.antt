@@ -29,7 +29,7 @@ use Rattle.gsl_link_units.specs.Types.{retyped}
 use Rattle.gsl_link_units.specs.Structs.{joined_structs, retyped_member}
 use Rattle.gsl_link_units.specs.Declarations.{Side, sides_of, retyped_block, retyped_block_member}
 use Rattle.gsl_link_law.specs.Placed.{IsPlaced}
-use Rattle.gsl_link_law.proofs.Declared.{plain_stays}
+use Rattle.gsl_link_law.proofs.Retyped.{plain_stays}
 use Rattle.gsl_link_law.proofs.Layered.{new_layer, out_retyped}
 use Rattle.gsl_link_law.proofs.Linked.{side_is}
 use Rattle.gsl_link_law.proofs.Meant.{struct_means, type_means, number_within}

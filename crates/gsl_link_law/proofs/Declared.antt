@@ -17,34 +17,13 @@ use Rattle.gsl_types.proofs.Structs.{over_agree}
 use Rattle.gsl_tree.specs.declared.unit.TypedUnit.{TypedUnit}
 use Rattle.gsl_tree.specs.Weights.{height_meaning, most_high}
 use Rattle.gsl_tree.specs.Expressions.{most_parts}
-use Rattle.gsl_tree.specs.WellTyped.{IsName, is_plain, is_plain_kind, IsVariableType, IsStructDeclared}
+use Rattle.gsl_tree.specs.WellTyped.{IsName, IsVariableType, IsStructDeclared}
 use Rattle.gsl_link_units.specs.Types.{retyped, retyped_layer}
 use Rattle.gsl_link_units.specs.Structs.{same_struct, retyped_member, retyped_struct, with_struct, struct_number, with_structs, with_units, joined_structs}
-use Rattle.gsl_link_units.proofs.Folds as at
 use Rattle.gsl_link_law.specs.Placed.{ArePlaced}
-use Rattle.gsl_link_law.proofs.Retyped.{retyped_sound}
+use Rattle.gsl_link_law.proofs.Retyped.{plain_stays, retyped_sound}
 use Rattle.gsl_link_law.proofs.Meant.{type_means, number_within}
 use Rattle.gsl_link_law.proofs.Structs.{with_number, Left, next_known, next_placed, none_known, unit_joined}
-
--- ---- plain types stay so
-
-module _ (numbers : List ℕ) where
-  abbrev AsPlain : Ty → Type 0
-  AsPlain t = is_plain (retyped numbers t) ≡ is_plain t
-
-  judged : (x : Ty-F Ty) → is_plain (retyped numbers (roll-Ty x)) ≡ is_plain (retyped_layer numbers (map-Ty _ _ (retyped numbers) x))
-  judged x = ap is_plain (fold-roll-Ty Ty (retyped_layer numbers) x)
-
-  layer_plain : (y : Ty-F ((t : Ty) × AsPlain t)) → AsPlain (roll-Ty (map-Ty _ _ (λ e. e.0) y))
-  layer_plain Ty-F.Void = judged Ty-F.Void ∙ at.at-Void Bool is_plain_kind ∙ sym (fold-roll-Ty Bool is_plain_kind Ty-F.Void)
-  layer_plain (Ty-F.One x) = judged (Ty-F.One x) ∙ at.at-One Bool is_plain_kind x ∙ sym (fold-roll-Ty Bool is_plain_kind (Ty-F.One x))
-  layer_plain (Ty-F.Vector x n) = judged (Ty-F.Vector x n) ∙ at.at-Vector Bool is_plain_kind x n ∙ sym (fold-roll-Ty Bool is_plain_kind (Ty-F.Vector x n))
-  layer_plain (Ty-F.Array e n) = judged (Ty-F.Array e.0 n) ∙ at.at-Array Bool is_plain_kind (retyped numbers e.0) n ∙ e.1 ∙ sym (fold-roll-Ty Bool is_plain_kind (Ty-F.Array e.0 n))
-  layer_plain (Ty-F.Runtime e) = judged (Ty-F.Runtime e.0) ∙ at.at-Runtime Bool is_plain_kind (retyped numbers e.0) ∙ sym (fold-roll-Ty Bool is_plain_kind (Ty-F.Runtime e.0))
-  layer_plain (Ty-F.Struct k) = judged (Ty-F.Struct k) ∙ at.at-Struct Bool is_plain_kind _ ∙ sym (fold-roll-Ty Bool is_plain_kind (Ty-F.Struct k))
-
-  pub plain_stays : (t : Ty) → AsPlain t
-  plain_stays = ind-Ty AsPlain (λ x y is. subst (λ z. AsPlain (roll-Ty z)) is (layer_plain y))
 
 -- ---- one more struct leaves types of variables as they are
 

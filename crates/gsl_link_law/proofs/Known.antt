@@ -1,5 +1,5 @@
 -- The types of well typed expressions are types over the structs, where they may name one.
-use Rattle.std.proofs.Common.{◌≡◌, refl, sym, ap, ◌∙◌, subst, ℕ, ◌≤◌, ◌⊎◌, inl, inr, Bool, true, false, IsTrue, List, [], ◌∷◌, length, slice_get, Option, Some, None, unwrap_or, arith}
+use Rattle.std.proofs.Common.{◌≡◌, refl, sym, ap, ◌∙◌, subst, ℕ, ◌≤◌, ◌⊎◌, inl, inr, Bool, true, false, IsTrue, List, [], ◌∷◌, length, slice_get, Option, Some, None, unwrap_or, arith, nat_lt, ◌^◌}
 use Rattle.std.specs.Prelude.{nat_eq, nat_le, if◌then◌else◌, ◌&&◌}
 use Rattle.std.specs.List.{AllByRecursion}
 use Rattle.std.proofs.lemmas.Bool.{and_parts, true≢false}
@@ -111,7 +111,7 @@ module _ (count : ℕ) where
       by_layer (Ty-F.One c) e s = elim (none-some u e) [ ]
       by_layer (Ty-F.Vector c n) e s = inl (subst IsFlat (ap (λ o. unwrap_or o u) e) (flat_one c))
       by_layer (Ty-F.Array v n) e s =
-          let is : IsTrue (nat_le 1 n && sound count v) = sym (fold-roll-Ty Bool (sound_kind count) (Ty-F.Array v n)) ∙ s in
+          let is : IsTrue ((nat_le 1 n && nat_lt n (2 ^ 32)) && sound count v) = sym (fold-roll-Ty Bool (sound_kind count) (Ty-F.Array v n)) ∙ s in
           inr (subst (IsSound count) (ap (λ o. unwrap_or o u) e) (and_parts _ _ is).1)
       by_layer (Ty-F.Runtime v) e s = inr (subst (IsSound count) (ap (λ o. unwrap_or o u) e) (sym (fold-roll-Ty Bool (sound_kind count) (Ty-F.Runtime v)) ∙ s))
       by_layer (Ty-F.Struct k) e s = elim (none-some u e) [ ]

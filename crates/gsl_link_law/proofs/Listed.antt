@@ -34,7 +34,7 @@ use Rattle.gsl_link_whole.specs.Numbers.{joined_blocks, joined_interfaces, joine
 use Rattle.gsl_link_law.specs.Placed.{IsPlaced}
 use Rattle.gsl_link_law.proofs.Agreed.{Across, across_from}
 use Rattle.gsl_link_law.proofs.Blocked.{unit_block}
-use Rattle.gsl_link_law.proofs.Declared.{plain_stays}
+use Rattle.gsl_link_law.proofs.Retyped.{plain_stays}
 use Rattle.gsl_link_law.proofs.Joining.{blocks_from, interfaces_from, heads_from}
 use Rattle.gsl_link_law.proofs.Layered.{new_layer, out_retyped, new_shape, new_void}
 use Rattle.gsl_link_law.proofs.Linked.{AreAgreed, side_is, structs_known, variable_new}

@@ -36,6 +36,7 @@ use Rattle.gsl_link_units.specs.Declarations.{retyped_param}
 use Rattle.gsl_link_whole.specs.Numbers.{Numbering}
 use Rattle.gsl_link_whole.specs.Renumbering.{renumbered_expr}
 use Rattle.gsl_link_law.specs.Renumbered.{IsRenumbered, HasTypes}
+use Rattle.gsl_link_law.proofs.Retyped.{plain_stays}
 use Rattle.gsl_link_law.proofs.Layered.{new_layer, out_retyped, new_shape, new_aggregate, new_value_type, new_has_length, new_range, new_converts, new_one, new_vector, new_struct, new_of_shape, new_stage_type, new_index, new_element, convert_stays}
 use Rattle.gsl_link_law.proofs.Forms.{new_form, new_type, new_form_of, new_parts}
 use Rattle.gsl_link_law.proofs.Known.{IsFlat, IsKnown, flat_one, flat_vector, types_known}
@@ -211,6 +212,7 @@ module _ (n : Numbering) (few many : Around) (is : IsRenumbered n few many) (fin
     subst (λ k. k ≤ most_parts) (sym (length-map args ren)) has.1,
     sound_new n few many is fine t has.2,
     subst (λ h. h ≤ most_high) (means n few many is fine height_meaning t (inr has.2)) has.3,
+    plain_stays n.structs t ∙ has.4,
   )
   type_new (ExprKind-F.Convert a) t all known has =
       let flat = convert_stays n.structs (type_of a) t has.0 in

@@ -1,5 +1,5 @@
 -- What new numbers of structs leave of a type as it was.
-use Rattle.std.proofs.Common.{◌≡◌, refl, sym, ap, ◌∙◌, subst, ℕ, ◌<◌, Bool, ◌&&◌, IsTrue, List, [], ◌∷◌, map}
+use Rattle.std.proofs.Common.{◌≡◌, refl, sym, ap, ◌∙◌, subst, ℕ, ◌<◌, Bool, ◌&&◌, IsTrue, List, [], ◌∷◌, map, nat_lt, ◌^◌}
 use Rattle.std.specs.Prelude.{nat_le}
 use Rattle.std.specs.List.{AllByRecursion}
 use Rattle.std.proofs.lemmas.Bool.{and_parts, and_from, ltb-true, lt-ltb}
@@ -10,7 +10,7 @@ use Rattle.gsl_types.specs.declared.ty.Ty.TheViews.{roll-Ty}
 use Rattle.gsl_types.specs.declared.ty.Ty.TheVariants as ty
 use Rattle.gsl_types.specs.declared.ty.Ty.TheFolds.{fold-roll-Ty, ind-Ty, map-Ty}
 use Rattle.gsl_types.specs.Structs.{Meaning, layer, over, members_over, struct_over}
-use Rattle.gsl_types.specs.Known.{IsSound, sound, sound_kind}
+use Rattle.gsl_types.specs.Known.{IsSound, is_plain, is_plain_kind, sound, sound_kind}
 use Rattle.gsl_types.proofs.Layers.{over_array, over_runtime, over_void, over_one, over_vector, over_struct}
 use Rattle.gsl_types.specs.declared.ty.StructType.{StructType}
 use Rattle.gsl_link_units.specs.Types.{new_number, retyped, retyped_layer}
@@ -32,7 +32,7 @@ module _ {A : Type 0} (m : Meaning A) (numbers : List ℕ) (count : ℕ) (f g : 
   layer_agree (Ty-F.One x) s = fold-roll-Ty A (layer m f) (Ty-F.One x) ∙ sym (meant (Ty-F.One x) ∙ over_one m g x)
   layer_agree (Ty-F.Vector x n) s = fold-roll-Ty A (layer m f) (Ty-F.Vector x n) ∙ sym (meant (Ty-F.Vector x n) ∙ over_vector m g x n)
   layer_agree (Ty-F.Array e n) s =
-      let is : IsTrue (nat_le 1 n && sound count e.0) = sym (fold-roll-Ty Bool (sound_kind count) (Ty-F.Array e.0 n)) ∙ s in
+      let is : IsTrue ((nat_le 1 n && nat_lt n (2 ^ 32)) && sound count e.0) = sym (fold-roll-Ty Bool (sound_kind count) (Ty-F.Array e.0 n)) ∙ s in
       fold-roll-Ty A (layer m f) (Ty-F.Array e.0 n) ∙ ap (λ a. m.kind (Ty-F.Array a n)) (e.1 (and_parts _ _ is).1)
       ∙ sym (meant (Ty-F.Array e.0 n) ∙ over_array m g (retyped numbers e.0) n)
   layer_agree (Ty-F.Runtime e) s =
@@ -72,7 +72,7 @@ module _ (numbers : List ℕ) (count bound : ℕ) (within : (k : ℕ) → k < co
   layer_stays (Ty-F.One x) s = judged (Ty-F.One x) ∙ at.at-One Bool (sound_kind bound) x
   layer_stays (Ty-F.Vector x n) s = judged (Ty-F.Vector x n) ∙ at.at-Vector Bool (sound_kind bound) x n ∙ sym (fold-roll-Ty Bool (sound_kind count) (Ty-F.Vector x n)) ∙ s
   layer_stays (Ty-F.Array e n) s =
-      let is : IsTrue (nat_le 1 n && sound count e.0) = sym (fold-roll-Ty Bool (sound_kind count) (Ty-F.Array e.0 n)) ∙ s in
+      let is : IsTrue ((nat_le 1 n && nat_lt n (2 ^ 32)) && sound count e.0) = sym (fold-roll-Ty Bool (sound_kind count) (Ty-F.Array e.0 n)) ∙ s in
       let p = and_parts _ _ is in
       judged (Ty-F.Array e.0 n) ∙ at.at-Array Bool (sound_kind bound) (retyped numbers e.0) n ∙ and_from _ _ p.0 (e.1 p.1)
   layer_stays (Ty-F.Runtime e) s =
@@ -101,7 +101,7 @@ module _ (a b : List ℕ) (count : ℕ) (alike : (k : ℕ) → k < count → new
   layer_keeps (Ty-F.One x) s = fold-roll-Ty Ty (retyped_layer a) (Ty-F.One x) ∙ sym (fold-roll-Ty Ty (retyped_layer b) (Ty-F.One x))
   layer_keeps (Ty-F.Vector x n) s = fold-roll-Ty Ty (retyped_layer a) (Ty-F.Vector x n) ∙ sym (fold-roll-Ty Ty (retyped_layer b) (Ty-F.Vector x n))
   layer_keeps (Ty-F.Array e n) s =
-      let is : IsTrue (nat_le 1 n && sound count e.0) = sym (fold-roll-Ty Bool (sound_kind count) (Ty-F.Array e.0 n)) ∙ s in
+      let is : IsTrue ((nat_le 1 n && nat_lt n (2 ^ 32)) && sound count e.0) = sym (fold-roll-Ty Bool (sound_kind count) (Ty-F.Array e.0 n)) ∙ s in
       fold-roll-Ty Ty (retyped_layer a) (Ty-F.Array e.0 n) ∙ ap (λ t. ty.Array t n) (e.1 (and_parts _ _ is).1) ∙ sym (fold-roll-Ty Ty (retyped_layer b) (Ty-F.Array e.0 n))
   layer_keeps (Ty-F.Runtime e) s =
       fold-roll-Ty Ty (retyped_layer a) (Ty-F.Runtime e.0) ∙ ap ty.Runtime (e.1 (sym (fold-roll-Ty Bool (sound_kind count) (Ty-F.Runtime e.0)) ∙ s))
@@ -121,3 +121,23 @@ module _ (a b : List ℕ) (count : ℕ) (alike : (k : ℕ) → k < count → new
   retyped_members_alike [] all = refl
   retyped_members_alike (member ∷ members) all = ap (λ t. with_type member.name t ∷ map (retyped_member a) members) (retyped_alike member.ty all.0)
       ∙ ap (λ ms. retyped_member b member ∷ ms) (retyped_members_alike members all.1)
+
+-- ---- plain types stay so
+
+module _ (numbers : List ℕ) where
+  abbrev AsPlain : Ty → Type 0
+  AsPlain t = is_plain (retyped numbers t) ≡ is_plain t
+
+  as_judged : (x : Ty-F Ty) → is_plain (retyped numbers (roll-Ty x)) ≡ is_plain (retyped_layer numbers (map-Ty _ _ (retyped numbers) x))
+  as_judged x = ap is_plain (fold-roll-Ty Ty (retyped_layer numbers) x)
+
+  layer_plain : (y : Ty-F ((t : Ty) × AsPlain t)) → AsPlain (roll-Ty (map-Ty _ _ (λ e. e.0) y))
+  layer_plain Ty-F.Void = as_judged Ty-F.Void ∙ at.at-Void Bool is_plain_kind ∙ sym (fold-roll-Ty Bool is_plain_kind Ty-F.Void)
+  layer_plain (Ty-F.One x) = as_judged (Ty-F.One x) ∙ at.at-One Bool is_plain_kind x ∙ sym (fold-roll-Ty Bool is_plain_kind (Ty-F.One x))
+  layer_plain (Ty-F.Vector x n) = as_judged (Ty-F.Vector x n) ∙ at.at-Vector Bool is_plain_kind x n ∙ sym (fold-roll-Ty Bool is_plain_kind (Ty-F.Vector x n))
+  layer_plain (Ty-F.Array e n) = as_judged (Ty-F.Array e.0 n) ∙ at.at-Array Bool is_plain_kind (retyped numbers e.0) n ∙ e.1 ∙ sym (fold-roll-Ty Bool is_plain_kind (Ty-F.Array e.0 n))
+  layer_plain (Ty-F.Runtime e) = as_judged (Ty-F.Runtime e.0) ∙ at.at-Runtime Bool is_plain_kind (retyped numbers e.0) ∙ sym (fold-roll-Ty Bool is_plain_kind (Ty-F.Runtime e.0))
+  layer_plain (Ty-F.Struct k) = as_judged (Ty-F.Struct k) ∙ at.at-Struct Bool is_plain_kind _ ∙ sym (fold-roll-Ty Bool is_plain_kind (Ty-F.Struct k))
+
+  pub plain_stays : (t : Ty) → AsPlain t
+  plain_stays = ind-Ty AsPlain (λ x y is. subst (λ z. AsPlain (roll-Ty z)) is (layer_plain y))

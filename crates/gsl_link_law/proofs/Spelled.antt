@@ -1,5 +1,5 @@
 -- Structs have one number among the joined ones exactly where they are spelled alike.
-use Rattle.std.proofs.Common.{◌≡◌, refl, sym, ap, ◌∙◌, subst, ℕ, zero, suc, ◌+◌, ◌<◌, ◌≤◌, ◌⊎◌, inl, inr, Bool, true, false, ◌&&◌, IsTrue, List, [], ◌∷◌, ◌++◌, length, slice_get, Some, bytes_eq, nat_le, arith}
+use Rattle.std.proofs.Common.{◌≡◌, refl, sym, ap, ◌∙◌, subst, ℕ, zero, suc, ◌+◌, ◌<◌, ◌≤◌, ◌⊎◌, inl, inr, Bool, true, false, ◌&&◌, IsTrue, List, [], ◌∷◌, ◌++◌, length, slice_get, Some, bytes_eq, nat_le, nat_lt, ◌^◌, arith}
 use Rattle.std.specs.Prelude.{if◌then◌else◌, ◌↔◌}
 use Rattle.std.specs.List.{AllByRecursion, list_any}
 use Rattle.std.proofs.lemmas.Bool.{and_parts, and_from, true≢false, cases_lt, ltb-true, lt-ltb}
@@ -187,7 +187,7 @@ module _ (structs : List StructType) (known : AreStructs structs) (apart : AreAp
 
     array_part : (e : Ty) (m : ℕ) → IsSound n (roll-Ty (Ty-F.Array e m)) → IsSound n e
     array_part e m s =
-        let is : IsTrue (nat_le 1 m && sound n e) = sym (fold-roll-Ty Bool (sound_kind n) (Ty-F.Array e m)) ∙ s in
+        let is : IsTrue ((nat_le 1 m && nat_lt m (2 ^ 32)) && sound n e) = sym (fold-roll-Ty Bool (sound_kind n) (Ty-F.Array e m)) ∙ s in
         (and_parts _ _ is).1
 
     runtime_part : (e : Ty) → IsSound n (roll-Ty (Ty-F.Runtime e)) → IsSound n e

@@ -3,7 +3,7 @@ use Rattle.std.proofs.Common.{◌≡◌, refl, sym, ap, ◌∙◌, ℕ, zero, su
 use Rattle.std.specs.Prelude.{Some, IsSome}
 use Rattle.std.specs.List.{AllByRecursion}
 use Rattle.std.proofs.lemmas.Bool.{and_parts, false≢true}
-use Rattle.gsl_types.specs.Known.{IsSound}
+use Rattle.gsl_types.specs.Known.{IsSound, is_plain, is_plain_kind}
 use Rattle.gsl_types.specs.Structs.{Meaning, members_over}
 use Rattle.gsl_types.specs.declared.ty.Member.{Member}
 use Rattle.gsl_types.specs.declared.ty.StructType.{StructType}
@@ -20,7 +20,7 @@ use Rattle.gsl_tree.specs.declared.unit.BlockKind.{BlockKind}
 use Rattle.gsl_tree.specs.declared.unit.BlockMember.{BlockMember}
 use Rattle.gsl_tree.specs.Around.{is_buffer}
 use Rattle.gsl_tree.specs.Laying.{members_of}
-use Rattle.gsl_tree.specs.WellTyped.{is_plain, is_plain_kind, is_member_kind, AreBlockMembers}
+use Rattle.gsl_tree.specs.WellTyped.{is_member_kind, AreBlockMembers}
 use Rattle.gsl_link_units.specs.Agreement.{offsets, offsets_in}
 
 -- ---- what is plain

@@ -1,5 +1,5 @@
 -- A value that is filled with the leaves of another is what the words of that tell.
-use Rattle.std.proofs.Common.{◌≡◌, refl, sym, ap, ap₂, ◌∙◌, subst, ℕ, zero, suc, ◌+◌, ◌≤◌, Bool, true, List, [], ◌∷◌, ◌++◌, length, map, set, get_or, Some, append_assoc, arith}
+use Rattle.std.proofs.Common.{◌≡◌, refl, sym, ap, ap₂, ◌∙◌, subst, ℕ, zero, suc, ◌+◌, ◌≤◌, Bool, true, List, [], ◌∷◌, ◌++◌, length, map, set, get_or, Some, append_assoc, arith, nat_lt, ◌^◌, ◌&&◌}
 use Rattle.std.specs.Prelude.{IsTrue, nat_le, replicate, slice_get}
 use Rattle.std.proofs.lemmas.Bool.{and_parts, false≢true, leb-true}
 use Rattle.std.proofs.lemmas.List.{length-append}
@@ -209,7 +209,7 @@ module _ (typed worded : ℕ → Value → Bool) (told : ℕ → Value → Value
   by_layer (Ty-F.Vector s n) is = so (Ty-F.Vector s n) (vector_tells s n (has_parts (replicate n (is_scalar s))) (leb-true 2 n (and_parts (nat_le 2 n) (nat_le n 4) (sound_of (Ty-F.Vector s n) is)).0))
   by_layer (Ty-F.Array e n) is =
       so (Ty-F.Array e.0 n) (subst (Tells (has_parts (replicate n (over value_meaning typed e.0))) (has_parts (replicate n (over words_meaning worded e.0))) (λ v. Many (map (over told_meaning told e.0) (parts_in v)))) (sym (elements_are (over leaves_meaning leaves e.0) 0 n))
-      (array_tells (over value_meaning typed e.0) (over words_meaning worded e.0) (over told_meaning told e.0) (over leaves_meaning leaves e.0) n (e.1 (and_parts (nat_le 1 n) (sound count e.0) (sound_of (Ty-F.Array e.0 n) is)).1)))
+      (array_tells (over value_meaning typed e.0) (over words_meaning worded e.0) (over told_meaning told e.0) (over leaves_meaning leaves e.0) n (e.1 (and_parts (nat_le 1 n && nat_lt n (2 ^ 32)) (sound count e.0) (sound_of (Ty-F.Array e.0 n) is)).1)))
   by_layer (Ty-F.Runtime e) is = so (Ty-F.Runtime e.0) (λ old v pass_old pass_v. absurd (false≢true pass_old))
   by_layer (Ty-F.Struct number) is = so (Ty-F.Struct number) (known number)
 

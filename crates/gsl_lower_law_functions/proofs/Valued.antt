@@ -1,5 +1,5 @@
 -- What has no parts is a value of no type.
-use Rattle.std.proofs.Common.{◌≡◌, sym, ap, ◌∙◌, inl, inr, ◌⊎◌, ℕ, zero, suc, ◌<◌, Bool, true, false, List, [], ◌∷◌, length, map, replicate, arith}
+use Rattle.std.proofs.Common.{◌≡◌, sym, ap, ◌∙◌, inl, inr, ◌⊎◌, ℕ, zero, suc, ◌<◌, Bool, true, false, List, [], ◌∷◌, length, map, replicate, arith, nat_lt, ◌^◌, ◌&&◌}
 use Rattle.std.specs.Prelude.{nat_le}
 use Rattle.std.proofs.lemmas.Bool.{and_parts, ltb-true}
 use Rattle.gsl_types.specs.Known.{AreStructs, IsSound, sound, sound_kind}
@@ -47,8 +47,8 @@ void_or_parts structs t are fits = by (out-Ty t) (roll-out-Ty t)
         let many = and_parts (nat_le 2 n) (nat_le n 4) (sym (fold-roll-Ty Bool (sound_kind (length structs)) (Ty-F.Vector s n)) ∙ sound_layer (Ty-F.Vector s n) e) in
         inr (ap (λ x. is_value_of structs x nothing) (sym e ∙ rolls-Vector s n) ∙ value_of_vector structs s n nothing ∙ some_tests n (is_scalar s) (grind (arith, many.0)))
     by (Ty-F.Array a n) e =
-        let many = and_parts (nat_le 1 n) (sound (length structs) a) (sym (fold-roll-Ty Bool (sound_kind (length structs)) (Ty-F.Array a n)) ∙ sound_layer (Ty-F.Array a n) e) in
-        inr (ap (λ x. is_value_of structs x nothing) (sym e ∙ rolls-Array a n) ∙ value_of_array structs a n nothing ∙ some_tests n (is_value_of structs a) (grind (arith, many.0)))
+        let many = and_parts (nat_le 1 n && nat_lt n (2 ^ 32)) (sound (length structs) a) (sym (fold-roll-Ty Bool (sound_kind (length structs)) (Ty-F.Array a n)) ∙ sound_layer (Ty-F.Array a n) e) in
+        inr (ap (λ x. is_value_of structs x nothing) (sym e ∙ rolls-Array a n) ∙ value_of_array structs a n nothing ∙ some_tests n (is_value_of structs a) (grind (arith, (and_parts (nat_le 1 n) (nat_lt n (2 ^ 32)) many.0).0)))
     by (Ty-F.Runtime a) e = inr (ap (λ x. is_value_of structs x nothing) (sym e ∙ rolls-Runtime a) ∙ ap (λ (f : Value → Bool). f nothing) (over_runtime value_meaning (numbered value_meaning structs) a))
     by (Ty-F.Struct k) e =
         let low = ltb-true k (length structs) (sym (fold-roll-Ty Bool (sound_kind (length structs)) (Ty-F.Struct k)) ∙ sound_layer (Ty-F.Struct k) e) in

@@ -1,5 +1,5 @@
 -- Values of a type have its leaves, and are equal where these are.
-use Rattle.std.proofs.Common.{◌≡◌, refl, sym, ap, ap₂, ◌∙◌, subst, ℕ, zero, suc, ◌+◌, ◌≤◌, Bool, true, false, ◌&&◌, List, [], ◌∷◌, ◌++◌, length, map, append_assoc, arith}
+use Rattle.std.proofs.Common.{◌≡◌, refl, sym, ap, ap₂, ◌∙◌, subst, ℕ, zero, suc, ◌+◌, ◌≤◌, Bool, true, false, ◌&&◌, List, [], ◌∷◌, ◌++◌, length, map, append_assoc, arith, nat_lt, ◌^◌}
 use Rattle.std.specs.Prelude.{IsTrue, nat_le, replicate}
 use Rattle.std.specs.List.{flat_map, range_with_len}
 use Rattle.std.proofs.lemmas.Bool.{and_parts, false≢true, leb-true}
@@ -193,7 +193,7 @@ module _ (values : ℕ → Value → Bool) (leaves : ℕ → List Leaf) (known :
   by_layer (Ty-F.Vector s n) is = so (Ty-F.Vector s n) (vector_agrees s n (leb-true 2 n (and_parts (nat_le 2 n) (nat_le n 4) (sound_of (Ty-F.Vector s n) is)).0))
   by_layer (Ty-F.Array e n) is =
       so (Ty-F.Array e.0 n) (subst (Agree (has_parts (replicate n (over value_meaning values e.0)))) (sym (elements_are (over leaves_meaning leaves e.0) 0 n))
-      (parts_agree (replicate n (over value_meaning values e.0)) (replicate n (over leaves_meaning leaves e.0)) (each_agrees (over value_meaning values e.0) (over leaves_meaning leaves e.0) (e.1 (and_parts (nat_le 1 n) (sound count e.0) (sound_of (Ty-F.Array e.0 n) is)).1) n)))
+      (parts_agree (replicate n (over value_meaning values e.0)) (replicate n (over leaves_meaning leaves e.0)) (each_agrees (over value_meaning values e.0) (over leaves_meaning leaves e.0) (e.1 (and_parts (nat_le 1 n && nat_lt n (2 ^ 32)) (sound count e.0) (sound_of (Ty-F.Array e.0 n) is)).1) n)))
   by_layer (Ty-F.Runtime e) is = so (Ty-F.Runtime e.0) (λ v w pass_v pass_w. absurd (false≢true pass_v))
   by_layer (Ty-F.Struct number) is = so (Ty-F.Struct number) (known number)
 

@@ -3,7 +3,7 @@ use Rattle.std.proofs.Common.{◌≡◌, refl, sym, ap, subst, ℕ, ◌+◌, Boo
 use Rattle.std.specs.Prelude.{nat_le}
 use Rattle.std.specs.List.{AllByRecursion, Contains}
 use Rattle.std.proofs.lemmas.List.Elements.{Contains-append_left, Contains-push}
-use Rattle.gsl_types.specs.Known.{IsSound}
+use Rattle.gsl_types.specs.Known.{IsSound, is_plain}
 use Rattle.gsl_types.specs.declared.ty.StructType.{StructType}
 use Rattle.gsl_types.specs.declared.ty.Ty.{Ty}
 use Rattle.gsl_words.specs.declared.module.Instr.{Instr}
@@ -11,7 +11,6 @@ use Rattle.gsl_words.specs.declared.module.Module.{Module}
 use Rattle.gsl_overload.specs.Identity.{identical}
 use Rattle.gsl_overload.proofs.Same.{same_is}
 use Rattle.gsl_tree.specs.Values.{zero_value}
-use Rattle.gsl_tree.specs.WellTyped.{is_plain}
 use Rattle.gsl_valid.specs.Kinds.{shape_of}
 use Rattle.gsl_valid.specs.OperandRules.{is_vector}
 use Rattle.gsl_valid.specs.Types.{defined_as}

@@ -1,9 +1,9 @@
 -- The types of values, as they are put.
-use Rattle.std.proofs.Common.{◌≡◌, refl, sym, ap, ◌∙◌, subst, ℕ, Bool, true, false, ◌&&◌, IsTrue, List, length, replicate, Option, Some, None, if◌then◌else◌, arith}
+use Rattle.std.proofs.Common.{◌≡◌, refl, sym, ap, ◌∙◌, subst, ℕ, Bool, true, false, ◌&&◌, IsTrue, List, length, replicate, Option, Some, None, if◌then◌else◌, arith, nat_lt, ◌^◌}
 use Rattle.std.specs.Prelude.{nat_le, ◌==◌}
 use Rattle.std.specs.List.{Contains}
 use Rattle.std.proofs.lemmas.Bool.{and_parts, eqb-true, false≢true, leb-true}
-use Rattle.gsl_types.specs.Known.{IsSound, sound, sound_kind}
+use Rattle.gsl_types.specs.Known.{IsSound, sound, sound_kind, is_plain, is_plain_kind}
 use Rattle.gsl_types.specs.Structs.{numbered}
 use Rattle.gsl_types.specs.declared.ty.Scalar.{Scalar}
 use Rattle.gsl_types.specs.declared.ty.Scalar.TheVariants.{Uint}
@@ -19,7 +19,6 @@ use Rattle.gsl_words.specs.declared.module.Module.{Module}
 use Rattle.gsl_values.specs.declared.value.Value.TheVariants.{Many, Word}
 use Rattle.gsl_tree.specs.Shapes.{Shape}
 use Rattle.gsl_tree.specs.Values.{zero_meaning, zero_value}
-use Rattle.gsl_tree.specs.WellTyped.{is_plain, is_plain_kind}
 use Rattle.gsl_machine.specs.Constants.{zeros}
 use Rattle.gsl_sound_code.proofs.Looks.{Kept}
 use Rattle.gsl_spv.specs.Calls as call
@@ -131,12 +130,12 @@ module _ (m : Module) (whole : Sections) (structs : List StructType) (kept : Kep
       let long = length_said m l.type n c.first (there m whole structs kept written c.between _ (extends_then grows into) l.stands) in (
         λ sounds plains.
             array_zero m element c.first id n stands long
-            ∙ ap (λ v. Many (replicate n v)) (zero (and_parts (nat_le 1 n) (sound (length structs) e) (subst IsTrue (sound_array_is e n) sounds)).1 (subst IsTrue (plain_array_is e n) plains))
+            ∙ ap (λ v. Many (replicate n v)) (zero (and_parts (nat_le 1 n && nat_lt n (2 ^ 32)) (sound (length structs) e) (subst IsTrue (sound_array_is e n) sounds)).1 (subst IsTrue (plain_array_is e n) plains))
             ∙ sym (over_array zero_meaning (numbered zero_meaning structs) e n),
         array_plain m element c.first id stands,
       )
     where
-      sound_array_is : (e : Ty) (n : ℕ) → sound (length structs) (ty.Array e n) ≡ (nat_le 1 n && sound (length structs) e)
+      sound_array_is : (e : Ty) (n : ℕ) → sound (length structs) (ty.Array e n) ≡ ((nat_le 1 n && nat_lt n (2 ^ 32)) && sound (length structs) e)
       sound_array_is e n = ap (sound (length structs)) (sym (rolls-Array e n)) ∙ fold-roll-Ty Bool (sound_kind (length structs)) (Ty-F.Array e n)
 
       plain_array_is : (e : Ty) (n : ℕ) → is_plain (ty.Array e n) ≡ is_plain e

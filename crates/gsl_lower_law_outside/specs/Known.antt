@@ -1,11 +1,10 @@
 -- What a module says of the types that stand for arrays and structs of the program (SPIR-V 1.0, 3.32.6 and 3.32.7).
 use Rattle.std.specs.Prelude.{◌≡◌, ℕ, false, IsTrue, List, length, Some}
-use Rattle.gsl_types.specs.Known.{IsSound}
+use Rattle.gsl_types.specs.Known.{IsSound, is_plain}
 use Rattle.gsl_types.specs.declared.ty.StructType.{StructType}
 use Rattle.gsl_types.specs.declared.ty.Ty.{Ty}
 use Rattle.gsl_words.specs.declared.module.Module.{Module}
 use Rattle.gsl_tree.specs.Values.{zero_value}
-use Rattle.gsl_tree.specs.WellTyped.{is_plain}
 use Rattle.gsl_valid.specs.Kinds.{shape_of}
 use Rattle.gsl_valid.specs.OperandRules.{is_vector}
 use Rattle.gsl_valid.specs.Types.{defined_as}

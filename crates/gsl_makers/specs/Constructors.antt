@@ -13,7 +13,7 @@ use Rattle.gsl_tree.specs.declared.expr.ExprKind.TheVariants as kind
 use Rattle.gsl_tree.specs.Shapes.{Shape}
 use Rattle.gsl_tree.specs.Weights.{height_of, most_high}
 use Rattle.gsl_tree.specs.Expressions.{shapes_of, supplies, is_one_scalar, most_parts}
-use Rattle.gsl_tree.specs.WellTyped.{is_plain}
+use Rattle.gsl_types.specs.Known.{is_plain}
 use Rattle.gsl_typing.specs.declared.scene.Scene.{Scene}
 use Rattle.gsl_typing.specs.declared.scene.Part.{Part}
 use Rattle.gsl_typing.specs.Rows.{unless}

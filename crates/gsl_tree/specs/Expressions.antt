@@ -3,7 +3,7 @@ use Rattle.std.specs.Prelude.{◌≡◌, ◌≢◌, ℕ, ◌-◌, ◌^◌, ◌�
 use Rattle.std.specs.List.{AllByRecursion, list_all}
 use Rattle.gsl_base.specs.declared.stage.Stage.TheVariants.{Compute}
 use Rattle.gsl_types.specs.Conversions.{converts}
-use Rattle.gsl_types.specs.Known.{IsSound}
+use Rattle.gsl_types.specs.Known.{IsSound, is_plain}
 use Rattle.gsl_types.specs.declared.ty.Direction.{Direction}
 use Rattle.gsl_types.specs.declared.ty.Direction.TheVariants.{In, Out, InOut}
 use Rattle.gsl_types.specs.declared.ty.Member.{Member}
@@ -199,9 +199,9 @@ IsBuildKind around (Ty-F.Struct number) args = (struct : StructType) × (slice_g
 abbrev pub most_parts : ℕ
 most_parts = 16383
 
--- a constructor or an initialiser list of a type
+-- a constructor or an initialiser list of a type, in which nothing is `void`
 abbrev pub IsBuild : Around → List Expr → Ty → Type 0
-IsBuild around args t = IsBuildKind around (out-Ty t) args × (length args ≤ most_parts) × IsSound (length around.structs) t × (height_of around.structs t ≤ most_high)
+IsBuild around args t = IsBuildKind around (out-Ty t) args × (length args ≤ most_parts) × IsSound (length around.structs) t × (height_of around.structs t ≤ most_high) × IsTrue (is_plain t)
 
 abbrev pub last_type : List Expr → Option Ty
 last_type [] = None

@@ -3,7 +3,7 @@ use Rattle.std.specs.Prelude.{◌≡◌, ◌≢◌, ℕ, ◌+◌, ◌<◌, ◌�
 use Rattle.std.specs.List.{AllByRecursion, list_all}
 use Rattle.gsl_base.specs.declared.stage.Stage.{Stage}
 use Rattle.gsl_base.specs.declared.stage.Stage.TheVariants.{Vertex, Fragment, Compute}
-use Rattle.gsl_types.specs.Known.{AreStructs, IsSound}
+use Rattle.gsl_types.specs.Known.{AreStructs, IsSound, is_plain, is_plain_kind}
 use Rattle.gsl_types.specs.declared.ty.Direction.{Direction}
 use Rattle.gsl_types.specs.declared.ty.Member.{Member}
 use Rattle.gsl_types.specs.declared.ty.Ty.{Ty}
@@ -101,18 +101,6 @@ pub record IsName (name : List ℕ) : Type 0 where
 abbrev pub IsNameOr : Option (List ℕ) → Type 0
 IsNameOr None = Unit {0}
 IsNameOr (Some name) = IsName name
-
--- no `void` and no runtime array stands in a type
-abbrev pub is_plain_kind : Ty-F Bool → Bool
-is_plain_kind Ty-F.Void = false
-is_plain_kind (Ty-F.One s) = true
-is_plain_kind (Ty-F.Vector s n) = true
-is_plain_kind (Ty-F.Array element n) = element
-is_plain_kind (Ty-F.Runtime element) = false
-is_plain_kind (Ty-F.Struct number) = true
-
-abbrev pub is_plain : Ty → Bool
-is_plain = fold-Ty Bool is_plain_kind
 
 -- the type of a variable, a parameter or a member of a struct
 pub record IsVariableType (structs : List StructType) (t : Ty) : Type 0 where

@@ -1,9 +1,9 @@
 -- The zero of a type is a value of the type.
-use Rattle.std.proofs.Common.{◌≡◌, refl, ap, ◌∙◌, subst, ℕ, zero, suc, ◌<◌, Bool, true, IsTrue, List, [], ◌∷◌, replicate, length, arith}
+use Rattle.std.proofs.Common.{◌≡◌, refl, ap, ◌∙◌, subst, ℕ, zero, suc, ◌<◌, Bool, true, IsTrue, List, [], ◌∷◌, replicate, length, arith, nat_lt, ◌^◌, ◌&&◌}
 use Rattle.std.specs.Prelude.{nat_le}
 use Rattle.std.specs.List.{AllByRecursion}
 use Rattle.std.proofs.lemmas.Bool.{and_from, and_parts, false≢true, ltb-true}
-use Rattle.gsl_types.specs.Known.{AreStructs, IsSound, sound, sound_kind}
+use Rattle.gsl_types.specs.Known.{AreStructs, IsSound, sound, sound_kind, is_plain, is_plain_kind}
 use Rattle.gsl_types.specs.Structs.{layer, members_over, numbered, over}
 use Rattle.gsl_types.specs.declared.ty.Member.{Member}
 use Rattle.gsl_types.specs.declared.ty.Scalar.{Scalar}
@@ -18,7 +18,7 @@ use Rattle.gsl_types.proofs.Structs.{numbered_is}
 use Rattle.gsl_values.specs.declared.value.Value.{Value}
 use Rattle.gsl_values.specs.declared.value.Value.TheVariants.{Many, Word, outs-Many}
 use Rattle.gsl_tree.specs.Values.{all_pass, has_parts, has_parts_layer, is_scalar, is_value_of, is_word_of, tests_of, value_meaning, zero_meaning, zero_value, zeros_of}
-use Rattle.gsl_tree.specs.WellTyped.{IsStructDeclared, IsVariableType, is_plain, is_plain_kind}
+use Rattle.gsl_tree.specs.WellTyped.{IsStructDeclared, IsVariableType}
 use Rattle.gsl_typed_law.specs.Plain.{ArePlain}
 use Rattle.gsl_typed_law.proofs.Components.{scalar_word}
 
@@ -57,7 +57,7 @@ module _ (values : ℕ → Value → Bool) (zeros : ℕ → Value) (count : ℕ)
   by_layer (Ty-F.Vector s n) sound plain = so (Ty-F.Vector s n) (many_pass (replicate n (is_scalar s)) (replicate n (Word 0)) (all_zero (is_scalar s) (Word 0) n (scalar_word s 0 (zero_word s))))
   by_layer (Ty-F.Array e n) sounds plain =
       so (Ty-F.Array e.0 n) (many_pass (replicate n (over value_meaning values e.0)) (replicate n (over zero_meaning zeros e.0))
-      (all_zero (over value_meaning values e.0) (over zero_meaning zeros e.0) n (e.1 (and_parts (nat_le 1 n) (sound count e.0) (sound_of (Ty-F.Array e.0 n) sounds)).1 (plain_of (Ty-F.Array e.0 n) plain))))
+      (all_zero (over value_meaning values e.0) (over zero_meaning zeros e.0) n (e.1 (and_parts (nat_le 1 n && nat_lt n (2 ^ 32)) (sound count e.0) (sound_of (Ty-F.Array e.0 n) sounds)).1 (plain_of (Ty-F.Array e.0 n) plain))))
   by_layer (Ty-F.Runtime e) sound plain = absurd (false≢true (plain_of (Ty-F.Runtime e.0) plain))
   by_layer (Ty-F.Struct number) sound plain = so (Ty-F.Struct number) (known number (ltb-true number count (sound_of (Ty-F.Struct number) sound)))
 

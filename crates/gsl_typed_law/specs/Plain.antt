@@ -3,7 +3,7 @@ use Rattle.std.specs.Prelude.{◌≡◌, ℕ, IsTrue, List, slice_get, Some}
 use Rattle.std.specs.List.{AllByRecursion}
 use Rattle.gsl_types.specs.declared.ty.Member.{Member}
 use Rattle.gsl_types.specs.declared.ty.StructType.{StructType}
-use Rattle.gsl_tree.specs.WellTyped.{is_plain}
+use Rattle.gsl_types.specs.Known.{is_plain}
 
 -- no `void` and no runtime array stands in the types of members
 abbrev pub ArePlain : List StructType → Type 0

@@ -7,14 +7,14 @@ ghost use Rattle.gsl_tree.specs.Expressions.{IsBinary, IsBuild, IsBuilt, IsSwizz
 ghost use Rattle.gsl_tree.specs.Operations.{binary_value, build_value, builtin_value, step_value, swizzle_value, unary_value, value_at, with_value_at};
 ghost use Rattle.gsl_tree.specs.Shapes.{Shape, is_integer, shape_of};
 ghost use Rattle.gsl_tree.specs.Values.{all_pass, is_value_of, zero_value};
-ghost use Rattle.gsl_tree.specs.WellTyped.{IsStructDeclared, is_plain};
+ghost use Rattle.gsl_tree.specs.WellTyped.{IsStructDeclared};
 ghost use Rattle.gsl_tree.specs.declared.expr.Expr.{Expr};
 ghost use Rattle.gsl_tree.specs.declared.expr.StepOp.{StepOp};
 ghost use Rattle.gsl_typed_law.specs.Given.{AreChoices, Gives};
 ghost use Rattle.gsl_typed_law.specs.Parts.{LeadsTo};
 ghost use Rattle.gsl_typed_law.specs.Plain.{ArePlain};
 ghost use Rattle.gsl_types.specs.Conversions.{converts};
-ghost use Rattle.gsl_types.specs.Known.{AreStructs, IsSound};
+ghost use Rattle.gsl_types.specs.Known.{AreStructs, IsSound, is_plain};
 ghost use Rattle.gsl_types.specs.declared.ty.StructType.{StructType};
 ghost use Rattle.gsl_types.specs.declared.ty.Ty.{Ty};
 ghost use Rattle.gsl_values.specs.Operators.{is_free};

@@ -1,5 +1,5 @@
 -- Meanings of types, layer by layer.
-use Rattle.std.proofs.Common.{◌≡◌, sym, ap, subst, ◌∙◌, ℕ, ◌≤◌, IsTrue, arith}
+use Rattle.std.proofs.Common.{◌≡◌, sym, ap, subst, ◌∙◌, ℕ, ◌≤◌, IsTrue, arith, ◌^◌}
 use Rattle.std.specs.Prelude.{Bool, ◌&&◌, nat_le, nat_lt}
 use Rattle.gsl_types.specs.declared.ty.Ty.{Ty}
 use Rattle.gsl_types.specs.declared.ty.Ty.TheOpen.{Ty-F}
@@ -31,7 +31,7 @@ module _ {A : Type 0} (m : Meaning A) (known : ℕ → A) where
   pub over_struct : (k : ℕ) → over m known (ty.Struct k) ≡ known k
   over_struct k = ap (over m known) (sym (rolls-Struct k)) ∙ fold-roll-Ty A (layer m known) (Ty-F.Struct k)
 
-pub sound_array : (count : ℕ) (e : Ty) (n : ℕ) → sound count (ty.Array e n) ≡ (nat_le 1 n && sound count e)
+pub sound_array : (count : ℕ) (e : Ty) (n : ℕ) → sound count (ty.Array e n) ≡ ((nat_le 1 n && nat_lt n (2 ^ 32)) && sound count e)
 sound_array count e n = ap (sound count) (sym (rolls-Array e n)) ∙ fold-roll-Ty Bool (sound_kind count) (Ty-F.Array e n)
 
 pub sound_struct : (count : ℕ) (k : ℕ) → sound count (ty.Struct k) ≡ nat_lt k count
@@ -47,7 +47,7 @@ module _ (few many : ℕ) (le : few ≤ many) where
   stays_layer (Ty-F.One x) s = fold-roll-Ty Bool (sound_kind many) (Ty-F.One x)
   stays_layer (Ty-F.Vector x n) s = fold-roll-Ty Bool (sound_kind many) (Ty-F.Vector x n) ∙ sym (fold-roll-Ty Bool (sound_kind few) (Ty-F.Vector x n)) ∙ s
   stays_layer (Ty-F.Array e n) s =
-      let is : IsTrue (nat_le 1 n && sound few e.0) = sym (fold-roll-Ty Bool (sound_kind few) (Ty-F.Array e.0 n)) ∙ s in
+      let is : IsTrue ((nat_le 1 n && nat_lt n (2 ^ 32)) && sound few e.0) = sym (fold-roll-Ty Bool (sound_kind few) (Ty-F.Array e.0 n)) ∙ s in
       let parts = and_parts _ _ is in
       fold-roll-Ty Bool (sound_kind many) (Ty-F.Array e.0 n) ∙ and_from _ _ parts.0 (e.1 parts.1)
   stays_layer (Ty-F.Runtime e) s = fold-roll-Ty Bool (sound_kind many) (Ty-F.Runtime e.0) ∙ e.1 (sym (fold-roll-Ty Bool (sound_kind few) (Ty-F.Runtime e.0)) ∙ s)

@@ -1,5 +1,5 @@
 -- The meaning of a struct is that of its members.
-use Rattle.std.proofs.Common.{◌≡◌, refl, sym, ap, subst, ◌∙◌, ℕ, ◌+◌, ◌<◌, List, [], ◌∷◌, ◌++◌, length, get_or, IsTrue, arith, Some, zero, suc, None, Option, length-append}
+use Rattle.std.proofs.Common.{◌≡◌, refl, sym, ap, subst, ◌∙◌, ℕ, ◌+◌, ◌<◌, List, [], ◌∷◌, ◌++◌, length, get_or, IsTrue, arith, Some, zero, suc, None, Option, length-append, nat_lt, ◌^◌}
 use Rattle.std.specs.Prelude.{Bool, slice_get, nat_le, ◌&&◌}
 use Rattle.std.specs.List.{AllByRecursion}
 use Rattle.std.proofs.lemmas.Bool.{and_parts, ltb-true}
@@ -24,7 +24,7 @@ module _ {A : Type 0} (m : Meaning A) (count : ℕ) (f g : ℕ → A) (agree : (
   layer_agree (Ty-F.One x) s = fold-roll-Ty A (layer m f) _ ∙ sym (fold-roll-Ty A (layer m g) _)
   layer_agree (Ty-F.Vector x n) s = fold-roll-Ty A (layer m f) _ ∙ sym (fold-roll-Ty A (layer m g) _)
   layer_agree (Ty-F.Array e n) s =
-      let is : IsTrue (nat_le 1 n && sound count e.0) = sym (fold-roll-Ty Bool (sound_kind count) (Ty-F.Array e.0 n)) ∙ s in
+      let is : IsTrue ((nat_le 1 n && nat_lt n (2 ^ 32)) && sound count e.0) = sym (fold-roll-Ty Bool (sound_kind count) (Ty-F.Array e.0 n)) ∙ s in
       fold-roll-Ty A (layer m f) (Ty-F.Array e.0 n) ∙ ap (λ a. m.kind (Ty-F.Array a n)) (e.1 (and_parts _ _ is).1) ∙ sym (fold-roll-Ty A (layer m g) (Ty-F.Array e.0 n))
   layer_agree (Ty-F.Runtime e) s =
       let is = sym (fold-roll-Ty Bool (sound_kind count) (Ty-F.Runtime e.0)) ∙ s in

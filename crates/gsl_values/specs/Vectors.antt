@@ -4,9 +4,9 @@ use Rattle.gsl_values.specs.declared.op.BinaryOp.{BinaryOp}
 use Rattle.gsl_values.specs.declared.lane.Lanes.{Lanes}
 use Rattle.gsl_values.specs.Operators.{binary_answer}
 
--- there are 1 to 4 components
+-- there are 1 to 4 components, and a word for each
 abbrev pub IsLanes : Lanes → Type 0
-IsLanes lanes = (1 ≤ lanes.count) × (lanes.count ≤ 4)
+IsLanes lanes = (1 ≤ lanes.count) × (lanes.count ≤ 4) × (lanes.count ≤ length lanes.words)
 
 -- the words of the components, lowest first
 abbrev pub components : Lanes → List ℕ
