@@ -5,3 +5,4 @@ pub mod Branching
 pub mod Meeting
 pub mod Short
 pub mod Choice
+pub mod Taking

@@ -39,6 +39,16 @@ abbrev pub EmitStays : {A : Type 0} → Flow → Lowered A → Type 0
 EmitStays before (Gives a after) = FlowStays before after
 EmitStays before Lacks = Unit {0}
 
+-- So many holders more were used, where a part of lowering comes to something.
+abbrev pub EmitTakes : {A : Type 0} → ℕ → Flow → Lowered A → Type 0
+EmitTakes n before (Gives a after) = after.place.used ≡ before.place.used + n
+EmitTakes n before Lacks = Unit {0}
+
+-- how many holders something takes that waits, or does not
+abbrev pub taken_if : Bool → ℕ
+taken_if true = 1
+taken_if false = 0
+
 -- A flow comes behind another: what that builder held stays in its sections, and the place tells the same, but for the block that is open and
 -- the holders that were used.
 pub record IsLater (before after : Flow) : Type 0 where
