@@ -1,11 +1,12 @@
 //! Where the words of operands stand.
 
-ghost use Rattle.std.specs.Prelude.{◌≡◌, ◌+◌, ◌++◌, ◌<◌, ◌≤◌, IfOk, None, OnOk, map, slice_index_or};
+ghost use Rattle.std.specs.Prelude.{◌≡◌, ◌+◌, ◌++◌, ◌<◌, ◌≤◌, ◌^◌, IfOk, None, OnOk, length, map, slice_index_or};
 ghost use Rattle.std.specs.List.{range_with_len};
 ghost use Rattle.gsl_kinds.specs.Seen.{kind_seen};
 ghost use Rattle.gsl_frames.specs.Frames.{place};
 ghost use Rattle.gsl_leaves.specs.Table.{most};
 ghost use Rattle.gsl_operands.specs.Operands as spec;
+ghost use Rattle.gsl_valid.specs.IdsDefinedOnce.{ids_defined_once};
 ghost use Rattle.gsl_valid.specs.Kinds as kinds;
 ghost use Rattle.gsl_valid.specs.Types.{defined_as};
 
@@ -39,16 +40,14 @@ impl<'a> Model for Operands<'a> {
 }
 
 impl<'a> Operands<'a> {
-    /// The operands of a module. Each constant takes four bytes a word, and each id below the bound sixteen.
-    pub fn new(
-        alloc: Global,
-        frames: &'a Frames<'a>,
-        constants: &Constants<'a>,
-    ) -> Result<Operands<'a>, Memory>
-        requires same { constants.now ≡ frames.now }
+    /// The operands of a module that defines each id once. Each constant takes four bytes a word, and each id below the bound sixteen; while they are made, twice that.
+    pub fn new(alloc: Global, frames: &'a Frames<'a>) -> Result<Operands<'a>, Memory>
+        requires few { length frames.now.instrs < 2 ^ 32 }
+        requires once { ids_defined_once frames.now ≡ None }
         ensures { IfOk result (λ operands. operands ≡ frames.now) }
     {
-        let Rows { words, firsts } = rows_of(alloc, frames, constants)?;
+        let constants = Constants::new(alloc, frames.leaves())?;
+        let Rows { words, firsts } = rows_of(alloc, frames, &constants)?;
         Ok(Operands {
             frames,
             words,
