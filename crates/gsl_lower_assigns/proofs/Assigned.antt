@@ -1,5 +1,5 @@
 -- Assignments to what expressions lead to.
-use Rattle.std.proofs.Common.{◌≡◌, ◌≢◌, refl, sym, ◌∙◌, subst, inr, ℕ, Bool, true, false, ◌||◌}
+use Rattle.std.proofs.Common.{◌≡◌, ◌≢◌, refl, sym, subst, inr, ℕ, Bool, true, false, ◌||◌}
 use Rattle.gsl_base.specs.declared.input.Input.{Input}
 use Rattle.gsl_types.specs.declared.ty.Ty.{Ty}
 use Rattle.gsl_types.specs.declared.ty.Ty.TheVariants.{Void}
@@ -24,21 +24,21 @@ use Rattle.gsl_lower_follows.specs.Giving.{Adds, After, Does, GivesValue, Grown,
 use Rattle.gsl_lower_follows.proofs.Behind.{reaches_here}
 use Rattle.gsl_lower_follows.proofs.Doing.{does_then}
 use Rattle.gsl_lower_follows.proofs.Growing.{adds_given, adds_then}
-use Rattle.gsl_lower_follows.proofs.Holding.{after_then, does_so}
+use Rattle.gsl_lower_follows.proofs.Holding.{does_so}
 use Rattle.gsl_lower_law_expr.proofs.Operands.{given_behind, given_value}
 use Rattle.gsl_lower_law_expr.proofs.Short.{behind_assoc}
 use Rattle.gsl_lower_reaching.specs.Reaching.{GivesPlace, HasReached, HasStrayed, IsTrail, Start}
 use Rattle.gsl_lower_reaching.specs.Trails.{IsInside, IsOutside, Trail}
 use Rattle.gsl_lower_reaching.proofs.Moving.{trail_after}
 use Rattle.gsl_lower_reads.specs.Waiting.{IsKept}
-use Rattle.gsl_lower_reads.proofs.Holds.{adds_fetched, adds_held, is_fetched, is_held}
+use Rattle.gsl_lower_reads.proofs.Holds.{adds_fetched, is_fetched}
+use Rattle.gsl_lower_reads.proofs.Probing.{adds_tested, kept_in, kept_none, kept_out}
 use Rattle.gsl_lower_indexes.specs.Computed.{Comes}
 use Rattle.gsl_lower_writes.specs.Written.{IsWritten}
 use Rattle.gsl_lower_writes.proofs.Adding.{adds_stores}
 use Rattle.gsl_lower_writes.proofs.Outside.{store_strays}
 use Rattle.gsl_lower_writes.proofs.Stored.{trail_stored}
 use Rattle.gsl_lower_assigns.specs.Assigning.{Assigns, assign_means}
-use Rattle.gsl_lower_writes.proofs.Probing.{IsTested, adds_probe, probe_in, probe_none, probe_out}
 
 -- what comes to something goes on to stray
 comes_strays : {A : Type 0} (ran : Ran Value) → Comes ran → shader_run.behind {B = A} ran (λ v s left. Strays) ≡ Strays
@@ -83,7 +83,7 @@ module _ (m : Module) (input : Input) (sections : Sections) (f : Frame m input s
   adds_rest kept = adds_then right.value (behind_value kept) gives.adds (adds_behind kept)
 
   adds_before : (r : Reached) → Adds (before r)
-  adds_before r = adds_then (lift (probe p.structs right.traits.calls t r)) (λ done. hold_reached more r) (adds_probe m input sections p.structs right.traits.calls t r) (λ done. adds_held more r)
+  adds_before r = adds_tested m input sections p.structs right.traits.calls more t r
 
   adds_next : (r : Reached) → Adds (next r)
   adds_next r = adds_then (before r) rest (adds_before r) adds_rest
@@ -181,23 +181,11 @@ module _ (m : Module) (input : Input) (sections : Sections) (f : Frame m input s
   -- ---- the left side
 
   module _ (b : Flow) (s : shader.State) (units : ℕ) (state : State) (r : Reached) (l : Trail) (good : Good m input sections f p around b s state) (is : IsTrail m input sections f p around false loose b state r l) where
-    -- it waits where the right side has blocks
-    kept_behind : (calls : Bool) → Does m input sections f p 0 units state (IsTested m input sections f p around known.are loose t known.sound b s state) none_waits (Got tt s units) (lift (probe p.structs calls t r) b)
-        → Does m input sections f p 0 units state (IsKept m input sections f p around more loose l s b state) none_waits (Got tt s units) ((lift (probe p.structs calls t r) >>= (λ done. hold_reached more r)) b)
-    kept_behind calls does =
-        does_then m input sections f p 0 units b state (IsTested m input sections f p around known.are loose t known.sound b s state) none_waits (IsKept m input sections f p around more loose l s b state) none_waits (Got tt s units) (λ one u left. Got tt u left) (lift (probe p.structs calls t r) b) (λ done. hold_reached more r) good.inside
-        (adds_probe m input sections p.structs calls t r b) (λ done. adds_held more r) does
-        (λ done between one u left mid within grown q less.
-        does_so m input sections f p around 0 left mid (IsKept m input sections f p around more loose l u between mid) (IsKept m input sections f p around more loose l s b state) (Got tt u left) (hold_reached more r between)
-        (λ kept later two w last z. record { after = after_then m input sections f p around false false b between later state mid last u w grown q.after z.after; still = z.still ∙ q.still; is = z.is })
-        (is_held m input sections f p around u loose more r l left between mid q.after.good (trail_after m input sections f p around false loose b between state mid u r l grown q.after is)))
-        (λ done between u left mid within grown none less. absurd none)
-
     next_in : (x : Access) → IsInside p.structs true t x l → Does m input sections f p 0 units state (Has more b state) none_waits (shader_run.◌>>=◌ y (storing x) s units) (next r b)
     next_in x inside =
         does_then m input sections f p 0 units b state (IsKept m input sections f p around more loose l s b state) none_waits (Has more b state) none_waits (Got tt s units) (λ one u left. shader_run.◌>>=◌ y (storing x) u left) (before r b) rest good.inside
         (adds_before r b) adds_rest
-        (kept_behind right.traits.calls (probe_in m input sections f p around known.are loose t known.sound b s units state r l good is right.traits.calls x inside))
+        (kept_in m input sections f p around known.are loose true t known.sound b s units state r l good is right.traits.calls more x inside)
         (λ kept between one u left mid within grown q less.
         from_before false more more b between state mid u left (shader_run.◌>>=◌ y (storing x) u left) (rest kept) (λ e. e) grown q.after
         (right_in between u left mid kept l q.after.good q.is x inside))
@@ -209,20 +197,16 @@ module _ (m : Module) (input : Input) (sections : Sections) (f : Frame m input s
         by : (calls : Bool) → right.traits.calls ≡ calls → Does m input sections f p 0 units state (Has more b state) none_waits Strays ((lift (probe p.structs calls t r) >>= (λ done. hold_reached more r) >>= rest) b)
         by false e =
             does_then m input sections f p 0 units b state (IsKept m input sections f p around more loose l s b state) none_waits (Has more b state) none_waits (Got tt s units) (λ one u left. Strays) ((lift (probe p.structs false t r) >>= (λ done. hold_reached more r)) b) rest good.inside
-            (adds_then (lift (probe p.structs false t r)) (λ done. hold_reached more r) (adds_probe m input sections p.structs false t r) (λ done. adds_held more r) b) adds_rest
-            (kept_behind false (probe_none m input sections f p around known.are loose t known.sound b s units state r l good is))
+            (adds_tested m input sections p.structs false more t r b) adds_rest
+            (kept_none m input sections f p around known.are loose true t known.sound b s units state r l good is more)
             (λ kept between one u left mid within grown q less.
             from_before false more more b between state mid u left Strays (rest kept) (λ e. e) grown q.after
             (right_out between u left mid kept l q.after.good q.is e outside))
             (λ kept between u left mid within grown none less. absurd none)
         by true e =
             does_then m input sections f p 0 units b state (λ done later (one : Value) u last. ⊥) none_waits (Has more b state) none_waits Strays (λ one u left. Strays) ((lift (probe p.structs true t r) >>= (λ done. hold_reached more r)) b) rest good.inside
-            (adds_then (lift (probe p.structs true t r)) (λ done. hold_reached more r) (adds_probe m input sections p.structs true t r) (λ done. adds_held more r) b) adds_rest
-            (does_then m input sections f p 0 units b state (λ done later (one : Value) u last. ⊥) none_waits (λ done later (one : Value) u last. ⊥) none_waits Strays (λ one u left. Strays) (lift (probe p.structs true t r) b) (λ done. hold_reached more r) good.inside
-            (adds_probe m input sections p.structs true t r b) (λ done. adds_held more r)
-            (probe_out m input sections f p around known.are loose t known.sound b s units state r l good is (λ done later (one : Value) u last. ⊥) known.some outside)
-            (λ done between one u left mid within grown none less. absurd none)
-            (λ done between u left mid within grown none less. absurd none))
+            (adds_tested m input sections p.structs true more t r b) adds_rest
+            (kept_out m input sections f p around known.are loose true t known.sound b s units state r l good is (λ done later (one : Value) u last. ⊥) more known.some outside)
             (λ kept between one u left mid within grown none less. absurd none)
             (λ kept between u left mid within grown none less. absurd none)
 

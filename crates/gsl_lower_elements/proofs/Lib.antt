@@ -7,4 +7,5 @@ pub mod Tables
 pub mod Deeper
 pub mod Indexing
 pub mod Rebased
+pub mod Pointed
 pub mod Literal

@@ -14,7 +14,6 @@ use Rattle.gsl_meaning.specs.Accesses.{Access}
 use Rattle.gsl_meaning.specs.Running.{Run, Strays, indexing}
 use Rattle.gsl_meaning.specs.Running as shader_run
 use Rattle.gsl_meaning.specs.State as shader
-use Rattle.gsl_machine.specs.State.{State}
 use Rattle.gsl_spv.specs.Sections.{Sections}
 use Rattle.gsl_spv.proofs.Extending.{extends_same}
 use Rattle.gsl_lower_values.specs.Building as steps
@@ -92,7 +91,7 @@ module _ (m : Module) (input : Input) (sections : Sections) (f : Frame m input s
           subst (λ low. Does m input sections f p 0 units state (HasReached m input sections f p around false lies writes t b state) (HasStrayed m input sections f p around false lies writes t b state) (shader_run.◌>>=◌ y (λ v. indexing x (word_in v)) s units) low) (sym (next_is r b))
           (subst (λ ran. Does m input sections f p 0 units state (HasReached m input sections f p around false lies writes t b state) (HasStrayed m input sections f p around false lies writes t b state) ran (stepped r b)) (sym (means x s units))
           (step_in m input sections f p around are lies writes a.ty t (Fixed number) number is.sound is.sound_part is.element may units b s state r l good trail refl x inside));
-      outside = λ b s units state r l good trail outside.
+      outside = λ b s units state r l good trail outside origin budget strays.
           subst (λ low. Does m input sections f p 0 units state (HasReached m input sections f p around false lies writes t b state) (HasStrayed m input sections f p around false lies writes t b state) Strays low) (sym (next_is r b))
           (step_out m input sections f p around are lies writes a.ty t (Fixed number) number is.sound is.sound_part is.element may units b s state r l good trail refl (HasReached m input sections f p around false lies writes t b state) outside);
     }

@@ -39,13 +39,13 @@ module _ (m : Module) (input : Input) (sections : Sections) (f : Frame m input s
   abbrev run_at : (shape : Shape) → shape_of l.ty ≡ Some shape → Value
   run_at shape of = run_value m input sections f p around are start b s state r l good x shape of
 
-  abbrev of_whole : (shape : Shape) → shape_of inside.whole ≡ Some shape → shape_of l.ty ≡ Some shape
+  abbrev pub of_whole : (shape : Shape) → shape_of inside.whole ≡ Some shape → shape_of l.ty ≡ Some shape
   of_whole shape of = ap shape_of (whole_is m input sections f p around are start b s state r l good x writes t a inside) ∙ of
 
   there_is : (shape : Shape) (of : shape_of l.ty ≡ Some shape) → value_at (root_value a.root s) (l.front ++ l.words) ≡ run_at shape of
   there_is shape of = value_there m input sections f p around are start b s state r l good x writes t a inside ∙ run_there m input sections f p around are start b s state r l good x shape of
 
-  picks_stand : (q : Picked) (c : Chosen) → PicksBy (λ id v. HeldAs m input sections f false id v b state) (Some q) (Some c) → 1 ≤ length c.positions → AreWithin c.shape.1 c.word c.positions → Picks state.ids q c.word
+  pub picks_stand : (q : Picked) (c : Chosen) → PicksBy (λ id v. HeldAs m input sections f false id v b state) (Some q) (Some c) → 1 ≤ length c.positions → AreWithin c.shape.1 c.word c.positions → Picks state.ids q c.word
   picks_stand q c picks some within = record {
     by_word = chooses_stand state.ids q.by c.word picks.2;
     some = subst (λ ps. 1 ≤ length ps) (sym picks.1) some;

@@ -20,11 +20,12 @@ ghost use Rattle.gsl_meaning.specs.Accesses.{Access, parts_at, read as means_rea
 ghost use Rattle.gsl_meaning.specs.Expressions.{block_parts};
 ghost use Rattle.gsl_meaning.specs.Running.{told_by};
 ghost use Rattle.gsl_meaning.specs.State as shader;
-ghost use Rattle.gsl_machine.specs.State.{State};
+ghost use Rattle.gsl_machine.specs.State.{Ids, State};
 ghost use Rattle.gsl_spv.specs.Sections.{Sections};
+ghost use Rattle.gsl_lower_places.specs.Pointed.{pointed};
 ghost use Rattle.gsl_lower_places.specs.Reading.{read};
 ghost use Rattle.gsl_lower_places.specs.declared.reached.Reached.{Reached};
-ghost use Rattle.gsl_lower_law.specs.Computing.{Computes};
+ghost use Rattle.gsl_lower_law.specs.Computing.{Computes, Does};
 ghost use Rattle.gsl_lower_law.specs.Straying.{Strays};
 ghost use Rattle.gsl_lower_law_members.specs.Parts.{laid_as};
 ghost use Rattle.gsl_lower_law_members.specs.Sizes.{size_of};
@@ -50,6 +51,12 @@ pub fn members_are_read()
 /// Where an index was out of bounds, what is read there strays.
 pub fn members_stray()
     ensures { (m : Module) (input : Input) (sections : Sections) (f : Frame m input sections) (p : Program) (around : Around) (start : Start) (writes : Bool) (b : Flow) (s : shader.State) (state : State) (r : Reached) (l : Trail) (t : Ty) (shape : Shape) → IsBlockTrail m input sections f p around false start b state r l → AreStructs p.structs → Good m input sections f p around b s state → IsOutside p.structs writes t l → Strays m input sections state b.sections (read shape r) }
+{}
+
+/// One pointer leads to a scalar or vector of a block, or to the components that are picked of it; where an index was out of bounds, it strays.
+pub fn members_are_pointed_to()
+    ensures inside { (m : Module) (input : Input) (sections : Sections) (f : Frame m input sections) (p : Program) (around : Around) (start : Start) (writes : Bool) (b : Flow) (s : shader.State) (state : State) (r : Reached) (l : Trail) (t : Ty) (shape : Shape) (a : Access) → IsBlockTrail m input sections f p around false start b state r l → AreStructs p.structs → Good m input sections f p around b s state → IsInside p.structs writes t a l → IsSound (length p.structs) t → shape_of t ≡ Some shape → Does m input sections (λ (to : Reached) (ids : Ids). Unit {0}) state.choices state b.sections (pointed shape r) }
+    ensures outside { (m : Module) (input : Input) (sections : Sections) (f : Frame m input sections) (p : Program) (around : Around) (start : Start) (writes : Bool) (b : Flow) (s : shader.State) (state : State) (r : Reached) (l : Trail) (t : Ty) (shape : Shape) → IsBlockTrail m input sections f p around false start b state r l → AreStructs p.structs → Good m input sections f p around b s state → IsOutside p.structs writes t l → Strays m input sections state b.sections (pointed shape r) }
 {}
 
 /// `.length()` of a runtime array that is a member of a block gives the count of the elements that lie in its bytes.

@@ -45,7 +45,7 @@ use Rattle.gsl_lower_reaching.proofs.Moving.{trail_after}
 use Rattle.gsl_lower_elements.proofs.Rebased.{does_both}
 use Rattle.gsl_lower_reads.specs.Waiting.{IsKept}
 use Rattle.gsl_lower_reads.proofs.Holds.{adds_fetched, is_fetched}
-use Rattle.gsl_lower_indexes.specs.Computed.{Comes, IsComputed}
+use Rattle.gsl_lower_indexes.specs.Computed.{Comes, MayCall}
 use Rattle.gsl_lower_indexes.proofs.Always.{always_step}
 
 -- the value of an index is a word
@@ -65,7 +65,7 @@ comes_strays Strays comes = refl
 comes_strays Goes comes = absurd comes
 
 module _ (m : Module) (input : Input) (sections : Sections) (f : Frame m input sections) (p : Program) (around : Around) (are : AreStructs p.structs) where
-  module _ (lies : Start) (writes : Bool) (base t : Ty) (sound : IsSound (length p.structs) base) (sound_t : IsSound (length p.structs) t) (has : element_of base ≡ Some t) (fast : shape_of base ≡ None → lies ≡ OfValue → ⊥) (i : Lower) (y : Run Value) (real : i.ty ≢ Void) (known : IsComputed i y)
+  module _ (lies : Start) (writes : Bool) (base t : Ty) (sound : IsSound (length p.structs) base) (sound_t : IsSound (length p.structs) t) (has : element_of base ≡ Some t) (fast : shape_of base ≡ None → lies ≡ OfValue → ⊥) (i : Lower) (y : Run Value) (real : i.ty ≢ Void) (known : MayCall i y)
       (gives : GivesValue m input sections f p around i.traits.splits i.ty i.value y) where
     abbrev Reaches : Bool → Flow → State → Reached → Flow → Access → shader.State → State → Type 0
     Reaches splits b state = HasReached m input sections f p around splits lies writes t b state
@@ -162,12 +162,12 @@ module _ (m : Module) (input : Input) (sections : Sections) (f : Frame m input s
           let got = given_value m input sections f p around mid.ids id i.ty v real g.given in
           behind_after i.traits.splits false i.traits.splits b between state mid u left (indexing a (word_in v) u left) (behind_index kept id between) (no_more i.traits.splits) grown g.after
           (index_in between u left mid kept l id v g.after.good (trail_after m input sections f p around i.traits.splits lies b between state mid u kept l grown g.after is)
-          (subst (Stands mid.ids id) (index_word p i.ty v known.integer got.0) got.1) a inside))
+          (subst (Stands mid.ids id) (index_word p i.ty v known.number got.0) got.1) a inside))
           (λ id between u left mid within grown none less. absurd none)
 
-      pub kept_out : IsOutside p.structs writes base l → Does m input sections f p 0 units state (Reaches i.traits.splits b state) (Strayed i.traits.splits b state) Strays (behind_kept kept b)
-      kept_out outside =
-          subst (λ ran. Does m input sections f p 0 units state (Reaches i.traits.splits b state) (Strayed i.traits.splits b state) ran (behind_kept kept b)) (comes_strays (y s units) (known.comes s units))
+      pub kept_out : i.traits.calls ≡ false → IsOutside p.structs writes base l → Does m input sections f p 0 units state (Reaches i.traits.splits b state) (Strayed i.traits.splits b state) Strays (behind_kept kept b)
+      kept_out alone outside =
+          subst (λ ran. Does m input sections f p 0 units state (Reaches i.traits.splits b state) (Strayed i.traits.splits b state) ran (behind_kept kept b)) (comes_strays (y s units) (known.comes alone s units))
           (does_then m input sections f p 0 units b state (HasGiven m input sections f p around i.traits.splits i.ty b state) none_waits (Reaches i.traits.splits b state) (Strayed i.traits.splits b state) (y s units) (λ v u left. Strays) (i.value b) (behind_index kept) good.inside
           (gives.adds b) (adds_index kept)
           (gives.does b s units state good)
@@ -175,5 +175,5 @@ module _ (m : Module) (input : Input) (sections : Sections) (f : Frame m input s
           let got = given_value m input sections f p around mid.ids id i.ty v real g.given in
           behind_after i.traits.splits false i.traits.splits b between state mid u left Strays (behind_index kept id between) (no_more i.traits.splits) grown g.after
           (index_out between u left mid kept l id v g.after.good (trail_after m input sections f p around i.traits.splits lies b between state mid u kept l grown g.after is)
-          (subst (Stands mid.ids id) (index_word p i.ty v known.integer got.0) got.1) outside))
+          (subst (Stands mid.ids id) (index_word p i.ty v known.number got.0) got.1) outside))
           (λ id between u left mid within grown none less. absurd none))

@@ -3,4 +3,4 @@
 
 mod laws;
 
-pub use laws::indexes_lead;
+pub use laws::{indexes_lead, indexes_that_call_lead};

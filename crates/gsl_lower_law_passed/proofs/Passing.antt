@@ -42,13 +42,14 @@ use Rattle.gsl_lower_law_functions.proofs.Passing.{Passed, still_held}
 use Rattle.gsl_lower_reaching.specs.Reaching.{HasReached, HasStrayed, IsTrail}
 use Rattle.gsl_lower_reaching.specs.Trails.{IsInside, IsOutside, Trail}
 use Rattle.gsl_lower_reaching.proofs.Moving.{trail_after}
+use Rattle.gsl_lower_reads.specs.Testing.{IsTested}
 use Rattle.gsl_lower_reads.specs.Waiting.{IsKept}
 use Rattle.gsl_lower_reads.proofs.Holds.{adds_held, is_held}
 use Rattle.gsl_lower_reads.proofs.Adding.{adds_reads}
+use Rattle.gsl_lower_reads.proofs.Probing.{adds_probe, probe_in, probe_out}
 use Rattle.gsl_lower_reads.proofs.Straying.{own_strays_all}
 use Rattle.gsl_lower_reads.proofs.Taking.{own_read}
 use Rattle.gsl_lower_writes.proofs.Stored.{own_named}
-use Rattle.gsl_lower_writes.proofs.Probing.{IsTested, adds_probe, probe_in, probe_out}
 use Rattle.gsl_lower_law_passed.specs.Arguments.{AllServe, ComesBack, GoesIn, HasZeros, Serves}
 use Rattle.gsl_lower_law_passed.proofs.Fresh.{AreIds, FreshBy, PartIf, PartIs, PickedIf, does_with, held_fresh}
 use Rattle.gsl_lower_law_passed.proofs.Items.{AreItems, IsItem, Item, back_after, meant_of, way_of, ways_of}
@@ -220,9 +221,9 @@ module _ (m : Module) (input : Input) (whole : Sections) (f : Frame m input whol
             → Does m input whole f p 0 units state (IsPassed false first waits t e x b state) none_waits (begins a s units) (passed_out p.structs waits t e.ty r b)
         unfolding passed_out
         out_in a l inside r b s units state good enough is =
-            does_then m input whole f p 0 units b state (IsTested m input whole f p around are c.start e.ty c.sound_place b s state) none_waits (IsPassed false first waits t e x b state) none_waits (Got tt s units) (λ (one : Unit {0}). begins a) (lift (probe p.structs true e.ty r) b) (λ done. zeros t >>= coming_back waits r) good.inside
+            does_then m input whole f p 0 units b state (IsTested m input whole f p around b s state) none_waits (IsPassed false first waits t e x b state) none_waits (Got tt s units) (λ (one : Unit {0}). begins a) (lift (probe p.structs true e.ty r) b) (λ done. zeros t >>= coming_back waits r) good.inside
             (adds_probe m input whole p.structs true e.ty r b) (λ done. adds_out_zeros r)
-            (probe_in m input whole f p around are c.start e.ty c.sound_place b s units state r l good is true a inside)
+            (probe_in m input whole f p around are c.start true e.ty c.sound_place b s units state r l good is true a inside)
             (λ done b1 one u left mid within grown tested less.
             does_then m input whole f p 0 left b1 mid (HasGiven m input whole f p around false t b1 mid) none_waits (IsPassed false first waits t e x b state) none_waits (Got (zero_value p.structs t) u left) (λ v. shader_run.given {A = ShaderPassed} (record { value = v; back = Some a })) (zeros t b1) (coming_back waits r) within
             (z.gives.adds b1) (adds_coming waits r)
@@ -243,7 +244,7 @@ module _ (m : Module) (input : Input) (whole : Sections) (f : Frame m input whol
         out_out l outside r b s units state good is =
             does_then m input whole f p 0 units b state (λ done later (one : Unit {0}) u last. ⊥) none_waits (λ pass later (q : ShaderPassed) u last. ⊥) none_waits Strays (λ (one : Unit {0}) u left. Strays) (lift (probe p.structs true e.ty r) b) (λ done. zeros t >>= coming_back waits r) good.inside
             (adds_probe m input whole p.structs true e.ty r b) (λ done. adds_out_zeros r)
-            (probe_out m input whole f p around are c.start e.ty c.sound_place b s units state r l good is (λ done later (one : Unit {0}) u last. ⊥) c.some outside)
+            (probe_out m input whole f p around are c.start true e.ty c.sound_place b s units state r l good is (λ done later (one : Unit {0}) u last. ⊥) c.some outside)
             (λ done b1 one u left mid within grown none less. absurd none)
             (λ done b1 u left mid within grown none less. absurd none)
 

@@ -1,4 +1,4 @@
--- What reads only adds, wherever that leads.
+-- What reads, and a pointer to it, only add, wherever that leads.
 use Rattle.std.proofs.Common.{ℕ, Bool, true, false, ◌==◌, List, [], ◌∷◌, ◌++◌, length, replicate, Option, Some, None, if◌then◌else◌}
 use Rattle.gsl_base.specs.declared.input.Input.{Input}
 use Rattle.gsl_instr.specs.declared.op.TheConstants as op
@@ -14,6 +14,7 @@ use Rattle.gsl_lower_values.specs.Constructors.{component, components, operand, 
 use Rattle.gsl_lower_values.specs.Operators.{converted}
 use Rattle.gsl_lower_values.specs.Types.{type_of}
 use Rattle.gsl_lower_values.specs.declared.operand.Operand.{Operand}
+use Rattle.gsl_lower_places.specs.Pointed.{pointed, pointed_at, pointed_by, pointed_from, pointed_if, pointed_picked, pointed_to}
 use Rattle.gsl_lower_places.specs.Reached.{is_block_class, stored_shape}
 use Rattle.gsl_lower_places.specs.Reading.{component_by, extracted, extracted_shape, index, loaded, loaded_by, loaded_picked, loaded_scalar, loaded_vector, picked_by, pointer, read, read_from, read_value, read_variable}
 use Rattle.gsl_lower_places.specs.Writing.{in_class, put_at}
@@ -184,3 +185,44 @@ module _ (m : Module) (input : Input) (whole : Sections) where
       by : (o : Option Shape) → Adds (read_by structs t r o)
       by (Some shape) = adds_lift (read shape r) (λ b. always_read shape r b.sections)
       by None = by_base r.base
+
+  -- ---- pointers
+
+  always_to : (id class : ℕ) (shape : Shape) (parts : List Part) (picked : Option Picked) → Always (pointed_to id class shape parts picked)
+  always_to id class shape parts picked =
+      always_then m input whole (type_of (stored_shape class shape)) (λ type. pointer id class type parts >>= made) (always_type m input whole (stored_shape class shape))
+      (λ type. always_then m input whole (pointer id class type parts) made (always_pointer id class type parts) (λ to. always_given m input whole (of_pointer to)))
+    where
+      of_pointer : ℕ → Reached
+      of_pointer to = record { base = Variable to class; path = []; picked = picked }
+
+      made : ℕ → Step Reached
+      made to = given (of_pointer to)
+
+  always_at : (id class : ℕ) (parts : List Part) (p : Picked) (positions : List ℕ) → Always (pointed_at id class parts p positions)
+  always_at id class parts p [] = always_to id class p.shape parts (Some p)
+  always_at id class parts p (position ∷ []) = always_to id class (p.shape.0, 1) (parts ++ Fixed position ∷ []) None
+  always_at id class parts p (position ∷ next ∷ positions) = always_to id class p.shape parts (Some p)
+
+  always_pointed_by : (id class : ℕ) (parts : List Part) (p : Picked) (part : Option Part) → Always (pointed_by id class parts p part)
+  always_pointed_by id class parts p None = always_at id class parts p p.positions
+  always_pointed_by id class parts p (Some part) = always_to id class (p.shape.0, 1) (parts ++ part ∷ []) None
+
+  always_pointed_picked : (id class : ℕ) (parts : List Part) (p : Picked) → Always (pointed_picked id class parts p)
+  always_pointed_picked id class parts p = by (p.shape.1 == 1)
+    where
+      by : (one : Bool) → Always (if one then pointed_to id class p.shape parts None else pointed_by id class parts p p.by)
+      by true = always_to id class p.shape parts None
+      by false = always_pointed_by id class parts p p.by
+
+  pub always_pointed : (shape : Shape) (r : Reached) → Always (pointed shape r)
+  unfolding pointed
+  always_pointed shape r = by r.base
+    where
+      by_picked : (id class : ℕ) (o : Option Picked) → Always (pointed_if id class r.path shape o)
+      by_picked id class None = always_to id class shape r.path None
+      by_picked id class (Some p) = always_pointed_picked id class r.path p
+
+      by : (base : Base) → Always (pointed_from r shape base)
+      by (Variable id class) = by_picked id class r.picked
+      by (Loose id type) = always_given m input whole r

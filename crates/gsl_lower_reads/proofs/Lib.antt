@@ -6,3 +6,6 @@ pub mod Straying
 pub mod Accessed
 pub mod Moves
 pub mod Holds
+pub mod First
+pub mod Pointed
+pub mod Probing

@@ -69,13 +69,13 @@ positions_by count (Some part) (Some word) positions at chooses within = within
 
 module _ (m : Module) (input : Input) (sections : Sections) (f : Frame m input sections) (p : Program) (around : Around) (are : AreStructs p.structs) (loose : Start) (writes : Bool) (t : Ty) where
   module _ (b : Flow) (s : shader.State) (state : State) (r : Reached) (l : Trail) (good : Good m input sections f p around b s state) (is : IsOwnTrail m input sections f p around false loose b state r l) (outside : IsOutside p.structs writes t l) where
-    can : (q : Picked) (c : Chosen) → PicksBy (λ id v. HeldAs m input sections f false id v b state) (Some q) (Some c) → 1 ≤ length c.positions → ArePositions c.shape.1 c.word c.positions → CanPick q
+    pub can : (q : Picked) (c : Chosen) → PicksBy (λ id v. HeldAs m input sections f false id v b state) (Some q) (Some c) → 1 ≤ length c.positions → ArePositions c.shape.1 c.word c.positions → CanPick q
     can q c picks some within = record {
       some = subst (λ ps. 1 ≤ length ps) (sym picks.1) some;
       within = positions_by q.shape.1 q.by c.word q.positions (λ id v. HeldAs m input sections f false id v b state) picks.2 (subst (λ (shape : Shape). ArePositions shape.1 c.word q.positions) (sym picks.0) (subst (ArePositions c.shape.1 c.word) (sym picks.1) within));
     }
 
-    picks_out : (q : Picked) (c : Chosen) (y : IsMissing p.structs l.ty t l.words c) (z : LacksComponent p.structs l.ty l.words c) → PicksBy (λ id v. HeldAs m input sections f false id v b state) (Some q) (Some c) → PicksOutside state.ids q z.word
+    pub picks_out : (q : Picked) (c : Chosen) (y : IsMissing p.structs l.ty t l.words c) (z : LacksComponent p.structs l.ty l.words c) → PicksBy (λ id v. HeldAs m input sections f false id v b state) (Some q) (Some c) → PicksOutside state.ids q z.word
     picks_out q c y z picks = record {
       by_word = subst (Chooses state.ids q.by) z.is (chooses_stand state.ids q.by c.word picks.2);
       several = subst (λ (shape : Shape). 2 ≤ shape.1) (sym picks.0) z.several;
@@ -86,16 +86,16 @@ module _ (m : Module) (input : Input) (sections : Sections) (f : Frame m input s
     -- ---- in a variable
 
     module _ (x : InPlace m input sections f p around s state r.base l) where
-      path_strays : LeadsOut p.structs l.ty l.words → StraysFrom m input state (InVariable x.number []) l.words
+      pub path_strays : LeadsOut p.structs l.ty l.words → StraysFrom m input state (InVariable x.number []) l.words
       path_strays out = words_stray m input state x.number x.old x.there [] l.words (lacks_part p.structs are l.ty l.words x.old out x.typed)
 
-      component_out : (c : Chosen) (z : LacksComponent p.structs l.ty l.words c) → StraysFrom m input state (InVariable x.number l.words) (z.word ∷ [])
+      pub component_out : (c : Chosen) (z : LacksComponent p.structs l.ty l.words c) → StraysFrom m input state (InVariable x.number l.words) (z.word ∷ [])
       component_out c z =
           let of = (value_shape p.structs z.whole c.shape (value_at x.old l.words) are z.sound z.of (value_typed p.structs are l.ty l.words z.whole x.old z.leads x.typed)).1 in
           let count = vector_count c.shape (value_at x.old l.words) of z.several in
           words_stray m input state x.number x.old x.there l.words (z.word ∷ []) (inl (let most = z.outside in omega (arith, count, most)))
 
-      component_in : (c : Chosen) (z : LacksComponent p.structs l.ty l.words c) → LeadsTo m input state (InVariable x.number []) l.words (InVariable x.number l.words)
+      pub component_in : (c : Chosen) (z : LacksComponent p.structs l.ty l.words c) → LeadsTo m input state (InVariable x.number []) l.words (InVariable x.number l.words)
       component_in c z = words_lead m input state x.number x.old x.there [] l.words (has_part p.structs are l.ty l.words z.whole x.old z.leads x.typed)
 
       place_strays : (shape : Shape) (o : Option Picked) (c : Option Chosen) → PicksBy (λ id v. HeldAs m input sections f false id v b state) o c → IsOut p.structs l.ty t l.words c → StepStrays m input sections state b.sections (read_from (Variable x.id x.class) r.path shape o)
@@ -114,7 +114,7 @@ module _ (m : Module) (input : Input) (sections : Sections) (f : Frame m input s
     -- ---- of a value
 
     module _ (x : InValue m input sections f p around s state r.base r.path l) where
-      no_path : LeadsOut p.structs l.ty l.words → ⊥
+      pub no_path : LeadsOut p.structs l.ty l.words → ⊥
       no_path out = not_both x.v l.words x.has (lacks_part p.structs are l.ty l.words x.v out x.typed)
 
       value_strays : (shape : Shape) (o : Option Picked) (c : Option Chosen) → PicksBy (λ id v. HeldAs m input sections f false id v b state) o c → IsOut p.structs l.ty t l.words c → StepStrays m input sections state b.sections (read_from (Loose x.id x.type_id) r.path shape o)
@@ -132,7 +132,7 @@ module _ (m : Module) (input : Input) (sections : Sections) (f : Frame m input s
               (subst (λ s. IsOf s (value_at x.v (map number_in r.path))) (sym picks.0) (subst (λ words. IsOf c.shape (value_at x.v words)) (sym (fixed_words (λ id v. HeldAs m input sections f false id v b state) r.path l.words x.fixed is.numbers)) of))
               (picks_out q c y z picks)
 
-    shape_strays : (shape : Shape) → StepStrays m input sections state b.sections (read shape r)
+    pub shape_strays : (shape : Shape) → StepStrays m input sections state b.sections (read shape r)
     unfolding read
     shape_strays shape = by (grounds m input sections f p around b s state loose r.base r.path l good is.begins)
       where

@@ -62,14 +62,14 @@ use Rattle.gsl_lower_reads.proofs.Grounds.{InPlace, InValue, fixed_words, ground
 
 module _ (m : Module) (input : Input) (sections : Sections) (f : Frame m input sections) (p : Program) (around : Around) (are : AreStructs p.structs) (loose : Start) (writes : Bool) (t : Ty) (sound_t : IsSound (length p.structs) t) where
   module _ (b : Flow) (s : shader.State) (state : State) (r : Reached) (a : Access) (l : Trail) (good : Good m input sections f p around b s state) (is : IsOwnTrail m input sections f p around false loose b state r l) (inside : IsInside p.structs writes t a l) where
-    v : Value
+    pub v : Value
     v = stands_there m input sections f p around are (λ id v. HeldAs m input sections f false id v b state) b.place.used b s state state loose writes r.base r.path t a l good is.begins inside
 
-    v_typed : is_value_of p.structs inside.whole v ≡ true
+    pub v_typed : is_value_of p.structs inside.whole v ≡ true
     unfolding v
     v_typed = there_typed m input sections f p around are (λ id v. HeldAs m input sections f false id v b state) b.place.used b s state state loose writes r.base r.path t a l good is.begins inside
 
-    result : Value
+    pub result : Value
     result = means_read p.structs t a s
 
     result_whole : inside.whole ≡ t → a.path ≡ l.front ++ l.words → a.picked ≡ None → result ≡ v
@@ -88,14 +88,14 @@ module _ (m : Module) (input : Input) (sections : Sections) (f : Frame m input s
     unfolding result
     result_typed = read_typed m input sections f p around are (λ id v. HeldAs m input sections f false id v b state) b.place.used b s state state loose writes r.base r.path t a l good is.begins inside sound_t
 
-    chosen_of : (c : Chosen) → IsPicked inside.whole t (l.front ++ l.words) (Some c) a.path a.picked → IsOf c.shape v
+    pub chosen_of : (c : Chosen) → IsPicked inside.whole t (l.front ++ l.words) (Some c) a.path a.picked → IsOf c.shape v
     unfolding v
     chosen_of c x = (there_is m input sections f p around are (λ id v. HeldAs m input sections f false id v b state) b.place.used b s state state loose writes r.base r.path t a l good is.begins inside c x).1
 
-    whole_of : (shape : Shape) → shape_of t ≡ Some shape → inside.whole ≡ t → IsOf shape v
+    pub whole_of : (shape : Shape) → shape_of t ≡ Some shape → inside.whole ≡ t → IsOf shape v
     whole_of shape of same = (value_shape p.structs t shape v are sound_t of (subst (λ u. is_value_of p.structs u v ≡ true) same v_typed)).1
 
-    picks_stand : (q : Picked) (c : Chosen) → PicksBy (λ id v. HeldAs m input sections f false id v b state) (Some q) (Some c) → 1 ≤ length c.positions → AreWithin c.shape.1 c.word c.positions → Picks state.ids q c.word
+    pub picks_stand : (q : Picked) (c : Chosen) → PicksBy (λ id v. HeldAs m input sections f false id v b state) (Some q) (Some c) → 1 ≤ length c.positions → AreWithin c.shape.1 c.word c.positions → Picks state.ids q c.word
     picks_stand q c picks some within = record {
       by_word = chooses_stand state.ids q.by c.word picks.2;
       some = subst (λ ps. 1 ≤ length ps) (sym picks.1) some;
@@ -105,17 +105,17 @@ module _ (m : Module) (input : Input) (sections : Sections) (f : Frame m input s
     -- ---- in a variable
 
     module _ (x : InPlace m input sections f p around s state r.base l) where
-      leads : LeadsTo m input state (InVariable x.number []) l.words (InVariable x.number l.words)
+      pub leads : LeadsTo m input state (InVariable x.number []) l.words (InVariable x.number l.words)
       leads = words_lead m input state x.number x.old x.there [] l.words (has_part p.structs are l.ty l.words inside.whole x.old inside.leads x.typed)
 
-      at_words : value_at x.old l.words ≡ v
+      pub at_words : value_at x.old l.words ≡ v
       unfolding v
       at_words = ap (λ w. value_at w l.words) x.same ∙ sym (value_on (root_value l.root s) l.front l.words) ∙ ap (λ root. value_at (root_value root s) (l.front ++ l.words)) (sym inside.begins)
 
-      holds : (shape : Shape) → IsOf shape v → HoldsComponents m input state (InVariable x.number l.words) v
+      pub holds : (shape : Shape) → IsOf shape v → HoldsComponents m input state (InVariable x.number l.words) v
       holds shape of = variable_components m input state x.number l.words x.old v shape x.there at_words of
 
-      lies : (shape : Shape) → IsOf shape v → IsOf (stored_shape x.class shape) v
+      pub lies : (shape : Shape) → IsOf shape v → IsOf (stored_shape x.class shape) v
       lies shape of = subst (λ lying. IsOf lying v) (sym (outside_blocks x.class shape x.outside)) of
 
       place_read : (shape : Shape) → shape_of t ≡ Some shape → (o : Option Picked) (c : Option Chosen) → PicksBy (λ id v. HeldAs m input sections f false id v b state) o c → IsPicked inside.whole t (l.front ++ l.words) c a.path a.picked
@@ -158,7 +158,7 @@ module _ (m : Module) (input : Input) (sections : Sections) (f : Frame m input s
 
     -- ---- a scalar or vector
 
-    shape_read : (shape : Shape) → shape_of t ≡ Some shape → Computes m input sections (result, state.choices) state b.sections (read shape r)
+    pub shape_read : (shape : Shape) → shape_of t ≡ Some shape → Computes m input sections (result, state.choices) state b.sections (read shape r)
     unfolding read
     shape_read shape shaped = by (grounds m input sections f p around b s state loose r.base r.path l good is.begins)
       where

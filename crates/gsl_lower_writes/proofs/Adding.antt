@@ -7,17 +7,16 @@ use Rattle.gsl_types.specs.declared.ty.Ty.{Ty}
 use Rattle.gsl_words.specs.declared.module.Module.{Module}
 use Rattle.gsl_tree.specs.Shapes.{Shape, shape_of}
 use Rattle.gsl_spv.specs.Sections.{Sections}
-use Rattle.gsl_lower_values.specs.Building.{Step, given, putting, ◌>>=◌}
+use Rattle.gsl_lower_values.specs.Building.{given, putting, ◌>>=◌}
 use Rattle.gsl_lower_values.specs.Constructors.{operand}
 use Rattle.gsl_lower_values.specs.Types.{type_of}
-use Rattle.gsl_lower_places.specs.Pointed.{picks_several, pointed, pointed_at, pointed_by, pointed_from, pointed_if, pointed_picked, pointed_to, to_renew}
-use Rattle.gsl_lower_places.specs.Reached.{is_block_class, stored_shape}
+use Rattle.gsl_lower_places.specs.Pointed.{picks_several, pointed, to_renew}
+use Rattle.gsl_lower_places.specs.Reached.{is_block_class}
 use Rattle.gsl_lower_places.specs.Reading.{extracted, pointer}
 use Rattle.gsl_lower_places.specs.Writing.{put_at, put_by, put_in, put_picked, put_variable, stored}
 use Rattle.gsl_lower_places.specs.declared.reached.Base.{Base}
 use Rattle.gsl_lower_places.specs.declared.reached.Base.TheVariants.{Variable, Value as Loose}
 use Rattle.gsl_lower_places.specs.declared.reached.Part.{Part}
-use Rattle.gsl_lower_places.specs.declared.reached.Part.TheVariants.{Fixed}
 use Rattle.gsl_lower_places.specs.declared.reached.Picked.{Picked}
 use Rattle.gsl_lower_places.specs.declared.reached.Reached.{Reached}
 use Rattle.gsl_lower_law.proofs.Adding.{extends_put}
@@ -32,7 +31,7 @@ use Rattle.gsl_lower_follows.specs.Giving.{Adds}
 use Rattle.gsl_lower_follows.proofs.Fetching.{adds_put, adds_type_id, no_state}
 use Rattle.gsl_lower_follows.proofs.Growing.{adds_given, adds_lift, adds_then}
 use Rattle.gsl_lower_law_expr.proofs.Steps.{Always, always_given, always_then, always_type}
-use Rattle.gsl_lower_reads.proofs.Adding.{always_each, always_extracted, always_pointer, always_put}
+use Rattle.gsl_lower_reads.proofs.Adding.{always_each, always_extracted, always_pointed, always_pointer, always_put}
 
 module _ (m : Module) (input : Input) (whole : Sections) where
   always_putting : (code : ℕ) (operands : List ℕ) → Always (putting code operands)
@@ -95,51 +94,10 @@ module _ (m : Module) (input : Input) (whole : Sections) where
       by (Some shape) = adds_lift (stored shape r v) (λ b. always_stored shape r v b.sections)
       by None = by_base r.base
 
-  -- ---- pointers
-
-  always_to : (id class : ℕ) (shape : Shape) (parts : List Part) (picked : Option Picked) → Always (pointed_to id class shape parts picked)
-  always_to id class shape parts picked =
-      always_then m input whole (type_of (stored_shape class shape)) (λ type. pointer id class type parts >>= made) (always_type m input whole (stored_shape class shape))
-      (λ type. always_then m input whole (pointer id class type parts) made (always_pointer m input whole id class type parts) (λ to. always_given m input whole (of_pointer to)))
-    where
-      of_pointer : ℕ → Reached
-      of_pointer to = record { base = Variable to class; path = []; picked = picked }
-
-      made : ℕ → Step Reached
-      made to = given (of_pointer to)
-
-  always_at : (id class : ℕ) (parts : List Part) (p : Picked) (positions : List ℕ) → Always (pointed_at id class parts p positions)
-  always_at id class parts p [] = always_to id class p.shape parts (Some p)
-  always_at id class parts p (position ∷ []) = always_to id class (p.shape.0, 1) (parts ++ Fixed position ∷ []) None
-  always_at id class parts p (position ∷ next ∷ positions) = always_to id class p.shape parts (Some p)
-
-  always_pointed_by : (id class : ℕ) (parts : List Part) (p : Picked) (part : Option Part) → Always (pointed_by id class parts p part)
-  always_pointed_by id class parts p None = always_at id class parts p p.positions
-  always_pointed_by id class parts p (Some part) = always_to id class (p.shape.0, 1) (parts ++ part ∷ []) None
-
-  always_pointed_picked : (id class : ℕ) (parts : List Part) (p : Picked) → Always (pointed_picked id class parts p)
-  always_pointed_picked id class parts p = by (p.shape.1 == 1)
-    where
-      by : (one : Bool) → Always (if one then pointed_to id class p.shape parts None else pointed_by id class parts p p.by)
-      by true = always_to id class p.shape parts None
-      by false = always_pointed_by id class parts p p.by
-
-  pub always_pointed : (shape : Shape) (r : Reached) → Always (pointed shape r)
-  unfolding pointed
-  always_pointed shape r = by r.base
-    where
-      by_picked : (id class : ℕ) (o : Option Picked) → Always (pointed_if id class r.path shape o)
-      by_picked id class None = always_to id class shape r.path None
-      by_picked id class (Some p) = always_pointed_picked id class r.path p
-
-      by : (base : Base) → Always (pointed_from r shape base)
-      by (Variable id class) = by_picked id class r.picked
-      by (Loose id type) = always_given m input whole r
-
   pub always_renewed : (shape : Shape) (r : Reached) → Always (to_renew shape r)
   unfolding to_renew
   always_renewed shape r = by (picks_several r.picked)
     where
       by : (several : Bool) → Always (if several then given r else pointed shape r)
       by true = always_given m input whole r
-      by false = always_pointed shape r
+      by false = always_pointed m input whole shape r

@@ -6,5 +6,3 @@ pub mod Stored
 pub mod Outside
 pub mod Adding
 pub mod Pointed
-pub mod First
-pub mod Probing

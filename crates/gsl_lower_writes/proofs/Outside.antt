@@ -58,8 +58,7 @@ use Rattle.gsl_lower_reaching.proofs.Counted.{has_part, lacks_part}
 use Rattle.gsl_lower_reaching.proofs.Moving.{chooses_stand, numbers_stand}
 use Rattle.gsl_lower_reaching.proofs.Parts.{out_whole}
 use Rattle.gsl_lower_reaching.proofs.Seen.{HasValue, has_value}
-use Rattle.gsl_lower_reads.proofs.Adding.{always_pointer}
-use Rattle.gsl_lower_writes.proofs.Adding.{always_pointed}
+use Rattle.gsl_lower_reads.proofs.Adding.{always_pointed, always_pointer}
 use Rattle.gsl_lower_writes.proofs.Once.{few, single}
 use Rattle.gsl_lower_writes.proofs.Stored.{at_variable, own_named}
 

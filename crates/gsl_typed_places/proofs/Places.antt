@@ -4,7 +4,7 @@ use Rattle.std.specs.Prelude.{IsTrue, nat_eq}
 use Rattle.std.specs.List.{AllByRecursion}
 use Rattle.std.proofs.lemmas.Bool.{and_parts, false≢true}
 use Rattle.std.proofs.lemmas.Option.{none-some}
-use Rattle.gsl_types.specs.Known.{IsSound}
+use Rattle.gsl_types.specs.Known.{IsSound, is_plain, is_plain_kind}
 use Rattle.gsl_types.specs.declared.ty.Direction.{Direction}
 use Rattle.gsl_types.specs.declared.ty.Member.{Member}
 use Rattle.gsl_types.specs.declared.ty.Scalar.{Scalar}
@@ -22,7 +22,7 @@ use Rattle.gsl_tree.specs.Paths.{is_writable, kind_in, writable_by}
 use Rattle.gsl_tree.specs.Shapes.{Shape, of_shape, shape_kind}
 use Rattle.gsl_tree.specs.Trees.{Throughout, ThroughoutAll, form_of, parts_of, type_of}
 use Rattle.gsl_tree.specs.Values.{is_value_of, zero_value}
-use Rattle.gsl_tree.specs.WellTyped.{AreBlockMembers, AreWellTyped, IsBlock, IsInterface, IsStructDeclared, IsVariableType, Lists, around_body, is_member_kind, is_member_type, is_plain, is_plain_kind}
+use Rattle.gsl_tree.specs.WellTyped.{AreBlockMembers, AreWellTyped, IsBlock, IsInterface, IsStructDeclared, IsVariableType, Lists, around_body, is_member_kind, is_member_type}
 use Rattle.gsl_tree.specs.declared.expr.Expr.{Expr}
 use Rattle.gsl_tree.specs.declared.expr.ExprKind.{ExprKind}
 use Rattle.gsl_tree.specs.declared.expr.ExprKind.TheOpen.{ExprKind-F}
@@ -35,7 +35,7 @@ use Rattle.gsl_typed_law.proofs.Zeros.{declared_plain, zero_typed}
 
 -- ---- rows
 
-at_place : {A : Type 0} (P : A → Type 0) (xs : List A) (k : ℕ) (x : A) → AllByRecursion P xs → slice_get xs k ≡ Some x → P x
+pub at_place : {A : Type 0} (P : A → Type 0) (xs : List A) (k : ℕ) (x : A) → AllByRecursion P xs → slice_get xs k ≡ Some x → P x
 at_place P [] k x all is = elim (none-some x is) [ ]
 at_place P (y ∷ ys) zero x all is = subst P (ap (λ o. unwrap_or o x) is) all.0
 at_place P (y ∷ ys) (suc k) x all is = at_place P ys k x all.1 is
@@ -43,7 +43,7 @@ at_place P (y ∷ ys) (suc k) x all is = at_place P ys k x all.1 is
 -- ---- types
 
 -- The type of a variable or of a part of one has no `void` in it, and is a runtime array or has none in it.
-abbrev Held : Ty → Type 0
+abbrev pub Held : Ty → Type 0
 Held t = IsTrue (is_member_type true t)
 
 plain_layer : (layer : Ty-F Ty) → IsTrue (is_plain (roll-Ty layer)) → IsTrue (is_member_kind true layer)
@@ -54,7 +54,7 @@ plain_layer (Ty-F.Array e n) is = sym (fold-roll-Ty Bool is_plain_kind (Ty-F.Arr
 plain_layer (Ty-F.Runtime e) is = absurd (false≢true (sym (fold-roll-Ty Bool is_plain_kind (Ty-F.Runtime e)) ∙ is))
 plain_layer (Ty-F.Struct n) is = refl
 
-plain_held : (t : Ty) → IsTrue (is_plain t) → Held t
+pub plain_held : (t : Ty) → IsTrue (is_plain t) → Held t
 plain_held t is = plain_layer (out-Ty t) (ap is_plain (roll-out-Ty t) ∙ is)
 
 held_layer : (layer : Ty-F Ty) → IsTrue (is_member_kind true layer) → IsTrue (is_value_layer layer) → IsTrue (is_plain (roll-Ty layer))
@@ -65,7 +65,7 @@ held_layer (Ty-F.Array e n) is value = fold-roll-Ty Bool is_plain_kind (Ty-F.Arr
 held_layer (Ty-F.Runtime e) is value = absurd (false≢true value)
 held_layer (Ty-F.Struct n) is value = fold-roll-Ty Bool is_plain_kind (Ty-F.Struct n)
 
-held_plain : (t : Ty) → Held t → IsTrue (is_value_type t) → IsTrue (is_plain t)
+pub held_plain : (t : Ty) → Held t → IsTrue (is_value_type t) → IsTrue (is_plain t)
 held_plain t is value = ap is_plain (sym (roll-out-Ty t)) ∙ held_layer (out-Ty t) is value
 
 member_layer : (last : Bool) (layer : Ty-F Ty) → IsTrue (is_member_kind last layer) → IsTrue (is_member_kind true layer)
@@ -76,7 +76,7 @@ member_layer last (Ty-F.Array e n) is = is
 member_layer last (Ty-F.Runtime e) is = (and_parts last (is_plain e) is).1
 member_layer last (Ty-F.Struct n) is = refl
 
-one_held : (s : Scalar) → Held (ty.One s)
+pub one_held : (s : Scalar) → Held (ty.One s)
 one_held s = ap (is_member_kind true) (outs-One s)
 
 shape_held : (shape : Shape) → Held (of_shape shape)
@@ -86,7 +86,7 @@ shape_held shape = by (nat_eq shape.1 1)
     by true = one_held shape.0
     by false = ap (is_member_kind true) (outs-Vector shape.0 shape.1)
 
-shaped_layer : (layer : Ty-F Ty) (shape : Shape) → shape_kind layer ≡ Some shape → IsTrue (is_member_kind true layer)
+pub shaped_layer : (layer : Ty-F Ty) (shape : Shape) → shape_kind layer ≡ Some shape → IsTrue (is_member_kind true layer)
 shaped_layer Ty-F.Void shape is = elim (none-some shape is) [ ]
 shaped_layer (Ty-F.One s) shape is = refl
 shaped_layer (Ty-F.Vector s n) shape is = refl
@@ -127,7 +127,7 @@ module _ (lists : Lists) (params : List (Direction × Ty)) (locals : List Ty) (t
   abbrev IsPlace : Expr → Type 0
   IsPlace e = is_writable around e ≡ true → Held (type_of e)
 
-  member_held : (o : Option Block) (block number : ℕ) (member : BlockMember) → slice_get lists.blocks block ≡ o → member_in o number ≡ Some member → Held member.ty
+  pub member_held : (o : Option Block) (block number : ℕ) (member : BlockMember) → slice_get lists.blocks block ≡ o → member_in o number ≡ Some member → Held member.ty
   member_held None block number member at is = elim (none-some member is) [ ]
   member_held (Some b) block number member at is =
       let one = at_place (IsBlock lists.structs) lists.blocks block b typed.blocks at in

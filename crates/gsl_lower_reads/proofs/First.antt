@@ -1,5 +1,5 @@
 -- Values of a type have its first leaf.
-use Rattle.std.proofs.Common.{◌≡◌, refl, sym, ap, ◌∙◌, subst, ℕ, zero, suc, ◌<◌, ◌≤◌, Bool, true, false, List, [], ◌∷◌, ◌++◌, length, map, get_or, arith}
+use Rattle.std.proofs.Common.{◌≡◌, refl, sym, ap, ◌∙◌, subst, ℕ, zero, suc, ◌<◌, ◌≤◌, Bool, true, false, List, [], ◌∷◌, ◌++◌, length, map, get_or, arith, nat_lt, ◌^◌, ◌&&◌}
 use Rattle.std.specs.Prelude.{IsTrue, nat_le, replicate}
 use Rattle.std.specs.List.{AllByRecursion}
 use Rattle.std.proofs.lemmas.Bool.{and_parts, false≢true, leb-true}
@@ -94,9 +94,9 @@ module _ (values : ℕ → Value → Bool) (leaves : ℕ → List Leaf) (known :
   by_layer (Ty-F.One s) is = so (Ty-F.One s) (λ v pass. record { fixed = tt; has = tt })
   by_layer (Ty-F.Vector s n) is = so (Ty-F.Vector s n) (λ v pass. record { fixed = tt; has = tt })
   by_layer (Ty-F.Array e n) is =
-      let both = and_parts (nat_le 1 n) (sound count e.0) (sound_of (Ty-F.Array e.0 n) is) in
+      let both = and_parts (nat_le 1 n && nat_lt n (2 ^ 32)) (sound count e.0) (sound_of (Ty-F.Array e.0 n) is) in
       so (Ty-F.Array e.0 n) (subst (Firsts (has_parts (replicate n (over value_meaning values e.0)))) (sym (elements_are (over leaves_meaning leaves e.0) 0 n))
-      (parts_first (replicate n (over value_meaning values e.0)) (replicate n (over leaves_meaning leaves e.0)) (each_first (over value_meaning values e.0) (over leaves_meaning leaves e.0) (e.1 both.1) n) (some_replicated (over value_meaning values e.0) n (leb-true 1 n both.0))))
+      (parts_first (replicate n (over value_meaning values e.0)) (replicate n (over leaves_meaning leaves e.0)) (each_first (over value_meaning values e.0) (over leaves_meaning leaves e.0) (e.1 both.1) n) (some_replicated (over value_meaning values e.0) n (leb-true 1 n (and_parts (nat_le 1 n) (nat_lt n (2 ^ 32)) both.0).0))))
   by_layer (Ty-F.Runtime e) is = so (Ty-F.Runtime e.0) (λ v pass. absurd (false≢true pass))
   by_layer (Ty-F.Struct number) is = so (Ty-F.Struct number) (known number)
 
