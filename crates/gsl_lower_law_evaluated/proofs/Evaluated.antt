@@ -33,7 +33,7 @@ use Rattle.gsl_lower_law_evaluated.specs.Evaluating.{Evaluates}
 
 module _ (m : Module) (input : Input) (whole : Sections) (f : Frame m input whole) (p : Program) (around : Around) where
   -- nothing is lowered for the length of what has none
-  lacks : (splits : Bool) (t : Ty) (run : Run Value) → GivesValue m input whole f p around splits t lacking run
+  pub lacks : (splits : Bool) (t : Ty) (run : Run Value) → GivesValue m input whole f p around splits t lacking run
   lacks splits t run = record { adds = λ b. tt; does = λ b s units state good. tt }
 
   -- what gives a value leads to that value

@@ -1,8 +1,8 @@
 -- What is known of types of expressions, and of names.
-use Rattle.std.proofs.Common.{◌≡◌, ◌≢◌, refl, sym, ap, ◌∙◌, subst, inl, inr, ℕ, zero, suc, Bool, true, false, not, IsTrue, List, [], ◌∷◌, slice_get, Some}
-use Rattle.std.specs.Prelude.{nat_eq}
+use Rattle.std.proofs.Common.{◌≡◌, ◌≢◌, refl, sym, ap, ◌∙◌, subst, inl, inr, ℕ, zero, suc, Bool, true, false, not, IsTrue, List, [], ◌∷◌, slice_get, Some, arith}
+use Rattle.std.specs.Prelude.{◌<◌, ◌^◌, ◌&&◌, nat_eq, nat_le, nat_lt}
 use Rattle.std.specs.List.{AllByRecursion}
-use Rattle.std.proofs.lemmas.Bool.{and_parts, eqb-true}
+use Rattle.std.proofs.lemmas.Bool.{and_parts, eqb-true, leb-true, ltb-true}
 use Rattle.gsl_types.specs.Conversions.{converts, converts_open, serves}
 use Rattle.gsl_types.specs.declared.ty.Scalar.{Scalar}
 use Rattle.gsl_types.specs.declared.ty.Scalar.TheVariants.{Bool as Boolean, Int, Uint}
@@ -13,8 +13,9 @@ use Rattle.gsl_types.specs.declared.ty.Ty.TheVariants as ty
 use Rattle.gsl_types.specs.declared.ty.Ty.TheVariants.{outs-One, outs-Void, rolls-Void}
 use Rattle.gsl_types.specs.declared.ty.Ty.TheViews.{out-Ty, roll-Ty, roll-out-Ty}
 use Rattle.gsl_tree.specs.Expressions.{IsIndex, element_kind, element_of, is_runtime_layer, is_value_layer, is_value_type}
+use Rattle.gsl_tree.specs.Operations.{has_fixed_length, is_fixed_kind, length_kind, length_of}
 use Rattle.gsl_tree.specs.Shapes.{Shape, is_integer, shape_kind, shape_of}
-use Rattle.gsl_tree.specs.WellTyped.{is_plain, is_plain_kind}
+use Rattle.gsl_types.specs.Known.{IsSound, is_plain, is_plain_kind, sound, sound_kind}
 
 -- ---- items
 
@@ -96,6 +97,22 @@ element_real base t is = real_by has_element_layer refl base (element_told (out-
 pub index_shape : (t : Ty) → IsIndex t → (shape : Shape) × (shape_of t ≡ Some shape)
 index_shape t (inl e) = ((Int, 1), ap shape_of e ∙ scalar_shape Int)
 index_shape t (inr e) = ((Uint, 1), ap shape_of e ∙ scalar_shape Uint)
+
+-- the length that a type tells is a word
+pub length_small : (count : ℕ) (t : Ty) → IsSound count t → has_fixed_length t ≡ true → length_of t < 2 ^ 32
+length_small count t known fixed = by (out-Ty t) (roll-out-Ty t) fixed
+  where
+    by : (layer : Ty-F Ty) → roll-Ty layer ≡ t → is_fixed_kind layer ≡ true → length_kind layer < 2 ^ 32
+    by (Ty-F.Vector s n) e fixed =
+        let parts : IsTrue (nat_le 2 n && nat_le n 4) = sym (fold-roll-Ty Bool (sound_kind count) (Ty-F.Vector s n)) ∙ subst (IsSound count) (sym e) known in
+        omega (arith, leb-true n 4 (and_parts (nat_le 2 n) (nat_le n 4) parts).1)
+    by (Ty-F.Array element n) e fixed =
+        let parts : IsTrue ((nat_le 1 n && nat_lt n (2 ^ 32)) && sound count element) = sym (fold-roll-Ty Bool (sound_kind count) (Ty-F.Array element n)) ∙ subst (IsSound count) (sym e) known in
+        ltb-true n (2 ^ 32) (and_parts (nat_le 1 n) (nat_lt n (2 ^ 32)) (and_parts (nat_le 1 n && nat_lt n (2 ^ 32)) (sound count element) parts).0).1
+    by Ty-F.Void e fixed = absurd (let z : false ≡ true = fixed in cc)
+    by (Ty-F.One s) e fixed = absurd (let z : false ≡ true = fixed in cc)
+    by (Ty-F.Runtime element) e fixed = absurd (let z : false ≡ true = fixed in cc)
+    by (Ty-F.Struct number) e fixed = absurd (let z : false ≡ true = fixed in cc)
 
 pub plain_real : (t : Ty) → IsTrue (is_plain t) → t ≢ ty.Void
 plain_real t is e = let z : true ≡ false = sym is ∙ ap is_plain (e ∙ sym rolls-Void) ∙ fold-roll-Ty Bool is_plain_kind Ty-F.Void in cc

@@ -1,5 +1,5 @@
 -- Every kind of expression, over its parts.
-use Rattle.std.proofs.Common.{◌≡◌, ◌≢◌, refl, sym, ap, ◌∙◌, subst, inl, inr, ◌⊎◌, ℕ, ◌≤◌, ◌<◌, ◌^◌, Bool, true, false, ◌||◌, ◌&&◌, not, IsTrue, List, [], ◌∷◌, length, map, slice_get, Option, Some, None, unwrap_or, if◌then◌else◌, arith}
+use Rattle.std.proofs.Common.{◌≡◌, ◌≢◌, refl, sym, ap, ◌∙◌, subst, inl, inr, ◌⊎◌, ℕ, ◌≤◌, ◌<◌, Bool, true, false, ◌||◌, ◌&&◌, not, IsTrue, List, [], ◌∷◌, length, map, slice_get, Option, Some, None, unwrap_or, if◌then◌else◌, arith}
 use Rattle.std.specs.Prelude.{nat_lt}
 use Rattle.std.specs.List.{AllByRecursion, list_all}
 use Rattle.std.proofs.lemmas.Bool.{and_parts, ltb-true}
@@ -24,16 +24,15 @@ use Rattle.gsl_values.specs.declared.lane.Lanes.{Lanes}
 use Rattle.gsl_values.specs.declared.op.BinaryOp.{BinaryOp}
 use Rattle.gsl_values.specs.declared.op.UnaryOp.{UnaryOp}
 use Rattle.gsl_values.specs.declared.value.Value.{Value}
-use Rattle.gsl_values.specs.declared.value.Value.TheVariants.{Word, outs-Word}
 use Rattle.gsl_tree.specs.Around.{Around, uvec3}
 use Rattle.gsl_tree.specs.Constants.{gives}
 use Rattle.gsl_tree.specs.Expressions as tree
-use Rattle.gsl_tree.specs.Expressions.{HasType, IsBinary, IsBuild, IsBuilt, IsConst, IsIndex, IsSwizzle, IsUnary, MayBeRead, boolean, element_of, is_in_range, is_runtime_layer, shapes_of}
-use Rattle.gsl_tree.specs.Operations.{binary_value, decides, has_fixed_length, is_fixed_kind, is_postfix, is_signed, length_of, step_value}
+use Rattle.gsl_tree.specs.Expressions.{IsBinary, IsBuild, IsBuilt, IsConst, IsIndex, IsSwizzle, IsUnary, MayBeRead, boolean, element_of, is_in_range, is_runtime_layer, shapes_of}
+use Rattle.gsl_tree.specs.Operations.{binary_value, decides, has_fixed_length, is_postfix, is_signed, length_of, step_value}
 use Rattle.gsl_tree.specs.Paths.{in_block, in_block_by, is_writable, kind_in, repeats, writable_by}
 use Rattle.gsl_tree.specs.Shapes.{Shape, is_integer, shape_kind, shape_of}
 use Rattle.gsl_tree.specs.Trees.{form_of, type_of}
-use Rattle.gsl_tree.specs.Values.{all_pass, is_value_of, parts_in, word_in, word_layer}
+use Rattle.gsl_tree.specs.Values.{all_pass, is_value_of, parts_in, word_in}
 use Rattle.gsl_tree.specs.WellTyped.{IsVariableType, around_body, program_lists}
 use Rattle.gsl_tree.specs.declared.expr.Expr.{Expr}
 use Rattle.gsl_tree.specs.declared.expr.ExprKind.{ExprKind}
@@ -45,29 +44,28 @@ use Rattle.gsl_tree.specs.declared.expr.StageVar.{StageVar}
 use Rattle.gsl_tree.specs.declared.expr.StepOp.{StepOp}
 use Rattle.gsl_tree.specs.declared.program.Program.{Program}
 use Rattle.gsl_typed_law.proofs.Builtins.{builtin_typed}
-use Rattle.gsl_typed_law.proofs.Components.{scalar_typed, shape_again, some_component}
-use Rattle.gsl_typed_law.proofs.Bounds.{integer_fits}
+use Rattle.gsl_typed_law.proofs.Components.{shape_again, some_component}
 use Rattle.gsl_typed_law.proofs.Conversions.{converted_same, step_typed}
 use Rattle.gsl_typed_law.proofs.Operators.{binary_typed, unary_typed}
 use Rattle.gsl_meaning.specs.Accesses as access
 use Rattle.gsl_meaning.specs.Expressions as meaning
-use Rattle.gsl_meaning.specs.Expressions.{Calls, Meant, in_order, means_by}
+use Rattle.gsl_meaning.specs.Expressions.{Calls, Meant, means_by}
 use Rattle.gsl_meaning.specs.Running.{Run}
 use Rattle.gsl_meaning.specs.Running as shader_run
+use Rattle.gsl_meaning.specs.State as shader
 use Rattle.gsl_spv.specs.Sections.{Sections}
 use Rattle.gsl_lower_holders.specs.Flow.{Emit, lift}
-use Rattle.gsl_lower_values.specs.Types.{scalar_constant}
 use Rattle.gsl_lower_traits.specs.declared.traits.Traits.{Traits}
 use Rattle.gsl_lower_traits.specs.Traits as traits
-use Rattle.gsl_lower_traits.specs.Traits.{Known, is_dynamic, is_one, is_selected, is_short, together, together_on, traits_by}
+use Rattle.gsl_lower_traits.specs.Traits.{Known, is_dynamic, is_one, is_selected, is_short, together}
 use Rattle.gsl_lower_traits_law.proofs.Literals.{literal_below}
 use Rattle.gsl_lower_traits_law.specs.Telling.{Tells}
 use Rattle.gsl_lower_traits_law.proofs.Told as told
-use Rattle.gsl_lower_traits_law.proofs.Told.{by_form, means_form}
+use Rattle.gsl_lower_traits_law.proofs.Told.{means_form, part_is}
 use Rattle.gsl_lower_expr.specs.Lowering as lowering
-use Rattle.gsl_lower_expr.specs.Lowering.{lowered_by, lowers}
+use Rattle.gsl_lower_expr.specs.Lowering.{lowered_by}
 use Rattle.gsl_lower_expr.specs.Parts as Parts
-use Rattle.gsl_lower_expr.specs.Parts.{Lower, any_splits, called_of, chosen, constant_by, constructed, indexed, interface_class, known_of, logical, member, named, sequence, shape_or, swizzled_by}
+use Rattle.gsl_lower_expr.specs.Parts.{Lower, any_splits, called_of, chosen, constant_by, constructed, indexed, known_of, logical, member, sequence, shape_or, swizzled_by}
 use Rattle.gsl_lower_follows.specs.Frames as name
 use Rattle.gsl_lower_follows.specs.Frames.{AreTyped, Frame, type_of_global, type_of_interface, type_of_param}
 use Rattle.gsl_lower_follows.specs.Giving.{GivesValue}
@@ -81,7 +79,7 @@ use Rattle.gsl_lower_law_expr.proofs.Shapes.{value_shape}
 use Rattle.gsl_lower_law_expr.proofs.Short.{short_gives}
 use Rattle.gsl_lower_law_expr.proofs.Single.{conversion_gives, unary_gives}
 use Rattle.gsl_lower_law_built.specs.Arguments as built
-use Rattle.gsl_lower_law_built.specs.Arguments.{Answers, AreShaped, Constructs, EachGives, SameTypes}
+use Rattle.gsl_lower_law_built.specs.Arguments.{AreShaped, Constructs, EachGives, SameTypes}
 use Rattle.gsl_lower_law_built.proofs.Called.{built_gives}
 use Rattle.gsl_lower_law_built.proofs.Composed.{composed_gives}
 use Rattle.gsl_lower_law_built.proofs.Constructed.{constructed_gives, shape_back}
@@ -94,8 +92,9 @@ use Rattle.gsl_lower_reaching.specs.Reaching.Start.{OfBlock, OfVariable}
 use Rattle.gsl_lower_reaching.proofs.Places.{block_place, member_place, swizzle_place}
 use Rattle.gsl_lower_elements.specs.Indexes.{Indexes, indexed_means}
 use Rattle.gsl_lower_elements.proofs.Literal.{literal_place}
-use Rattle.gsl_lower_indexes.specs.Computed.{spilled_to}
-use Rattle.gsl_lower_indexes.proofs.Computing.{computed_place}
+use Rattle.gsl_lower_indexes.specs.Computed.{CanTest, spilled_to}
+use Rattle.gsl_lower_indexes.proofs.Computing.{index_place}
+use Rattle.gsl_typed_places.specs.Members.{IsMember}
 use Rattle.gsl_lower_assigns.specs.Assigning.{assign_means}
 use Rattle.gsl_lower_assigns.proofs.Assigned.{place_assigned}
 use Rattle.gsl_lower_assigns.specs.Updating.{step_means, update_means}
@@ -109,7 +108,7 @@ use Rattle.gsl_lower_law_evaluated.proofs.Lists.{one_component, or_cases, or_fal
 shape_or_is : (t : Ty) (shape : Shape) → shape_of t ≡ Some shape → shape_or t ≡ shape
 shape_or_is t shape is = ap (λ o. unwrap_or o (Int, 1)) is
 
-sound_one : (count : ℕ) (s : Scalar) → IsSound count (ty.One s)
+pub sound_one : (count : ℕ) (s : Scalar) → IsSound count (ty.One s)
 sound_one count s = ap (sound count) (sym (rolls-One s)) ∙ fold-roll-Ty Bool (sound_kind count) (Ty-F.One s)
 
 all_below : (n : ℕ) (positions : List ℕ) → list_all (λ position. nat_lt position n) positions ≡ true → AllByRecursion (λ position. position < n) positions
@@ -455,34 +454,6 @@ module _ (m : Module) (input : Input) (whole : Sections) (f : Frame m input whol
       (record { are = are; sound = own_sound a x; real = own_real a x real_a; shape = is.0; shaped = shaped; gives = λ v fits. step_typed p.structs op (low a).ty is.0 v (own_sound a x) shaped is.2 fits })
       (low a).traits.splits (part a).access (place_of a x real_a may apart)))
 
-  -- what has a length tells it by its type, or is a runtime array
-  length_kind_of : (layer : Ty-F Ty) → tree.has_length_kind layer ≡ true → is_fixed_kind layer ≡ false → is_runtime_layer layer ≡ true
-  length_kind_of (Ty-F.Vector s n) has fixed = absurd (let z : true ≡ false = fixed in cc)
-  length_kind_of (Ty-F.Array element n) has fixed = absurd (let z : true ≡ false = fixed in cc)
-  length_kind_of (Ty-F.Runtime element) has fixed = refl
-  length_kind_of Ty-F.Void has fixed = absurd (let z : false ≡ true = has in cc)
-  length_kind_of (Ty-F.One s) has fixed = absurd (let z : false ≡ true = has in cc)
-  length_kind_of (Ty-F.Struct number) has fixed = absurd (let z : false ≡ true = has in cc)
-
-  -- the length that a type tells, or that is counted
-  pub length_is : (a : Expr) → Is a → IsTrue (tree.has_length_kind (out-Ty (type_of a))) → (has_fixed_length (type_of a) ≡ true → length_of (type_of a) < 2 ^ 32) → Gives false (ty.One Int) (Parts.counted (low a)) (shader_run.told_by (meaning.counted (part a)))
-  length_is a x has small =
-      subst (λ t. Gives false (ty.One Int) (if has_fixed_length t then lift (scalar_constant Int (length_of t)) else (low a).length) (shader_run.told_by (meaning.counted (part a)))) (sym x.typed)
-      (subst (λ t. Gives false (ty.One Int) (if has_fixed_length (type_of a) then lift (scalar_constant Int (length_of (type_of a))) else (low a).length) (shader_run.told_by (λ state. if has_fixed_length t then Word (length_of t) else Word ((part a).parts state)))) (sym x.meant)
-      (by (has_fixed_length (type_of a)) refl))
-    where
-      n : ℕ
-      n = length_of (type_of a)
-
-      fits : has_fixed_length (type_of a) ≡ true → is_value_of p.structs (ty.One Int) (Word n) ≡ true
-      fits fixed = scalar_typed p.structs Int n (integer_fits Int n refl (small fixed))
-
-      by : (b : Bool) → has_fixed_length (type_of a) ≡ b → Gives false (ty.One Int) (if b then lift (scalar_constant Int n) else (low a).length) (shader_run.told_by (λ state. if b then Word n else Word ((part a).parts state)))
-      by true e =
-          subst (λ word. Gives false (ty.One Int) (lift (scalar_constant Int word)) (shader_run.given (Word n))) (ap word_layer (outs-Word n))
-          (constant_gives m input whole f p around (Int, 1) (ty.One Int) (Word n) (omega arith) (value_shape p.structs (ty.One Int) (Int, 1) (Word n) are (sound_one count Int) (scalar_shape Int) (fits e)).1 (fits e))
-      by false e = x.lengths (length_kind_of (out-Ty (type_of a)) has e)
-
   -- ---- several arguments
 
   passed : (es : List Expr) (vs : List Value) → AllAre es → AllTyped p (map low es) vs → all_pass (map (is_value_of p.structs) (tree.types_of es)) vs ≡ true
@@ -565,9 +536,9 @@ module _ (m : Module) (input : Input) (whole : Sections) (f : Frame m input whol
       member_place m input whole f p around (low a).traits.splits x.start writes t number (low a) (part a).access are (subst (λ u. tree.HasPartType p.structs u number t) (sym x.typed) is) sound
       (own_leads a x (struct_real (type_of a) is.0 is.3) writes may)
 
-  pub swizzle_leads : (a : Expr) (lanes : Lanes) (t : Ty) (x : Is a) → IsSwizzle (type_of a) lanes t → lanes.count ≤ length lanes.words → (writes : Bool) → (writes ≡ true → (is_writable around a && not (repeats (picked lanes)) && not (in_block a)) ≡ true)
+  pub swizzle_leads : (a : Expr) (lanes : Lanes) (t : Ty) (x : Is a) → IsSwizzle (type_of a) lanes t → (writes : Bool) → (writes ≡ true → (is_writable around a && not (repeats (picked lanes)) && not (in_block a)) ≡ true)
       → GivesPlace m input whole f p around (low a).traits.splits x.start writes t (swizzled_by (low a) lanes) (shader_run.◌>>=◌ (part a).access (λ x. shader_run.given (access.swizzle_of x (picked lanes))))
-  swizzle_leads a lanes t x is enough writes may =
+  swizzle_leads a lanes t x is writes may =
       swizzle_place m input whole f p around (low a).traits.splits x.start writes writes t is.0 lanes (low a) (part a).access
       (record {
         of = ap shape_of x.typed ∙ is.1;
@@ -582,7 +553,7 @@ module _ (m : Module) (input : Input) (whole : Sections) (f : Frame m input whol
       firsts e = and_parts (is_writable around a && not (repeats (picked lanes))) (not (in_block a)) (may e)
 
       long : length (picked lanes) ≡ lanes.count
-      long = length-take-le lanes.count lanes.words enough
+      long = length-take-le lanes.count lanes.words is.2.2
 
   indexes : (a : Expr) (t : Ty) → IsSound count t → Is a → element_of (type_of a) ≡ Some t → Indexes p (low a).ty t
   indexes a t sound x is = record { sound = own_sound a x; sound_part = sound; element = ap element_of x.typed ∙ is }
@@ -623,9 +594,25 @@ module _ (m : Module) (input : Input) (whole : Sections) (f : Frame m input whol
   abbrev Leads : (a i : Expr) → Is a → Ty → Bool → Type 0
   Leads a i x t writes = GivesPlace m input whole f p around (traits.indexed t (known_as a) (low i).traits).splits (index_start a i x) writes t (indexed p.structs (low a) (low i)) (index_run a i)
 
-  pub index_leads : (a i : Expr) (t : Ty) → IsSound count t → (x : Is a) → Is i → element_of (type_of a) ≡ Some t → IsIndex (type_of i) → is_in_range around a i ≡ true → (low i).traits.calls ≡ false → IsLiteralForm i
+  -- What an index goes into has values of its type, or is the name of a member of a block.
+  abbrev pub MayTest : Expr → Type 0
+  MayTest a = ((v : Value) × (is_value_of p.structs (type_of a) v ≡ true)) ⊎ IsMember (form_of a)
+
+  -- a member of a block is led to wherever it is evaluated
+  member_there : (a : Expr) → IsMember (form_of a) → (s : shader.State) (units : ℕ) → (part a).access s units ≢ shader_run.Strays
+  member_there a = by (form_of a) (ap (λ (x : Meant). x.access) (part_is setting a))
+    where
+      by : (form : ExprKind-F ExprKind Expr) → (part a).access ≡ (means_form setting form (type_of a)).access → IsMember form → (s : shader.State) (units : ℕ) → (part a).access s units ≢ shader_run.Strays
+      by (ExprKind-F.BlockMember block number) is one s units strays = let z : shader_run.Got (meaning.member_root block number) s units ≡ shader_run.Strays = sym (ap (λ (run : Run access.Access). run s units) is) ∙ strays in cc
+      by _ is one s units strays = absurd one
+
+  can_test : (a : Expr) (x : Is a) → MayTest a → CanTest p (low a).ty (part a).access
+  can_test a x (inl (v, typed)) = inl (v, subst (λ u. is_value_of p.structs u v ≡ true) (sym x.typed) typed)
+  can_test a x (inr one) = inr (member_there a one)
+
+  pub index_leads : (a i : Expr) (t : Ty) → IsSound count t → (x : Is a) → Is i → element_of (type_of a) ≡ Some t → IsIndex (type_of i) → is_in_range around a i ≡ true → ((low i).traits.calls ≡ true → MayTest a) → IsLiteralForm i
       → (writes : Bool) → (writes ≡ true → (is_writable around a && not (in_block a)) ≡ true) → Leads a i x t writes
-  index_leads a i t sound x y element integer range calls form writes may = by (low i).traits.literal refl
+  index_leads a i t sound x y element integer range tests form writes may = by (low i).traits.literal refl
     where
       base : GivesPlace m input whole f p around (low a).traits.splits x.start writes (low a).ty (low a).reach (part a).access
       base = own_leads a x (element_real (type_of a) t element) writes may
@@ -639,8 +626,8 @@ module _ (m : Module) (input : Input) (whole : Sections) (f : Frame m input whol
       by : (o : Option ℕ) → (low i).traits.literal ≡ o → Leads a i x t writes
       by None e =
           let shape = index_shape (type_of i) integer in
-          computed_place m input whole f p around are (low a).traits.splits writes x.start t (low a) (low i) (part a).access (part i).value x.start_loose (indexes a t sound x element) (own_real a x (element_real (type_of a) t element)) (own_real i y (shaped_real (type_of i) shape.0 shape.1))
-          (record { computed = e; calls_none = calls; integer = subst IsIndex (sym y.typed) integer; comes = (y.tells.comes calls).1 }) (own i y (shaped_read (type_of i) shape.0 shape.1)) base
+          index_place m input whole f p around are (low a).traits.splits writes x.start t (low a) (low i) (part a).access (part i).value x.start_loose (indexes a t sound x element) (own_real a x (element_real (type_of a) t element)) (own_real i y (shaped_real (type_of i) shape.0 shape.1))
+          (record { computed = e; number = subst IsIndex (sym y.typed) integer; comes = λ alone. (y.tells.comes alone).1 }) (λ calls. can_test a x (tests calls)) (own i y (shaped_read (type_of i) shape.0 shape.1)) base
       by (Some number) e =
           let told = y.tells.literal number e in
           let const = form number e in

@@ -2,6 +2,8 @@ pub mod Facts
 mod Lists
 mod Evaluated
 mod Stages
+mod Building
 mod Forms
 mod Quiet
+pub mod Lengths
 pub mod Whole

@@ -41,8 +41,9 @@ use Rattle.gsl_lower_expr.specs.Parts.{Lower, known_of}
 use Rattle.gsl_lower_follows.specs.Frames.{AreTyped, Frame, Global, Interface, Local, Param, type_named, type_of_global, type_of_interface, type_of_param}
 use Rattle.gsl_lower_follows.specs.Frames as frames
 use Rattle.gsl_lower_law_expr.specs.Known.{IsQuiet, IsShort}
-use Rattle.gsl_lower_law_evaluated.specs.Evaluating.{AllThere, AsksFor, IsTyped, NoVectors, lowered_in, meant_in}
+use Rattle.gsl_lower_law_evaluated.specs.Evaluating.{AllThere, AsksFor, IsReadWhole, IsTyped, NoVectors, lowered_in, meant_in}
 use Rattle.gsl_lower_law_evaluated.proofs.Forms as forms
+use Rattle.gsl_typed_places.proofs.Indexed.{indexed_valued}
 
 module _ (m : Module) (input : Input) (whole : Sections) (f : Frame m input whole) (p : Program) (params : List (Direction × Ty)) (locals : List Ty) (call : ℕ → List Lower → Ty → Emit ℕ) (stage : StageVar → Value) (calls : Calls) (types : IsTyped p params locals) (vectors : NoVectors m input whole f) where
   abbrev around : Around
@@ -143,7 +144,7 @@ module _ (m : Module) (input : Input) (whole : Sections) (f : Frame m input whol
   told_quiet (ExprKind-F.Build es) t q = subst (λ ks. (traits.built t (traits.together ks)).quiet ≡ true) (lists_known es) q
   told_quiet form t q = q
 
-  low_type : (form : ExprKind-F ExprKind Expr) (t : Ty) → (low_form form t).ty ≡ t
+  pub low_type : (form : ExprKind-F ExprKind Expr) (t : Ty) → (low_form form t).ty ≡ t
   low_type (ExprKind-F.Const v) t = refl
   low_type form t = refl
 
@@ -185,6 +186,7 @@ module _ (m : Module) (input : Input) (whole : Sections) (f : Frame m input whol
   abbrev pub AsksHere : Expr → ExprKind-F ExprKind Expr → Type 0
   AsksHere e (ExprKind-F.Logic op a b) = IsShort op → is_short op (low b).traits ≡ false → QuietIn boolean b
   AsksHere e (ExprKind-F.Choose test a b) = is_selected (type_of e) (low a).traits (low b).traits ≡ true → QuietIn (type_of e) a × QuietIn (type_of e) b
+  AsksHere e (ExprKind-F.Index a i) = IsReadWhole m input whole f p params locals call stage calls e × ((low i).traits.calls ≡ true → forms.MayTest m input whole f p params locals call stage calls types vectors a)
   AsksHere e form = AsksFor m input whole f p params locals call stage calls e form
 
   not_false : (b : Bool) → not b ≡ false → b ≡ true
@@ -205,6 +207,9 @@ module _ (m : Module) (input : Input) (whole : Sections) (f : Frame m input whol
   abbrev Sound : Expr → Type 0
   Sound e = IsSound count (type_of e)
 
+  sound_top : (e : Expr) → Throughout Sound e → Sound e
+  sound_top _ (Throughout.whole e sound parts) = sound
+
   pub asked : (e : Expr) (form : ExprKind-F ExprKind Expr) → HasType around form (type_of e) → ThroughoutAll (IsNode around) (parts_of form) → ThroughoutAll (λ (x : Expr). IsSound count (type_of x)) (parts_of form)
       → AsksFor m input whole f p params locals call stage calls e form → AsksHere e form
   unfolding lowering.lowers
@@ -218,4 +223,6 @@ module _ (m : Module) (input : Input) (whole : Sections) (f : Frame m input whol
         quiet_in a (type_of e) is.1 (first_all (IsNode around) a (b ∷ []) nodes_a) (first_all Sound a (b ∷ []) sounds_a) (asks selected).0 firsts.1,
         quiet_in b (type_of e) is.2 (first_all (IsNode around) b [] (rest_all (IsNode around) a (b ∷ []) nodes_a)) (first_all Sound b [] (rest_all Sound a (b ∷ []) sounds_a)) (asks selected).1 last.1,
       )
+  asked e (ExprKind-F.Index a i) is nodes sounds asks =
+      (asks, λ called. indexed_valued (program_lists p) params locals types.program types.of_params types.of_locals a (first_all (IsNode around) a (i ∷ []) nodes) (sound_top a (first_all Sound a (i ∷ []) sounds)) (type_of e) is.0)
   asked e form is nodes sounds asks = asks

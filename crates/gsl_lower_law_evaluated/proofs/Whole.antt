@@ -1,5 +1,5 @@
 -- Whole expressions, kind by kind, and the expressions in them.
-use Rattle.std.proofs.Common.{◌≡◌, refl, sym, ap, ◌∙◌, subst, inl, inr, ℕ, Bool, true, false, not, ◌||◌, ◌&&◌, slice_get, List, [], ◌∷◌, length, map, Some, None}
+use Rattle.std.proofs.Common.{◌≡◌, refl, sym, ap, ◌∙◌, subst, ℕ, Bool, true, false, not, ◌||◌, ◌&&◌, slice_get, List, [], ◌∷◌, length, map, Some, None}
 use Rattle.std.specs.List.{AllByRecursion}
 use Rattle.gsl_base.specs.declared.input.Input.{Input}
 use Rattle.gsl_types.specs.Known.{AreStructs, IsSound}
@@ -27,12 +27,11 @@ use Rattle.gsl_meaning.specs.Accesses as access
 use Rattle.gsl_meaning.specs.Expressions as meaning
 use Rattle.gsl_meaning.specs.Expressions.{Calls, Meant, means}
 use Rattle.gsl_meaning.specs.Running as shader_run
-use Rattle.gsl_meaning.specs.Running.{Run}
 use Rattle.gsl_spv.specs.Sections.{Sections}
 use Rattle.gsl_instr.specs.declared.enumerant.storage_class.TheConstants as storage_class
 use Rattle.gsl_lower_holders.specs.Flow.{Emit, lift}
 use Rattle.gsl_lower_traits.specs.Traits as traits
-use Rattle.gsl_lower_traits.specs.Traits.{is_selected, is_short}
+use Rattle.gsl_lower_traits.specs.Traits.{is_short}
 use Rattle.gsl_lower_traits.specs.declared.traits.Traits.{Traits}
 use Rattle.gsl_lower_traits_law.specs.Telling.{Tells}
 use Rattle.gsl_lower_traits_law.proofs.Told.{by_form, means_form, part_is}
@@ -46,10 +45,14 @@ use Rattle.gsl_lower_elements.specs.Indexes.{indexed_means}
 use Rattle.gsl_lower_elements.proofs.Lengths.{length_gives}
 use Rattle.gsl_lower_reaching.specs.Reaching.Start.{OfBlock, OfVariable}
 use Rattle.gsl_lower_reaching.proofs.Places.{global_place, interface_place, local_place, param_place}
+use Rattle.gsl_lower_used.specs.Lowered.{ThroughoutAllLowered, ThroughoutLowered, lowered_parts}
+use Rattle.gsl_lower_used.proofs.Within.{call_passed, parts_throughout, tops}
 use Rattle.gsl_lower_law_evaluated.specs.Evaluating.{AllEvaluated, Asks, Evaluates, HasValue, IsEvaluated, IsReadWhole, IsTyped, NoVectors, lowered_in, meant_in}
 use Rattle.gsl_lower_law_evaluated.proofs.Evaluated.{place_evaluates, value_evaluates}
 use Rattle.gsl_lower_law_evaluated.proofs.Forms as forms
+use Rattle.gsl_lower_law_evaluated.proofs.Lengths as lengths
 use Rattle.gsl_lower_law_evaluated.proofs.Lists.{or_false}
+use Rattle.gsl_lower_law_evaluated.proofs.Building.{parts_real}
 use Rattle.gsl_lower_law_evaluated.proofs.Quiet as quiet
 use Rattle.gsl_lower_law_evaluated.proofs.Stages.{stage_gives}
 
@@ -111,6 +114,9 @@ module _ (m : Module) (input : Input) (whole : Sections) (f : Frame m input whol
   literal_form : (i : Expr) (number : ℕ) → (low i).traits.literal ≡ Some number → (v : Value) × (form_of i ≡ ExprKind-F.Const v) × (word_in v ≡ number)
   literal_form = quiet.literal_form m input whole f p params locals call stage calls types vectors
 
+  abbrev Sound : Expr → Type 0
+  Sound e = IsSound count (type_of e)
+
   -- ---- every form
 
   abbrev Here : ExprKind-F ExprKind Expr → Ty → Type 0
@@ -170,101 +176,102 @@ module _ (m : Module) (input : Input) (whole : Sections) (f : Frame m input whol
   row_told : (es : List Expr) (of : Traits → Traits) (x : Meant) → Tells (of (traits.together (map (λ e. known_of (low e)) es))) x → Tells (of (traits.together (map known_of (map low es)))) x
   row_told = forms.row_told m input whole f p params locals call stage calls types vectors
 
-  by_kind : (e : Expr) (form : ExprKind-F ExprKind Expr) → Whole e form → IsSound count (type_of e) → AllAre (parts_of form) → HasType around form (type_of e) → AllByRecursion (MayBeRead around) (read_parts around form)
+  by_kind : (e : Expr) (form : ExprKind-F ExprKind Expr) → Whole e form → IsSound count (type_of e) → AllByRecursion Sound (parts_of form) → AllAre (lowered_parts p.prototypes form) → HasType around form (type_of e) → AllByRecursion (MayBeRead around) (read_parts around form)
       → quiet.AsksHere m input whole f p params locals call stage calls types vectors e form → Here form (type_of e)
   unfolding lowers means
-  by_kind e (ExprKind-F.Const v) w sound all is reads asks =
+  by_kind e (ExprKind-F.Const v) w sound sounds all is reads asks =
       value_evaluates m input whole f p around (type_of e) _ (lift (constant_by (shape_or (type_of e)) v)) (shader_run.given v) sound refl (forms.const_gives m input whole f p params locals call stage calls types vectors v (type_of e) sound is) (tell (ExprKind-F.Const v) (type_of e) all)
-  by_kind e (ExprKind-F.Local n) w sound all is reads asks =
+  by_kind e (ExprKind-F.Local n) w sound sounds all is reads asks =
       place_evaluates m input whole f p around true false OfVariable (type_of e) (traits.in_variable (type_of e)) (named (λ place. place.locals) storage_class.FUNCTION n) (shader_run.given (access.whole (access.Local n))) are sound refl not_here apart
       (λ writes may. local_place m input whole f p around n writes (type_of e) (forms.named_local m input whole f p params locals call stage calls types vectors n (type_of e) is)) (tell (ExprKind-F.Local n) (type_of e) all)
-  by_kind e (ExprKind-F.Global n) w sound all is reads asks =
+  by_kind e (ExprKind-F.Global n) w sound sounds all is reads asks =
       place_evaluates m input whole f p around (may_write (ExprKind-F.Global n) && not false) false OfVariable (type_of e) (traits.in_variable (type_of e)) (named (λ place. place.globals) storage_class.PRIVATE n) (shader_run.given (access.whole (access.Global n))) are sound refl not_here apart
       (λ writes may. global_place m input whole f p around n writes (type_of e) (forms.named_global m input whole f p params locals call stage calls types vectors n (type_of e) is)) (tell (ExprKind-F.Global n) (type_of e) all)
-  by_kind e (ExprKind-F.Param n) w sound all is reads asks =
+  by_kind e (ExprKind-F.Param n) w sound sounds all is reads asks =
       place_evaluates m input whole f p around true false OfVariable (type_of e) (traits.in_variable (type_of e)) (named (λ place. place.params) storage_class.FUNCTION n) (shader_run.given (access.whole (access.Param n))) are sound refl not_here apart
       (λ writes may. param_place m input whole f p around n writes (type_of e) (forms.named_param m input whole f p params locals call stage calls types vectors n (type_of e) is)) (tell (ExprKind-F.Param n) (type_of e) all)
-  by_kind e (ExprKind-F.Interface n) w sound all is reads asks =
+  by_kind e (ExprKind-F.Interface n) w sound sounds all is reads asks =
       place_evaluates m input whole f p around (may_write (ExprKind-F.Interface n) && not false) false OfVariable (type_of e) (traits.in_variable (type_of e)) (named (λ place. place.interfaces) (interface_class (slice_get p.interfaces n)) n) (shader_run.given (access.whole (access.Interface n))) are sound refl not_here apart
       (λ writes may. interface_place m input whole f p around n (slice_get p.interfaces n) writes (type_of e) (forms.named_interface m input whole f p params locals call stage calls types vectors n (type_of e) is)) (tell (ExprKind-F.Interface n) (type_of e) all)
-  by_kind e (ExprKind-F.BlockMember block n) w sound all is reads asks =
+  by_kind e (ExprKind-F.BlockMember block n) w sound sounds all is reads asks =
       let told = tell (ExprKind-F.BlockMember block n) (type_of e) all in
       let here = place_evaluates m input whole f p around (may_write (ExprKind-F.BlockMember block n) && not true) true OfBlock (type_of e) (traits.in_variable (type_of e)) (in_block_code block n) (shader_run.given (meaning.member_root block n)) are sound refl (λ e. refl)
       (read_whole e (ExprKind-F.BlockMember block n) w asks.0) (forms.block_leads m input whole f p params locals call stage calls types vectors (may_write (ExprKind-F.BlockMember block n)) block n (type_of e) asks.1)
       (record { comes = told.comes; literal = told.literal; quiet = told.quiet; still = told.still }) in
       record { typed = refl; meant = refl; sound = sound; gives = here.gives; lengths = λ runtime. length_gives m input whole f p around are block n (type_of e) asks.1 runtime; start = here.start; start_loose = here.start_loose; start_blocked = here.start_blocked; leads = here.leads; tells = told }
-  by_kind e (ExprKind-F.Stage var) w sound all is reads asks =
+  by_kind e (ExprKind-F.Stage var) w sound sounds all is reads asks =
       value_evaluates m input whole f p around (type_of e) (traits.valued false false true) (stage_value var (type_of e)) (shader_run.given (stage var)) sound refl
       (subst (λ t. GivesValue m input whole f p around false t (stage_value var t) (shader_run.given (stage var))) is.1 (stage_gives m input whole f p around var (stage var) are (subst (IsSound count) (sym is.1) sound) asks.told asks.real)) (tell (ExprKind-F.Stage var) (type_of e) all)
-  by_kind e (ExprKind-F.Member a n) w sound all is reads asks =
+  by_kind e (ExprKind-F.Member a n) w sound sounds all is reads asks =
       place_evaluates m input whole f p around (is_writable around a && not (in_block a)) (in_block a) all.0.start (type_of e) (traits.part_of (type_of e) (low a).traits) (member (low a) n) (shader_run.◌>>=◌ (part a).access (λ x. shader_run.given (access.member_of x n))) are sound all.0.start_loose all.0.start_blocked (read_whole e (ExprKind-F.Member a n) w asks)
       (forms.member_leads m input whole f p params locals call stage calls types vectors a n (type_of e) sound all.0 is) (tell (ExprKind-F.Member a n) (type_of e) all)
-  by_kind e (ExprKind-F.Index a i) w sound all is reads (whole_asks, inl plain) =
+  by_kind e (ExprKind-F.Index a i) w sound sounds all is reads (whole_asks, tests) =
       place_evaluates m input whole f p around (is_writable around a && not (in_block a)) (in_block a) (forms.index_start m input whole f p params locals call stage calls types vectors a i all.0) (type_of e) (traits.indexed (type_of e) (known_of (low a)) (low i).traits) (indexed p.structs (low a) (low i)) (indexed_means (part a).access (part i).value) are sound
       (forms.index_loose m input whole f p params locals call stage calls types vectors a i (type_of e) all.0) (forms.index_blocked m input whole f p params locals call stage calls types vectors a i all.0) (read_whole e (ExprKind-F.Index a i) w whole_asks)
-      (forms.index_leads m input whole f p params locals call stage calls types vectors a i (type_of e) sound all.0 all.1.0 is.0 is.1 is.2 plain (literal_form i)) (tell (ExprKind-F.Index a i) (type_of e) all)
-  by_kind e (ExprKind-F.Index a i) w sound all is reads (whole_asks, inr asks) = all_here e (ExprKind-F.Index a i) w (asks all.0 all.1.0)
-  by_kind e (ExprKind-F.Swizzle a lanes) w sound all is reads asks =
+      (forms.index_leads m input whole f p params locals call stage calls types vectors a i (type_of e) sound all.0 all.1.0 is.0 is.1 is.2 tests (literal_form i)) (tell (ExprKind-F.Index a i) (type_of e) all)
+  by_kind e (ExprKind-F.Swizzle a lanes) w sound sounds all is reads asks =
       place_evaluates m input whole f p around (may_write (ExprKind-F.Swizzle a lanes) && not (in_block a)) (in_block a) all.0.start (type_of e) (traits.part_of (type_of e) (low a).traits) (swizzled_by (low a) lanes) (shader_run.◌>>=◌ (part a).access (λ x. shader_run.given (access.swizzle_of x (picked lanes)))) are sound all.0.start_loose all.0.start_blocked (λ in_one none. absurd (let z : None ≡ Some (is.0.0, lanes.count) = sym none ∙ forms.swizzle_shape m input whole f p params locals call stage calls types vectors a lanes (type_of e) is in cc))
-      (forms.swizzle_leads m input whole f p params locals call stage calls types vectors a lanes (type_of e) all.0 is asks) (tell (ExprKind-F.Swizzle a lanes) (type_of e) all)
-  by_kind e (ExprKind-F.Length a) w sound all is reads asks =
+      (forms.swizzle_leads m input whole f p params locals call stage calls types vectors a lanes (type_of e) all.0 is) (tell (ExprKind-F.Swizzle a lanes) (type_of e) all)
+  by_kind e (ExprKind-F.Length a) w sound sounds all is reads asks =
       value_evaluates m input whole f p around (type_of e) (traits.valued false false true) (counted (low a)) (shader_run.told_by (meaning.counted (part a))) sound refl
-      (subst (λ t. GivesValue m input whole f p around false t (counted (low a)) (shader_run.told_by (meaning.counted (part a)))) (sym is.0) (forms.length_is m input whole f p params locals call stage calls types vectors a all.0 is.1 asks)) (tell (ExprKind-F.Length a) (type_of e) all)
-  by_kind e (ExprKind-F.Unary op a) w sound all is reads asks =
+      (subst (λ t. GivesValue m input whole f p around false t (counted (low a)) (shader_run.told_by (meaning.counted (part a)))) (sym is.0) (lengths.length_is m input whole f p params locals call stage calls types vectors a sounds.0 is.1 asks)) (lengths.length_told m input whole f p params locals call stage calls types vectors a (type_of e))
+  by_kind e (ExprKind-F.Unary op a) w sound sounds all is reads asks =
       value_evaluates m input whole f p around (type_of e) (traits.of_one (low a).traits) _ _ sound refl (forms.unary_is m input whole f p params locals call stage calls types vectors op a (type_of e) all.0 is) (tell (ExprKind-F.Unary op a) (type_of e) all)
-  by_kind e (ExprKind-F.Binary op a b) w sound all is reads asks =
+  by_kind e (ExprKind-F.Binary op a b) w sound sounds all is reads asks =
       value_evaluates m input whole f p around (type_of e) (traits.of_two false (traits.is_sure op) (low a).traits (low b).traits) _ _ sound refl
       (subst (λ c. GivesValue m input whole f p around c (type_of e) (low_form (ExprKind-F.Binary op a b) (type_of e)).value (means_form setting (ExprKind-F.Binary op a b) (type_of e)).value) (sym (or_false ((low a).traits.splits || (low b).traits.splits)))
       (forms.binary_is m input whole f p params locals call stage calls types vectors op a b (type_of e) all.0 all.1.0 is)) (tell (ExprKind-F.Binary op a b) (type_of e) all)
-  by_kind e (ExprKind-F.Logic op a b) w sound all is reads asks =
+  by_kind e (ExprKind-F.Logic op a b) w sound sounds all is reads asks =
       value_evaluates m input whole f p around (type_of e) (traits.of_two (is_short op (low b).traits) true (low a).traits (low b).traits) (logical op (low a) (low b)) (logic_means op (part a).value (part b).value) sound refl
       (subst (λ u. GivesValue m input whole f p around ((low a).traits.splits || (low b).traits.splits || is_short op (low b).traits) u (logical op (low a) (low b)) (logic_means op (part a).value (part b).value)) (sym is.2)
       (forms.logic_is m input whole f p params locals call stage calls types vectors op a b all.0 all.1.0 is.0 is.1 asks)) (tell (ExprKind-F.Logic op a b) (type_of e) all)
-  by_kind e (ExprKind-F.Choose test a b) w sound all is reads asks =
+  by_kind e (ExprKind-F.Choose test a b) w sound sounds all is reads asks =
       value_evaluates m input whole f p around (type_of e) (traits.chosen (type_of e) (low test).traits (low a).traits (low b).traits) (chosen (type_of e) (low test) (low a) (low b)) (choice_means (part test).value (part a).value (part b).value) sound refl
       (forms.choice_is m input whole f p params locals call stage calls types vectors (type_of e) test a b sound all.0 all.1.0 all.1.1.0 is.0 is.1 is.2 is.3 asks) (tell (ExprKind-F.Choose test a b) (type_of e) all)
-  by_kind e (ExprKind-F.Assign a b) w sound all is reads asks =
+  by_kind e (ExprKind-F.Assign a b) w sound sounds all is reads asks =
       value_evaluates m input whole f p around (type_of e) (traits.of_two false false (low a).traits (low b).traits) _ _ sound refl
       (stored_or e (ExprKind-F.Assign a b) a w asks.1 (λ elsewhere. subst (λ c. GivesValue m input whole f p around c (type_of e) (low_form (ExprKind-F.Assign a b) (type_of e)).value (means_form setting (ExprKind-F.Assign a b) (type_of e)).value) (sym (or_false ((low a).traits.splits || (low b).traits.splits)))
       (forms.assign_is m input whole f p params locals call stage calls types vectors a b (type_of e) all.0 all.1.0 is.0 is.1 is.2 is.3 elsewhere asks.0))) (tell (ExprKind-F.Assign a b) (type_of e) all)
-  by_kind e (ExprKind-F.Update op a b) w sound all is reads asks =
+  by_kind e (ExprKind-F.Update op a b) w sound sounds all is reads asks =
       value_evaluates m input whole f p around (type_of e) (traits.of_two false false (low a).traits (low b).traits) _ _ sound refl
       (stored_or e (ExprKind-F.Update op a b) a w asks (λ elsewhere. subst (λ c. GivesValue m input whole f p around c (type_of e) (low_form (ExprKind-F.Update op a b) (type_of e)).value (means_form setting (ExprKind-F.Update op a b) (type_of e)).value) (sym (or_false ((low a).traits.splits || (low b).traits.splits)))
       (forms.update_is m input whole f p params locals call stage calls types vectors op a b (type_of e) all.0 all.1.0 is.0 is.2 is.3 elsewhere))) (tell (ExprKind-F.Update op a b) (type_of e) all)
-  by_kind e (ExprKind-F.Step op a) w sound all is reads asks =
+  by_kind e (ExprKind-F.Step op a) w sound sounds all is reads asks =
       value_evaluates m input whole f p around (type_of e) (traits.loud (low a).traits) _ _ sound refl
       (stored_or e (ExprKind-F.Step op a) a w asks (λ elsewhere. forms.step_is m input whole f p params locals call stage calls types vectors op a (type_of e) all.0 is.0 is.1 is.2 elsewhere)) (tell (ExprKind-F.Step op a) (type_of e) all)
-  by_kind e (ExprKind-F.Call n args) w sound all is reads asks =
-      value_evaluates m input whole f p around (type_of e) (traits.called (traits.together (map known_of (map low args)))) (call n (map low args) (type_of e)) (meaning.calling setting n (map part args)) sound refl (value_here e (ExprKind-F.Call n args) w (asks (same_all args all)))
-      (row_told args traits.called (means_form setting (ExprKind-F.Call n args) (type_of e)) (tell (ExprKind-F.Call n args) (type_of e) all))
-  by_kind e (ExprKind-F.Built which args) w sound all is reads asks =
+  by_kind e (ExprKind-F.Call n args) w sound sounds all is reads asks =
+      let every : AllAre args = subst AllAre (call_passed around n args (type_of e) is) all in
+      value_evaluates m input whole f p around (type_of e) (traits.called (traits.together (map known_of (map low args)))) (call n (map low args) (type_of e)) (meaning.calling setting n (map part args)) sound refl (value_here e (ExprKind-F.Call n args) w (asks (same_all args every)))
+      (row_told args traits.called (means_form setting (ExprKind-F.Call n args) (type_of e)) (tell (ExprKind-F.Call n args) (type_of e) every))
+  by_kind e (ExprKind-F.Built which args) w sound sounds all is reads asks =
       value_evaluates m input whole f p around (type_of e) (traits.loud (traits.together (map known_of (map low args)))) _ _ sound refl (forms.built_is m input whole f p params locals call stage calls types vectors which args (type_of e) all reads is)
       (row_told args traits.loud (means_form setting (ExprKind-F.Built which args) (type_of e)) (tell (ExprKind-F.Built which args) (type_of e) all))
-  by_kind e (ExprKind-F.Build args) w sound all is reads asks =
-      value_evaluates m input whole f p around (type_of e) (traits.built (type_of e) (traits.together (map known_of (map low args)))) _ _ sound refl (forms.build_is m input whole f p params locals call stage calls types vectors args (type_of e) sound all reads asks is)
+  by_kind e (ExprKind-F.Build args) w sound sounds all is reads asks =
+      value_evaluates m input whole f p around (type_of e) (traits.built (type_of e) (traits.together (map known_of (map low args)))) _ _ sound refl (forms.build_is m input whole f p params locals call stage calls types vectors args (type_of e) sound all reads (parts_real p types.program params locals args (type_of e) is) is)
       (row_told args (traits.built (type_of e)) (means_form setting (ExprKind-F.Build args) (type_of e)) (tell (ExprKind-F.Build args) (type_of e) all))
-  by_kind e (ExprKind-F.Convert a) w sound all is reads asks =
+  by_kind e (ExprKind-F.Convert a) w sound sounds all is reads asks =
       value_evaluates m input whole f p around (type_of e) (traits.of_one (low a).traits) _ _ sound refl (forms.convert_is m input whole f p params locals call stage calls types vectors a (type_of e) all.0 is.0 is.1) (tell (ExprKind-F.Convert a) (type_of e) all)
-  by_kind e (ExprKind-F.Comma items) w sound all is reads asks =
+  by_kind e (ExprKind-F.Comma items) w sound sounds all is reads asks =
       value_evaluates m input whole f p around (type_of e) (traits.loud (traits.together (map known_of (map low items)))) _ _ sound refl (forms.comma_is m input whole f p params locals call stage calls types vectors items (type_of e) all reads is.1)
       (row_told items traits.loud (means_form setting (ExprKind-F.Comma items) (type_of e)) (tell (ExprKind-F.Comma items) (type_of e) all))
 
-  one_is : (e : Expr) → IsNode around e → IsSound count (type_of e) → quiet.AsksHere m input whole f p params locals call stage calls types vectors e (form_of e) → AllAre (parts_of (form_of e)) → Is e
-  one_is e node sound asks all =
+  one_is : (e : Expr) → IsNode around e → IsSound count (type_of e) → AllByRecursion Sound (parts_of (form_of e)) → quiet.AsksHere m input whole f p params locals call stage calls types vectors e (form_of e) → AllAre (lowered_parts p.prototypes (form_of e)) → Is e
+  one_is e node sound sounds asks all =
       subst (λ (b : Bool). Evaluates m input whole f p around (b && not (in_block e)) (in_block e) (type_of e) (low e) (part e)) (sym (write_is e))
       (subst (λ (b : Bool). Evaluates m input whole f p around (may_write (form_of e) && not b) b (type_of e) (low e) (part e)) (sym (blocked_is e))
       (subst (λ (l : Lower). Evaluates m input whole f p around (may_write (form_of e) && not (is_blocked (form_of e))) (is_blocked (form_of e)) (type_of e) l (part e)) (sym (low_is e))
       (subst (λ (x : Meant). Evaluates m input whole f p around (may_write (form_of e) && not (is_blocked (form_of e))) (is_blocked (form_of e)) (type_of e) (low_form (form_of e) (type_of e)) x) (sym (part_is setting e))
-      (by_kind e (form_of e) (record { lowered = low_is e; meant = part_is setting e; writes = write_is e; blocked = blocked_is e }) sound all node.type node.reads asks))))
+      (by_kind e (form_of e) (record { lowered = low_is e; meant = part_is setting e; writes = write_is e; blocked = blocked_is e }) sound sounds all node.type node.reads asks))))
 
   mutual
-    evaluated : (e : Expr) → Throughout (IsNode around) e → Throughout (λ (x : Expr). IsSound count (type_of x)) e → Throughout (Asks m input whole f p params locals call stage calls) e → Is e
-    evaluated _ (Throughout.whole e node parts) (Throughout.whole _ sound sounds) (Throughout.whole _ ask asks) =
-        one_is e node sound (quiet.asked m input whole f p params locals call stage calls types vectors e (form_of e) node.type parts sounds ask) (all_evaluated (parts_of (form_of e)) parts sounds asks)
+    evaluated : (e : Expr) → ThroughoutLowered p.prototypes (Asks m input whole f p params locals call stage calls) e → Throughout (IsNode around) e → Throughout Sound e → Is e
+    evaluated _ (ThroughoutLowered.whole e ask asks) (Throughout.whole _ node parts) (Throughout.whole _ sound sounds) =
+        one_is e node sound (tops Sound (parts_of (form_of e)) sounds) (quiet.asked m input whole f p params locals call stage calls types vectors e (form_of e) node.type parts sounds ask)
+        (all_evaluated (lowered_parts p.prototypes (form_of e)) asks (parts_throughout p.prototypes (IsNode around) (form_of e) parts) (parts_throughout p.prototypes Sound (form_of e) sounds))
 
-    all_evaluated : (es : List Expr) → ThroughoutAll (IsNode around) es → ThroughoutAll (λ (x : Expr). IsSound count (type_of x)) es → ThroughoutAll (Asks m input whole f p params locals call stage calls) es → AllAre es
-    all_evaluated _ ThroughoutAll.none sounds asks = tt
-    all_evaluated _ (ThroughoutAll.more e es is rest) (ThroughoutAll.more _ _ sound sounds) (ThroughoutAll.more _ _ ask asks) = (evaluated e is sound ask, all_evaluated es rest sounds asks)
+    all_evaluated : (es : List Expr) → ThroughoutAllLowered p.prototypes (Asks m input whole f p params locals call stage calls) es → ThroughoutAll (IsNode around) es → ThroughoutAll Sound es → AllAre es
+    all_evaluated _ ThroughoutAllLowered.none nodes sounds = tt
+    all_evaluated _ (ThroughoutAllLowered.more e es ask asks) (ThroughoutAll.more _ _ is rest) (ThroughoutAll.more _ _ sound sounds) = (evaluated e ask is sound, all_evaluated es asks rest sounds)
 
   -- a call has its value where what it is lowered to gives that
   called_value : (e : Expr) (number : ℕ) (args : List Expr) → form_of e ≡ ExprKind-F.Call number args → GivesValue m input whole f p around (any_splits (map low args)) (type_of e) (call number (map low args) (type_of e)) (meaning.calling setting number (map part args))
@@ -276,9 +283,9 @@ module _ (m : Module) (input : Input) (whole : Sections) (f : Frame m input whol
       (forms.row_gives m input whole f p params locals call stage calls types vectors args (type_of e) (call number (map low args) (type_of e)) (meaning.calling setting number (map part args)) gives))
 
 pub expr_evaluates : (m : Module) (input : Input) (whole : Sections) (f : Frame m input whole) (p : Program) (params : List (Direction × Ty)) (locals : List Ty) (call : ℕ → List Lower → Ty → Emit ℕ) (stage : StageVar → Value) (calls : Calls) (e : Expr) → IsTyped p params locals → NoVectors m input whole f
-    → IsExpr (around_body (program_lists p) params locals) e → Throughout (λ (x : Expr). IsSound (length p.structs) (type_of x)) e → Throughout (Asks m input whole f p params locals call stage calls) e → IsEvaluated m input whole f p params locals call stage calls e
+    → IsExpr (around_body (program_lists p) params locals) e → Throughout (λ (x : Expr). IsSound (length p.structs) (type_of x)) e → ThroughoutLowered p.prototypes (Asks m input whole f p params locals call stage calls) e → IsEvaluated m input whole f p params locals call stage calls e
 unfolding lowers means
-expr_evaluates m input whole f p params locals call stage calls e types vectors is sound asks = evaluated m input whole f p params locals call stage calls types vectors e is sound asks
+expr_evaluates m input whole f p params locals call stage calls e types vectors is sound asks = evaluated m input whole f p params locals call stage calls types vectors e asks is sound
 
 pub call_has_value : (m : Module) (input : Input) (whole : Sections) (f : Frame m input whole) (p : Program) (params : List (Direction × Ty)) (locals : List Ty) (call : ℕ → List Lower → Ty → Emit ℕ) (stage : StageVar → Value) (calls : Calls) (e : Expr) (number : ℕ) (args : List Expr) → IsTyped p params locals → NoVectors m input whole f
     → form_of e ≡ ExprKind-F.Call number args

@@ -1,5 +1,5 @@
 -- What it is for a whole expression, as it is lowered, to do what it does, and what is asked of expressions for it (GLSL 4.50, chapter 5).
-use Rattle.std.specs.Prelude.{◌≡◌, ◌≢◌, ℕ, ◌≤◌, ◌<◌, ◌^◌, ◌⊎◌, Bool, true, false, not, ◌&&◌, List, [], ◌∷◌, length, slice_get, Some, None}
+use Rattle.std.specs.Prelude.{◌≡◌, ◌≢◌, ℕ, Bool, true, false, not, ◌&&◌, List, [], ◌∷◌, length, slice_get, Some, None}
 use Rattle.std.specs.List.{AllByRecursion}
 use Rattle.gsl_base.specs.declared.input.Input.{Input}
 use Rattle.gsl_types.specs.Known.{IsSound}
@@ -13,7 +13,6 @@ use Rattle.gsl_values.specs.declared.value.Value.{Value}
 use Rattle.gsl_values.specs.declared.value.Value.TheVariants.{Word}
 use Rattle.gsl_tree.specs.Around.{Around}
 use Rattle.gsl_tree.specs.Expressions.{is_runtime_layer}
-use Rattle.gsl_tree.specs.Operations.{has_fixed_length, length_of}
 use Rattle.gsl_tree.specs.Paths.{in_block, is_writable}
 use Rattle.gsl_tree.specs.Shapes.{shape_of}
 use Rattle.gsl_tree.specs.Trees.{Throughout, form_of, type_of}
@@ -105,24 +104,26 @@ module _ (m : Module) (input : Input) (whole : Sections) (f : Frame m input whol
   abbrev pub IsReadWhole : Expr → Type 0
   IsReadWhole e = in_block e ≡ true → shape_of (type_of e) ≡ None → is_runtime_layer (out-Ty (type_of e)) ≡ false → HasValue e
 
-  -- What is asked of an expression by its form: of names of members of blocks, that the module and the function know the block; of structs and arrays in blocks, that they are read whole; of what is stored in
-  -- blocks, and of calls, that they do what they do where their parts do; of an index that calls functions, too; of lengths of runtime arrays in operands that may be evaluated where they do not count, that they are
-  -- there; of built-in variables, that the module has them; of lengths, that they are words; of swizzles, that they have their words; of the type of what is assigned to, that it has a value; and of the
-  -- arguments of a constructor, that they have values.
+  -- a runtime array that has its length taken is a member of a block that the module and the function know
+  abbrev pub AsksLengthOf : Expr → ExprKind-F ExprKind Expr → Type 0
+  AsksLengthOf a (ExprKind-F.BlockMember block number) = is_runtime_layer (out-Ty (type_of a)) ≡ true → KnowsMember m input whole f p around block number (type_of a)
+  AsksLengthOf a _ = Unit {0}
+
+  -- What is asked of an expression by its form: of names of members of blocks, that the module and the function know the block, and of their lengths, too; of structs and arrays in blocks, that they are read whole; of
+  -- what is stored in blocks, and of calls, that they do what they do where their parts do; of lengths of runtime arrays in operands that may be evaluated where they do not
+  -- count, that they are there; of built-in variables, that the module has them; and of the type of what is assigned to, that it has a value.
   abbrev pub AsksFor : Expr → ExprKind-F ExprKind Expr → Type 0
   AsksFor e (ExprKind-F.BlockMember block number) = IsReadWhole e × KnowsMember m input whole f p around block number (type_of e)
   AsksFor e (ExprKind-F.Stage var) = KnowsStage m input whole f stage var
   AsksFor e (ExprKind-F.Member a number) = IsReadWhole e
-  AsksFor e (ExprKind-F.Index a i) = IsReadWhole e × (((low i).traits.calls ≡ false) ⊎ (IsEvaluated a → IsEvaluated i → IsEvaluated e))
-  AsksFor e (ExprKind-F.Swizzle a lanes) = lanes.count ≤ length lanes.words
-  AsksFor e (ExprKind-F.Length a) = has_fixed_length (type_of a) ≡ true → length_of (type_of a) < 2 ^ 32
+  AsksFor e (ExprKind-F.Index a i) = IsReadWhole e
+  AsksFor e (ExprKind-F.Length a) = AsksLengthOf a (form_of a)
   AsksFor e (ExprKind-F.Logic op a b) = IsShort op → is_short op (low b).traits ≡ false → AllThere b
   AsksFor e (ExprKind-F.Choose test a b) = is_selected (type_of e) (low a).traits (low b).traits ≡ true → AllThere a × AllThere b
   AsksFor e (ExprKind-F.Assign a b) = ((v : Value) × (is_value_of p.structs (type_of a) v ≡ true)) × (in_block a ≡ true → HasValue e)
   AsksFor e (ExprKind-F.Update op a b) = in_block a ≡ true → HasValue e
   AsksFor e (ExprKind-F.Step op a) = in_block a ≡ true → HasValue e
   AsksFor e (ExprKind-F.Call number args) = AllEvaluated args → HasValue e
-  AsksFor e (ExprKind-F.Build args) = AllByRecursion (λ (arg : Expr). type_of arg ≢ ty.Void) args
   AsksFor e _ = Unit {0}
 
   abbrev pub Asks : Expr → Type 0

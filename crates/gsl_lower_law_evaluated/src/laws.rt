@@ -18,9 +18,10 @@ ghost use Rattle.gsl_spv.specs.Sections.{Sections};
 ghost use Rattle.gsl_lower_holders.specs.Flow.{Emit};
 ghost use Rattle.gsl_lower_expr.specs.Parts.{Lower};
 ghost use Rattle.gsl_lower_follows.specs.Frames.{Frame};
+ghost use Rattle.gsl_lower_used.specs.Lowered.{ThroughoutLowered};
 ghost use Rattle.gsl_lower_law_evaluated.specs.Evaluating.{Asks, IsEvaluated, IsTyped, NoVectors};
 
-/// A well typed expression, as it is lowered, gives its value and leads where it does, wherever it stands: one recursion over all kinds of expressions.
+/// A well typed expression, as it is lowered, gives its value and leads where it does, wherever it stands: one recursion over all kinds of expressions. Nothing is asked of what `.length()` is taken of, which is not evaluated.
 pub fn expressions_evaluate()
-    ensures { (m : Module) (input : Input) (whole : Sections) (f : Frame m input whole) (p : Program) (params : List (Direction × Ty)) (locals : List Ty) (call : ℕ → List Lower → Ty → Emit ℕ) (stage : StageVar → Value) (calls : Calls) (e : Expr) → IsTyped p params locals → NoVectors m input whole f → IsExpr (around_body (program_lists p) params locals) e → Throughout (λ (part : Expr). IsSound (length p.structs) (type_of part)) e → Throughout (Asks m input whole f p params locals call stage calls) e → IsEvaluated m input whole f p params locals call stage calls e }
+    ensures { (m : Module) (input : Input) (whole : Sections) (f : Frame m input whole) (p : Program) (params : List (Direction × Ty)) (locals : List Ty) (call : ℕ → List Lower → Ty → Emit ℕ) (stage : StageVar → Value) (calls : Calls) (e : Expr) → IsTyped p params locals → NoVectors m input whole f → IsExpr (around_body (program_lists p) params locals) e → Throughout (λ (part : Expr). IsSound (length p.structs) (type_of part)) e → ThroughoutLowered p.prototypes (Asks m input whole f p params locals call stage calls) e → IsEvaluated m input whole f p params locals call stage calls e }
 {}

@@ -7,7 +7,8 @@ use Rattle.gsl_tree.specs.declared.unit.Prototype.{Prototype}
 use Rattle.gsl_lower_needs.specs.declared.need.Need.{Need}
 use Rattle.gsl_lower_flow.specs.Programs.{asked_all, asked_if, program_needs}
 use Rattle.gsl_lower_flow.specs.Reaching.{is_lowered}
-use Rattle.gsl_lower_law_needs.specs.Used.{AlongAllLowered, AreAsked, up_to_jump}
+use Rattle.gsl_lower_used.specs.Lowered.{AlongAllLowered, up_to_jump}
+use Rattle.gsl_lower_law_needs.specs.Used.{AreAsked}
 use Rattle.gsl_lower_law_needs.proofs.Covering.{Covers, Grows, covers_first, covers_then, grows_given, grows_then}
 use Rattle.gsl_lower_law_needs.proofs.Statements.{row_covered}
 

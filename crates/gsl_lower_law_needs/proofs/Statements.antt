@@ -12,7 +12,8 @@ use Rattle.gsl_tree.specs.declared.unit.Prototype.{Prototype}
 use Rattle.gsl_lower_needs.specs.declared.need.Need.{Need}
 use Rattle.gsl_lower_needs.specs.Asking.{Ask}
 use Rattle.gsl_lower_needs.specs.Bodies.{AskingStmt, any_leaves, arm_by, arm_leaves_by, arms_in_turn, evaluated, if_any, in_turn, leaves, leaves_by, looped, row, stmt_asked, stmt_by, unless}
-use Rattle.gsl_lower_law_needs.specs.Used.{AlongAllLowered, AlongLowered, AreAsked, IsAsked, ThroughoutLowered, lowered_bodies, lowered_inner, up_to_jump}
+use Rattle.gsl_lower_used.specs.Lowered.{AlongAllLowered, AlongLowered, ThroughoutLowered, lowered_bodies, lowered_inner, up_to_jump}
+use Rattle.gsl_lower_law_needs.specs.Used.{AreAsked, IsAsked}
 use Rattle.gsl_lower_law_needs.proofs.Covering.{Covers, covers_both, covers_first, covers_map, covers_plain, grows_given}
 use Rattle.gsl_lower_law_needs.proofs.Whole.{expr_covered}
 

@@ -11,7 +11,8 @@ use Rattle.gsl_tree.specs.declared.expr.ExprKind.TheViews.{out-roll-Expr, out-ro
 use Rattle.gsl_tree.specs.declared.unit.Prototype.{Prototype}
 use Rattle.gsl_lower_needs.specs.declared.need.Need.{Need}
 use Rattle.gsl_lower_needs.specs.Needs.{Asking, any_splits, asked_by, asks, keeps, passing_all, sequence, typed_by}
-use Rattle.gsl_lower_law_needs.specs.Used.{IsAsked, IsAskedFor, ThroughoutAllLowered, ThroughoutLowered, lowered_parts, passed}
+use Rattle.gsl_lower_used.specs.Lowered.{ThroughoutAllLowered, ThroughoutLowered, lowered_parts, passed}
+use Rattle.gsl_lower_law_needs.specs.Used.{IsAsked, IsAskedFor}
 use Rattle.gsl_lower_law_needs.proofs.Covering.{Covers, covers_both, covers_first, covers_map, covers_need, covers_plain, covers_then, grows_given}
 use Rattle.gsl_lower_law_needs.proofs.Parts.{Covered, covered_constant, covered_giving, covered_leading, covered_map, covers_assigned, covers_chosen, covers_indexed, covers_logical, covers_passing, covers_two, covers_updated, grows_built_of, grows_hold, grows_reads}
 

@@ -6,7 +6,8 @@ ghost use Rattle.gsl_tree.specs.declared.program.Program.{Program};
 ghost use Rattle.gsl_tree.specs.declared.unit.Function.{Function};
 ghost use Rattle.gsl_lower_flow.specs.Programs.{program_needs};
 ghost use Rattle.gsl_lower_flow.specs.Reaching.{is_lowered};
-ghost use Rattle.gsl_lower_law_needs.specs.Used.{AlongAllLowered, AreAsked, up_to_jump};
+ghost use Rattle.gsl_lower_used.specs.Lowered.{AlongAllLowered, up_to_jump};
+ghost use Rattle.gsl_lower_law_needs.specs.Used.{AreAsked};
 
 /// In each function that is lowered, the program asks for each built-in variable in what is lowered of its body,
 /// well typed or not.

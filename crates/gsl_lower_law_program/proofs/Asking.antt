@@ -25,6 +25,8 @@ use Rattle.gsl_tree.specs.declared.unit.Function.{Function}
 use Rattle.gsl_link_calls.specs.Ranks.{IsIn}
 use Rattle.gsl_spv.specs.Sections.{Sections}
 use Rattle.gsl_lower_holders.specs.declared.place.FlowPlace.{FlowPlace}
+use Rattle.gsl_lower_used.specs.Lowered.{AlongAllLowered, AlongLowered, ThroughoutAllLowered, ThroughoutLowered, lowered_inner, lowered_parts, up_to_jump}
+use Rattle.gsl_lower_used.proofs.Within.{body_along, inner_all, inner_along, parts_all, parts_throughout, up_to_all}
 use Rattle.gsl_lower_follows.specs.Frames.{Frame}
 use Rattle.gsl_lower_law_shader.specs.Depths.{AreAsked, AreAskedOf, AsksBelow, AsksBelowFor, MayCall}
 use Rattle.gsl_lower_law_shader.specs.Asked.{AreAskedElseOf, AsksElse, AsksElseFor}
@@ -180,30 +182,38 @@ module _ (m : Module) (input : Input) (whole : Sections) (p : Program) (place : 
   one_asked e form all assigned ask = ask
 
   mutual
-    asked : (e : Expr) → AllIn May (calls_in e) → Throughout (IsKnown p) e → Throughout Else e → Throughout Wanted e
-    asked _ all (Throughout.whole _ known behind) (Throughout.whole e ask asks) =
+    asked : (e : Expr) → ThroughoutLowered p.prototypes Else e → AllIn May (calls_in e) → Throughout (IsKnown p) e → ThroughoutLowered p.prototypes Wanted e
+    asked _ (ThroughoutLowered.whole e ask asks) all (Throughout.whole _ known behind) =
         let here : AllIn May (calls_form May (form_of e)) = λ n is. all n (subst (λ l. IsIn l n) (sym (calls_at May e)) is) in
-        Throughout.whole e (one_asked e (form_of e) here known.assigned ask) (all_asked (parts_of (form_of e)) (parts_in May (form_of e) here) behind asks)
+        ThroughoutLowered.whole e (one_asked e (form_of e) here known.assigned ask)
+        (all_asked (lowered_parts p.prototypes (form_of e)) asks (parts_all p.prototypes (λ part. AllIn May (calls_in part)) (form_of e) (parts_in May (form_of e) here)) (parts_throughout p.prototypes (IsKnown p) (form_of e) behind))
 
-    all_asked : (es : List Expr) → AllOf May calls_in es → ThroughoutAll (IsKnown p) es → ThroughoutAll Else es → ThroughoutAll Wanted es
-    all_asked _ all ThroughoutAll.none ThroughoutAll.none = ThroughoutAll.none
-    all_asked _ all (ThroughoutAll.more _ _ known behind) (ThroughoutAll.more e es ask asks) = ThroughoutAll.more e es (asked e all.0 known ask) (all_asked es all.1 behind asks)
+    all_asked : (es : List Expr) → ThroughoutAllLowered p.prototypes Else es → AllOf May calls_in es → ThroughoutAll (IsKnown p) es → ThroughoutAllLowered p.prototypes Wanted es
+    all_asked _ ThroughoutAllLowered.none all known = ThroughoutAllLowered.none
+    all_asked _ (ThroughoutAllLowered.more e es ask asks) all (ThroughoutAll.more _ _ known behind) = ThroughoutAllLowered.more e es (asked e ask all.0 known) (all_asked es asks all.1 behind)
 
-  exprs_asked : (es : List Expr) → AllOf May calls_in es → AllByRecursion (Throughout (IsKnown p)) es → AllByRecursion (Throughout Else) es → AllByRecursion (AreAsked m input whole p place stages rank below depth f params locals) es
+  exprs_asked : (es : List Expr) → AllOf May calls_in es → AllByRecursion (Throughout (IsKnown p)) es → AllByRecursion (ThroughoutLowered p.prototypes Else) es → AllByRecursion (AreAsked m input whole p place stages rank below depth f params locals) es
   exprs_asked [] all known asks = tt
-  exprs_asked (e ∷ es) all known asks = (record { sound = sound_in p e known.0; asks = asked e all.0 known.0 asks.0 }, exprs_asked es all.1 known.1 asks.1)
+  exprs_asked (e ∷ es) all known asks = (record { sound = sound_in p e known.0; asks = asked e asks.0 all.0 known.0 }, exprs_asked es all.1 known.1 asks.1)
+
+  abbrev Elsewhere : Exits → Stmt → Type 0
+  Elsewhere = AreAskedElseOf m input whole p place stages depth f params locals
+
+  abbrev Below : Exits → Stmt → Type 0
+  Below = AreAskedOf m input whole p place stages rank below depth f params locals
 
   mutual
-    along : (exits : Exits) (s : Stmt) → AllIn May (stmt_calls s) → Along (AreKnown p) exits s → Along (AreAskedElseOf m input whole p place stages depth f params locals) exits s → Along (AreAskedOf m input whole p place stages rank below depth f params locals) exits s
-    along _ _ all (Along.whole _ _ known within) (Along.whole exits s asks inner) =
+    along : (exits : Exits) (s : Stmt) → AlongLowered Elsewhere exits s → AllIn May (stmt_calls s) → Along (AreKnown p) exits s → AlongLowered Below exits s
+    along _ _ (AlongLowered.whole exits s asks inner) all (Along.whole _ _ known within) =
         let here : AllIn May (calls_stmt_form May (out-Stmt s)) = λ n is. all n (subst (λ l. IsIn l n) (sym (stmt_at May s)) is) in
-        Along.whole exits s (exprs_asked (exprs_of (out-Stmt s)) (exprs_in May (out-Stmt s) here) known asks) (all_along (inner_of exits (out-Stmt s)) (inner_in May exits (out-Stmt s) here) within inner)
+        AlongLowered.whole exits s (exprs_asked (exprs_of (out-Stmt s)) (exprs_in May (out-Stmt s) here) known asks)
+        (all_along (lowered_inner exits (out-Stmt s)) inner (inner_all (λ (one : Placed). AllIn May (stmt_calls one.1)) exits (out-Stmt s) (inner_in May exits (out-Stmt s) here)) (inner_along (AreKnown p) exits (out-Stmt s) within))
 
-    all_along : (placed : List Placed) → InEach May placed → AlongAll (AreKnown p) placed → AlongAll (AreAskedElseOf m input whole p place stages depth f params locals) placed → AlongAll (AreAskedOf m input whole p place stages rank below depth f params locals) placed
-    all_along _ all AlongAll.none AlongAll.none = AlongAll.none
-    all_along _ all (AlongAll.more _ _ known behind) (AlongAll.more one rest first later) = AlongAll.more one rest (along one.0 one.1 all.0 known first) (all_along rest all.1 behind later)
+    all_along : (placed : List Placed) → AlongAllLowered Elsewhere placed → InEach May placed → AlongAll (AreKnown p) placed → AlongAllLowered Below placed
+    all_along _ AlongAllLowered.none all known = AlongAllLowered.none
+    all_along _ (AlongAllLowered.more one rest first later) all (AlongAll.more _ _ known behind) = AlongAllLowered.more one rest (along one.0 one.1 first all.0 known) (all_along rest later all.1 behind)
 
   -- of a function's body
-  pub body_asked : (tree : Function) → ((n : ℕ) → IsIn (calls_of tree) n → May n) → AlongAll (AreKnown p) (with_exits outside tree.body) → AlongAll (AreAskedElseOf m input whole p place stages depth f params locals) (with_exits outside tree.body)
-      → AlongAll (AreAskedOf m input whole p place stages rank below depth f params locals) (with_exits outside tree.body)
-  body_asked tree all known asks = all_along (with_exits outside tree.body) (placed_in May outside tree.body (each_of May stmt_calls tree.body all)) known asks
+  pub body_asked : (tree : Function) → ((n : ℕ) → IsIn (calls_of tree) n → May n) → AlongAll (AreKnown p) (with_exits outside tree.body) → AlongAllLowered Elsewhere (with_exits outside (up_to_jump tree.body)) → AlongAllLowered Below (with_exits outside (up_to_jump tree.body))
+  body_asked tree all known asks =
+      all_along (with_exits outside (up_to_jump tree.body)) asks (up_to_all (λ (one : Placed). AllIn May (stmt_calls one.1)) outside tree.body (placed_in May outside tree.body (each_of May stmt_calls tree.body all))) (body_along (AreKnown p) outside tree.body known)

@@ -10,7 +10,7 @@ use Rattle.gsl_words.specs.declared.module.Module.{Module}
 use Rattle.gsl_words.specs.declared.target.Target.{Target}
 use Rattle.gsl_values.specs.declared.value.Value.{Value}
 use Rattle.gsl_tree.specs.Statements.{IsBody}
-use Rattle.gsl_tree.specs.Trees.{AlongAll, outside, with_exits}
+use Rattle.gsl_tree.specs.Trees.{outside, with_exits}
 use Rattle.gsl_tree.specs.Values.{zero_value}
 use Rattle.gsl_tree.specs.Weights.{calls_of}
 use Rattle.gsl_tree.specs.WellTyped.{IsFunction as IsTypedFunction, IsProgram, around_body, program_lists}
@@ -45,6 +45,7 @@ use Rattle.gsl_lower_law.specs.Values.{Keeps}
 use Rattle.gsl_lower_holders.specs.Flow.{Flow, Gives}
 use Rattle.gsl_lower_flow.specs.Reaching.{head_of, is_lowered, is_reached, main_head}
 use Rattle.gsl_link_calls.specs.Calls.{reaches}
+use Rattle.gsl_lower_used.specs.Lowered.{AlongAllLowered, up_to_jump}
 use Rattle.gsl_lower_follows.specs.Frames.{AreTyped, Frame, Global, Good, HasType, Holder, Inside, Interface, Local, Name, Param, Stage, coming, id_of, type_named, value_of}
 use Rattle.gsl_lower_follows.specs.Stretching.{Stretch}
 use Rattle.gsl_lower_follows.proofs.Behind.{faults_behind}
@@ -406,7 +407,7 @@ module _ (target : Target) (p : Program) (program : IsProgram p) (nests : MayNes
         body = body_is;
         knows = knows_types target p program nests main flow valid h input stages frame frame_is;
         asks = body_asked m input whole p h.place stages (rank_of p) most_calls most_calls frame [] tree.locals tree may (body_known p program [] tree.locals tt typed_main.locals Void tree.body body_is)
-            (subst (λ params. AlongAll (AreAskedElseOf m input whole p h.place stages most_calls frame params tree.locals) (with_exits outside tree.body)) program.bare
+            (subst (λ params. AlongAllLowered (AreAskedElseOf m input whole p h.place stages most_calls frame params tree.locals) (with_exits outside (up_to_jump tree.body))) program.bare
             (asked tree.prototype head tree (main_at.found ∙ ap Some same_tree) reached_main program.head most_calls frame frame_is));
       }
 

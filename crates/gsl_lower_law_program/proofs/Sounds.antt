@@ -106,7 +106,7 @@ module _ (p : Program) (program : IsProgram p) (params : List (Direction × Ty))
   assigned_by form t is sound parts = tt
 
   mutual
-    known_in : (e : Expr) → Throughout (IsNode (around scene)) e → Throughout (IsKnown p) e
+    pub known_in : (e : Expr) → Throughout (IsNode (around scene)) e → Throughout (IsKnown p) e
     known_in _ (Throughout.whole e node parts) =
         Throughout.whole e (record {
           sound = type_sound scene fine e (Throughout.whole e node parts);

@@ -1,3 +1,4 @@
 pub mod Standing
 pub mod Ranks
 pub mod Alike
+pub mod Shaders

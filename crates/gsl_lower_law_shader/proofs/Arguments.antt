@@ -4,7 +4,7 @@ use Rattle.std.specs.Prelude.{unwrap_or}
 use Rattle.std.specs.List.{AllByRecursion}
 use Rattle.gsl_base.specs.declared.input.Input.{Input}
 use Rattle.gsl_types.specs.Conversions.{converts, converts_open}
-use Rattle.gsl_types.specs.Known.{IsSound}
+use Rattle.gsl_types.specs.Known.{IsSound, is_plain, is_plain_kind}
 use Rattle.gsl_types.specs.declared.ty.Direction.{Direction}
 use Rattle.gsl_types.specs.declared.ty.Direction.TheVariants.{In, Out, InOut}
 use Rattle.gsl_types.specs.declared.ty.Scalar.{Scalar}
@@ -23,7 +23,7 @@ use Rattle.gsl_tree.specs.Shapes.{Shape, shape_kind, shape_of}
 use Rattle.gsl_tree.specs.Trees.{form_of, type_of}
 use Rattle.gsl_tree.specs.Values.{is_value_of, zero_value}
 use Rattle.gsl_tree.specs.Weights.{params_of}
-use Rattle.gsl_tree.specs.WellTyped.{IsPrototype, IsVariableType, around_body, is_plain, is_plain_kind, program_lists}
+use Rattle.gsl_tree.specs.WellTyped.{IsPrototype, IsVariableType, around_body, program_lists}
 use Rattle.gsl_tree.specs.declared.expr.Expr.{Expr}
 use Rattle.gsl_tree.specs.declared.expr.ExprKind.TheOpen.{ExprKind-F}
 use Rattle.gsl_tree.specs.declared.expr.StageVar.{StageVar}

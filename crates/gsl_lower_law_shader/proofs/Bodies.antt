@@ -14,7 +14,7 @@ use Rattle.gsl_tree.specs.Around.{Around}
 use Rattle.gsl_tree.specs.Expressions.{IsExpr, IsIndex, MayBeRead, boolean, is_runtime_layer}
 use Rattle.gsl_tree.specs.Shapes.{shape_of}
 use Rattle.gsl_tree.specs.Statements.{IsBody, IsLoop, IsStep as IsTypedStep, MayStand, Returns as MayReturn}
-use Rattle.gsl_tree.specs.Trees.{Along, AlongAll, Exits, Placed, exprs_of, inner_of, or_nothing, outside, type_of, with_exits}
+use Rattle.gsl_tree.specs.Trees.{Along, AlongAll, Exits, Placed, exprs_of, or_nothing, outside, type_of, with_exits}
 use Rattle.gsl_tree.specs.Values.{zero_value}
 use Rattle.gsl_tree.specs.WellTyped.{IsVariableType, around_body, program_lists}
 use Rattle.gsl_tree.specs.declared.expr.Expr.{Expr}
@@ -36,6 +36,8 @@ use Rattle.gsl_lower_expr.specs.Parts.{Lower}
 use Rattle.gsl_lower_needs.specs.Bodies.{any_leaves}
 use Rattle.gsl_lower_stmt.specs.Lowering.{initial, lowers_stmt, value_of}
 use Rattle.gsl_lower_stmt.specs.Parts.{LowerStmt, in_turn}
+use Rattle.gsl_lower_used.specs.Lowered.{AlongAllLowered, AlongLowered, lowered_inner, up_to_jump}
+use Rattle.gsl_lower_used.proofs.Within.{body_along, inner_along}
 use Rattle.gsl_lower_follows.specs.Frames as name
 use Rattle.gsl_lower_follows.specs.Frames.{Frame}
 use Rattle.gsl_lower_follows.specs.Giving.{GivesValue}
@@ -152,15 +154,16 @@ module _ (m : Module) (input : Input) (whole : Sections) (f : Frame m input whol
   by_form exits Stmt-F.Discard is typed reads asks = tt
 
   mutual
-    along : (exits : Exits) (s : Stmt) → Along (IsTypedStep around f.result) exits s → Along (AsksOf m input whole f p params locals call stage calls) exits s → Along (AsksAt m input whole f p around lower means locals) exits s
-    along _ _ (Along.whole exits s step inner) (Along.whole _ _ asks others) = Along.whole exits s (by_form exits (out-Stmt s) step.stands step.typed step.reads asks) (all_along (inner_of exits (out-Stmt s)) inner others)
+    along : (exits : Exits) (s : Stmt) → AlongLowered (AsksOf m input whole f p params locals call stage calls) exits s → Along (IsTypedStep around f.result) exits s → AlongLowered (AsksAt m input whole f p around lower means locals) exits s
+    along _ _ (AlongLowered.whole exits s asks others) (Along.whole _ _ step inner) =
+        AlongLowered.whole exits s (by_form exits (out-Stmt s) step.stands step.typed step.reads asks) (all_along (lowered_inner exits (out-Stmt s)) others (inner_along (IsTypedStep around f.result) exits (out-Stmt s) inner))
 
-    all_along : (placed : List Placed) → AlongAll (IsTypedStep around f.result) placed → AlongAll (AsksOf m input whole f p params locals call stage calls) placed → AlongAll (AsksAt m input whole f p around lower means locals) placed
-    all_along _ AlongAll.none others = AlongAll.none
-    all_along _ (AlongAll.more one rest first later) (AlongAll.more _ _ ask asks) = AlongAll.more one rest (along one.0 one.1 first ask) (all_along rest later asks)
+    all_along : (placed : List Placed) → AlongAllLowered (AsksOf m input whole f p params locals call stage calls) placed → AlongAll (IsTypedStep around f.result) placed → AlongAllLowered (AsksAt m input whole f p around lower means locals) placed
+    all_along _ AlongAllLowered.none steps = AlongAllLowered.none
+    all_along _ (AlongAllLowered.more one rest ask asks) (AlongAll.more _ _ first later) = AlongAllLowered.more one rest (along one.0 one.1 ask first) (all_along rest asks later)
 
 pub typed_body_does : (m : Module) (input : Input) (whole : Sections) (f : Frame m input whole) (p : Program) (params : List (Direction × Ty)) (locals : List Ty) (call : ℕ → List Lower → Ty → Emit ℕ) (stage : StageVar → Value) (calls : Calls) (ss : List Stmt) → IsTyped p params locals → KnowsTypes m input whole f p
-    → IsBody (around_body (program_lists p) params locals) f.result ss → AlongAll (AsksOf m input whole f p params locals call stage calls) (with_exits outside ss)
+    → IsBody (around_body (program_lists p) params locals) f.result ss → AlongAllLowered (AsksOf m input whole f p params locals call stage calls) (with_exits outside (up_to_jump ss))
     → DoesStatement m input whole f p (around_body (program_lists p) params locals) (any_leaves (map (λ (s : LowerStmt). s.leaves) (map (lowers_stmt (lowered_in p call) locals) ss))) (in_turn (map (lowers_stmt (lowered_in p call) locals) ss)) (runs_all (meant_in p stage calls) locals ss)
 typed_body_does m input whole f p params locals call stage calls ss types knows is asks =
-    body_does m input whole f p (around_body (program_lists p) params locals) (lowered_in p call) (meant_in p stage calls) locals outside ss (all_along m input whole f p params locals call stage calls types knows (with_exits outside ss) is asks)
+    body_does m input whole f p (around_body (program_lists p) params locals) (lowered_in p call) (meant_in p stage calls) locals outside ss (all_along m input whole f p params locals call stage calls types knows (with_exits outside (up_to_jump ss)) asks (body_along (IsTypedStep (around_body (program_lists p) params locals) f.result) outside ss is))

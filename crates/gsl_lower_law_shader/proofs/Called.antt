@@ -9,7 +9,7 @@ use Rattle.gsl_values.specs.declared.value.Value.{Value}
 use Rattle.gsl_tree.specs.Around.{Around}
 use Rattle.gsl_tree.specs.Expressions.{IsExpr, IsNode}
 use Rattle.gsl_tree.specs.Statements.{IsBody, IsStep}
-use Rattle.gsl_tree.specs.Trees.{Along, AlongAll, Exits, Placed, Throughout, ThroughoutAll, exprs_of, form_of, inner_of, outside, parts_of, with_exits}
+use Rattle.gsl_tree.specs.Trees.{Along, AlongAll, Exits, Placed, Throughout, ThroughoutAll, exprs_of, form_of, outside, with_exits}
 use Rattle.gsl_tree.specs.WellTyped.{around_body, program_lists}
 use Rattle.gsl_tree.specs.declared.expr.Expr.{Expr}
 use Rattle.gsl_tree.specs.declared.expr.ExprKind.{ExprKind}
@@ -19,6 +19,8 @@ use Rattle.gsl_tree.specs.declared.stmt.Stmt.{Stmt, out-Stmt}
 use Rattle.gsl_meaning.specs.Shader.{calls}
 use Rattle.gsl_spv.specs.Sections.{Sections}
 use Rattle.gsl_lower_holders.specs.declared.place.FlowPlace.{FlowPlace}
+use Rattle.gsl_lower_used.specs.Lowered.{AlongAllLowered, AlongLowered, ThroughoutAllLowered, ThroughoutLowered, lowered_inner, lowered_parts, up_to_jump}
+use Rattle.gsl_lower_used.proofs.Within.{body_along, inner_along, parts_throughout}
 use Rattle.gsl_lower_follows.specs.Frames.{Frame}
 use Rattle.gsl_lower_law_entered.specs.Modules.{IsFrame}
 use Rattle.gsl_lower_law_evaluated.specs.Evaluating.{Asks, AsksFor, IsTyped}
@@ -45,17 +47,18 @@ module _ (m : Module) (input : Input) (whole : Sections) (p : Program) (place : 
   one_asked e form is node asks = asks
 
   mutual
-    asked : (e : Expr) → Throughout (IsNode around) e → Throughout Given e → Throughout Wanted e
-    asked _ (Throughout.whole e node parts) (Throughout.whole _ ask asks) = Throughout.whole e (one_asked e (form_of e) refl node ask) (all_asked (parts_of (form_of e)) parts asks)
+    asked : (e : Expr) → ThroughoutLowered p.prototypes Given e → Throughout (IsNode around) e → ThroughoutLowered p.prototypes Wanted e
+    asked _ (ThroughoutLowered.whole e ask asks) (Throughout.whole _ node parts) =
+        ThroughoutLowered.whole e (one_asked e (form_of e) refl node ask) (all_asked (lowered_parts p.prototypes (form_of e)) asks (parts_throughout p.prototypes (IsNode around) (form_of e) parts))
 
-    all_asked : (es : List Expr) → ThroughoutAll (IsNode around) es → ThroughoutAll Given es → ThroughoutAll Wanted es
-    all_asked _ ThroughoutAll.none asks = ThroughoutAll.none
-    all_asked _ (ThroughoutAll.more e es is rest) (ThroughoutAll.more _ _ ask asks) = ThroughoutAll.more e es (asked e is ask) (all_asked es rest asks)
+    all_asked : (es : List Expr) → ThroughoutAllLowered p.prototypes Given es → ThroughoutAll (IsNode around) es → ThroughoutAllLowered p.prototypes Wanted es
+    all_asked _ ThroughoutAllLowered.none nodes = ThroughoutAllLowered.none
+    all_asked _ (ThroughoutAllLowered.more e es ask asks) (ThroughoutAll.more _ _ is rest) = ThroughoutAllLowered.more e es (asked e ask is) (all_asked es asks rest)
 
   exprs_asked : (es : List Expr) → AllByRecursion (IsExpr around) es → AllByRecursion (AreAsked m input whole p place stages rank below depth f params locals) es
       → AllByRecursion (AsksThroughout m input whole f p params locals (call_of p) (stage_of p input) (calls p input depth)) es
   exprs_asked [] are asks = tt
-  exprs_asked (e ∷ es) are asks = (record { sound = asks.0.sound; asks = asked e are.0 asks.0.asks }, exprs_asked es are.1 asks.1)
+  exprs_asked (e ∷ es) are asks = (record { sound = asks.0.sound; asks = asked e asks.0.asks are.0 }, exprs_asked es are.1 asks.1)
 
   module _ (result : Ty) where
     abbrev Wants : Exits → Stmt → Type 0
@@ -65,12 +68,13 @@ module _ (m : Module) (input : Input) (whole : Sections) (p : Program) (place : 
     Gives = AreAskedOf m input whole p place stages rank below depth f params locals
 
     mutual
-      along : (exits : Exits) (s : Stmt) → Along (IsStep around result) exits s → Along Gives exits s → Along Wants exits s
-      along _ _ (Along.whole exits s step inner) (Along.whole _ _ asks others) = Along.whole exits s (exprs_asked (exprs_of (out-Stmt s)) step.typed asks) (all_along (inner_of exits (out-Stmt s)) inner others)
+      along : (exits : Exits) (s : Stmt) → AlongLowered Gives exits s → Along (IsStep around result) exits s → AlongLowered Wants exits s
+      along _ _ (AlongLowered.whole exits s asks others) (Along.whole _ _ step inner) =
+          AlongLowered.whole exits s (exprs_asked (exprs_of (out-Stmt s)) step.typed asks) (all_along (lowered_inner exits (out-Stmt s)) others (inner_along (IsStep around result) exits (out-Stmt s) inner))
 
-      all_along : (placed : List Placed) → AlongAll (IsStep around result) placed → AlongAll Gives placed → AlongAll Wants placed
-      all_along _ AlongAll.none others = AlongAll.none
-      all_along _ (AlongAll.more one rest first later) (AlongAll.more _ _ ask asks) = AlongAll.more one rest (along one.0 one.1 first ask) (all_along rest later asks)
+      all_along : (placed : List Placed) → AlongAllLowered Gives placed → AlongAll (IsStep around result) placed → AlongAllLowered Wants placed
+      all_along _ AlongAllLowered.none steps = AlongAllLowered.none
+      all_along _ (AlongAllLowered.more one rest ask asks) (AlongAll.more _ _ first later) = AlongAllLowered.more one rest (along one.0 one.1 ask first) (all_along rest asks later)
 
-    pub body_asked : (ss : List Stmt) → IsBody around result ss → AlongAll Gives (with_exits outside ss) → AlongAll Wants (with_exits outside ss)
-    body_asked ss is asks = all_along (with_exits outside ss) is asks
+    pub body_asked : (ss : List Stmt) → IsBody around result ss → AlongAllLowered Gives (with_exits outside (up_to_jump ss)) → AlongAllLowered Wants (with_exits outside (up_to_jump ss))
+    body_asked ss is asks = all_along (with_exits outside (up_to_jump ss)) asks (body_along (IsStep around result) outside ss is)

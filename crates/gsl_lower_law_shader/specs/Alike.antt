@@ -7,7 +7,7 @@ use Rattle.gsl_words.specs.declared.module.Module.{Module}
 use Rattle.gsl_values.specs.declared.value.Value.{Value}
 use Rattle.gsl_tree.specs.Around.{Around}
 use Rattle.gsl_tree.specs.Statements.{IsBody}
-use Rattle.gsl_tree.specs.Trees.{AlongAll, outside, with_exits}
+use Rattle.gsl_tree.specs.Trees.{outside, with_exits}
 use Rattle.gsl_tree.specs.WellTyped.{around_body, program_lists}
 use Rattle.gsl_tree.specs.declared.program.Program.{Program}
 use Rattle.gsl_tree.specs.declared.unit.Function.{Function}
@@ -18,6 +18,7 @@ use Rattle.gsl_machine.specs.State.{Ended, State}
 use Rattle.gsl_spv.specs.Sections.{Sections}
 use Rattle.gsl_lower_holders.specs.Flow.{Flow, Gives}
 use Rattle.gsl_lower_holders.specs.declared.place.FlowPlace.{FlowPlace}
+use Rattle.gsl_lower_used.specs.Lowered.{AlongAllLowered, up_to_jump}
 use Rattle.gsl_lower_follows.specs.Following.{Faults, Lasts}
 use Rattle.gsl_lower_follows.specs.Frames.{Frame, Inside}
 use Rattle.gsl_lower_follows.specs.Stretching.{Stretch}
@@ -47,7 +48,7 @@ abbrev pub around_main : Program → Function → Around
 around_main p f = around_body (program_lists p) [] f.locals
 
 module _ (m : Module) (input : Input) (whole : Sections) (p : Program) (place : FlowPlace) (stages : List (Option Value)) (rank : ℕ → ℕ) (f : Frame m input whole) where
-  -- Main is well typed and runs in a frame that no other called, where its body stands as it is lowered; the types and the outputs of the module are known, and what is asked of the expressions in it is so.
+  -- Main is well typed and runs in a frame that no other called, where its body stands as it is lowered; the types and the outputs of the module are known, and what is asked of the expressions in it that are lowered is so.
   pub record IsMain (tree : Function) (begin : Flow) : Type 0 where
     pub found : slice_get p.functions p.main ≡ Some tree
     pub of_module : IsFrame m input whole place stages f
@@ -60,4 +61,4 @@ module _ (m : Module) (input : Input) (whole : Sections) (p : Program) (place : 
     pub typed : IsTyped p [] tree.locals
     pub body : IsBody (around_main p tree) f.result tree.body
     pub knows : KnowsTypes m input whole f p
-    pub asks : AlongAll (AreAskedOf m input whole p place stages rank most_calls most_calls f [] tree.locals) (with_exits outside tree.body)
+    pub asks : AlongAllLowered (AreAskedOf m input whole p place stages rank most_calls most_calls f [] tree.locals) (with_exits outside (up_to_jump tree.body))

@@ -10,7 +10,7 @@ use Rattle.gsl_values.specs.declared.value.Value.{Value}
 use Rattle.gsl_tree.specs.Around.{Around}
 use Rattle.gsl_tree.specs.Paths.{coming_out, in_block}
 use Rattle.gsl_tree.specs.Statements.{IsBody}
-use Rattle.gsl_tree.specs.Trees.{AlongAll, Exits, Throughout, exprs_of, form_of, outside, type_of, with_exits}
+use Rattle.gsl_tree.specs.Trees.{Exits, Throughout, exprs_of, form_of, outside, type_of, with_exits}
 use Rattle.gsl_tree.specs.Weights.{params_of}
 use Rattle.gsl_tree.specs.WellTyped.{IsResult, around_body, program_lists}
 use Rattle.gsl_tree.specs.declared.expr.Expr.{Expr}
@@ -31,6 +31,7 @@ use Rattle.gsl_lower_expr.specs.Parts.{Lower}
 use Rattle.gsl_lower_needs.specs.Bodies.{any_leaves}
 use Rattle.gsl_lower_stmt.specs.Lowering.{lowers_stmt}
 use Rattle.gsl_lower_stmt.specs.Parts.{LowerStmt, in_turn}
+use Rattle.gsl_lower_used.specs.Lowered.{AlongAllLowered, ThroughoutLowered, up_to_jump}
 use Rattle.gsl_lower_follows.specs.Frames.{Frame}
 use Rattle.gsl_lower_law_entered.specs.Modules.{IsFrame, IsFunction}
 use Rattle.gsl_lower_law_functions.specs.Bodies.{bodied}
@@ -86,16 +87,16 @@ module _ (m : Module) (input : Input) (whole : Sections) (p : Program) (place : 
     abbrev pub AsksBelow : Expr → Type 0
     AsksBelow e = AsksBelowFor e (form_of e)
 
-    -- In an expression all types are those of the program, and what is asked of its parts is so.
+    -- In an expression all types are those of the program, and what is asked of its parts that are lowered is so.
     pub record AreAsked (e : Expr) : Type 0 where
       pub sound : Throughout (λ (part : Expr). IsSound (length p.structs) (type_of part)) e
-      pub asks : Throughout AsksBelow e
+      pub asks : ThroughoutLowered p.prototypes AsksBelow e
 
     -- so in the expressions of a statement
     abbrev pub AreAskedOf : Exits → Stmt → Type 0
     AreAskedOf exits s = AllByRecursion AreAsked (exprs_of (out-Stmt s))
 
-  -- The function of a head is well typed and stands in the module as it is lowered; in each frame of it the types of the module are known, and what is asked of the expressions in it is so.
+  -- The function of a head is well typed and stands in the module as it is lowered; in each frame of it the types of the module are known, and what is asked of the expressions in it that are lowered is so.
   pub record Stands (rank : ℕ → ℕ) (number function : ℕ) (head : Prototype) : Type 0 where
     pub tree : Function
     pub found : function_of p.functions number ≡ Some tree
@@ -107,7 +108,7 @@ module _ (m : Module) (input : Input) (whole : Sections) (p : Program) (place : 
     pub typed : IsTyped p head.params tree.locals
     pub body : IsBody (around_body (program_lists p) head.params tree.locals) head.result tree.body
     pub knows : (g : Frame m input whole) → IsFrame m input whole place stages g → KnowsTypes m input whole g p
-    pub asks : (depth : ℕ) (g : Frame m input whole) → IsFrame m input whole place stages g → AlongAll (AreAskedOf rank (rank number) depth g head.params tree.locals) (with_exits outside tree.body)
+    pub asks : (depth : ℕ) (g : Frame m input whole) → IsFrame m input whole place stages g → AlongAllLowered (AreAskedOf rank (rank number) depth g head.params tree.locals) (with_exits outside (up_to_jump tree.body))
 
   -- All functions that rank below a number do so. Those that main does not reach have an id as well, but no function stands under it: they rank higher.
   abbrev pub AllStand : (ℕ → ℕ) → ℕ → Type 0

@@ -14,13 +14,14 @@ ghost use Rattle.gsl_lower_needs.specs.Bodies.{any_leaves};
 ghost use Rattle.gsl_lower_stmt.specs.Lowering.{lowers_stmt};
 ghost use Rattle.gsl_lower_stmt.specs.Parts.{LowerStmt, in_turn};
 ghost use Rattle.gsl_lower_text.specs.Written.{Written};
+ghost use Rattle.gsl_lower_used.specs.Lowered.{AlongAllLowered, up_to_jump};
 ghost use Rattle.gsl_machine.specs.State.{State};
 ghost use Rattle.gsl_meaning.specs.Expressions.{Calls};
 ghost use Rattle.gsl_meaning.specs.Shader.{most_calls, shader};
 ghost use Rattle.gsl_meaning.specs.Statements.{runs_all};
 ghost use Rattle.gsl_spv.specs.Sections.{Sections};
 ghost use Rattle.gsl_tree.specs.Statements.{IsBody};
-ghost use Rattle.gsl_tree.specs.Trees.{AlongAll, outside, with_exits};
+ghost use Rattle.gsl_tree.specs.Trees.{outside, with_exits};
 ghost use Rattle.gsl_tree.specs.WellTyped.{around_body, program_lists};
 ghost use Rattle.gsl_tree.specs.declared.expr.StageVar.{StageVar};
 ghost use Rattle.gsl_tree.specs.declared.program.Program.{Program};
@@ -35,7 +36,7 @@ ghost use Rattle.std.specs.Prelude.{List, Option, map, ℕ, ◌<◌, ◌≡◌};
 
 /// The statements of a well typed body, one behind the other, do what they mean.
 pub fn typed_bodies_do()
-    ensures { (m : Module) (input : Input) (whole : Sections) (f : Frame m input whole) (p : Program) (params : List (Direction × Ty)) (locals : List Ty) (call : ℕ → List Lower → Ty → Emit ℕ) (stage : StageVar → Value) (calls : Calls) (ss : List Stmt) → IsTyped p params locals → KnowsTypes m input whole f p → IsBody (around_body (program_lists p) params locals) f.result ss → AlongAll (AsksOf m input whole f p params locals call stage calls) (with_exits outside ss) → DoesStatement m input whole f p (around_body (program_lists p) params locals) (any_leaves (map (λ (s : LowerStmt). s.leaves) (map (lowers_stmt (lowered_in p call) locals) ss))) (in_turn (map (lowers_stmt (lowered_in p call) locals) ss)) (runs_all (meant_in p stage calls) locals ss) }
+    ensures { (m : Module) (input : Input) (whole : Sections) (f : Frame m input whole) (p : Program) (params : List (Direction × Ty)) (locals : List Ty) (call : ℕ → List Lower → Ty → Emit ℕ) (stage : StageVar → Value) (calls : Calls) (ss : List Stmt) → IsTyped p params locals → KnowsTypes m input whole f p → IsBody (around_body (program_lists p) params locals) f.result ss → AlongAllLowered (AsksOf m input whole f p params locals call stage calls) (with_exits outside (up_to_jump ss)) → DoesStatement m input whole f p (around_body (program_lists p) params locals) (any_leaves (map (λ (s : LowerStmt). s.leaves) (map (lowers_stmt (lowered_in p call) locals) ss))) (in_turn (map (lowers_stmt (lowered_in p call) locals) ss)) (runs_all (meant_in p stage calls) locals ss) }
 {}
 
 /// Where the functions of a program that rank below a depth stand in a valid module as they are lowered, each call of one does what it means, wherever in the module it is called.

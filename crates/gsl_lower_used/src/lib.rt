@@ -1,0 +1,4 @@
+//! What of bodies is lowered? Definitions alone.
+//!
+//! Read `specs/Lowered.antt`.
+#![tactic(auto)]
