@@ -10,7 +10,7 @@ use Rattle.gsl_instr.specs.declared.enumerant.storage_class.TheConstants as stor
 use Rattle.gsl_words.specs.declared.module.Instr.{Instr}
 use Rattle.gsl_words.specs.declared.module.Module.{Module}
 use Rattle.gsl_valid.specs.DecorationRules.{decorates, decoration_kept, differ, has_literals, is_decorated, may_stand, variable_decorated}
-use Rattle.gsl_valid.specs.Decorations.{has, literals_if, literals_on, number_in, number_on, same_place, stands_on}
+use Rattle.gsl_valid.specs.Decorations.{has, literals_if, literals_on, number_in, number_on, number_on_member, same_place, stands_on}
 use Rattle.gsl_valid.specs.Instruction.{read}
 use Rattle.gsl_valid.specs.Kinds.{Decoration, On, OnMember, Place, Variable, decoration_of, variable_is}
 use Rattle.gsl_valid.specs.Placed.{Code}
@@ -67,6 +67,12 @@ module _ (m : Module) where
     -- the number of a decoration is found
     pub number_found : (target what n : ℕ) → Contains m.instrs (decorating target None what (Some n)) → number_on m what target ≡ Some n
     number_found target what n there = ap number_in (marked target what n there)
+
+    -- and so is that of a member's
+    pub member_number_found : (target member what n : ℕ) → Contains m.instrs (decorating target (Some member) what (Some n)) → number_on_member m what target member ≡ Some n
+    unfolding form_of
+    member_number_found target member what n there =
+        ap number_in (literals_found [] m.instrs (decorating target (Some member) what (Some n)) (record { place = OnMember target member; kind = what; literals = n ∷ [] }) kept.all (has_at m.instrs (decorating target (Some member) what (Some n)) there) refl)
 
     -- ---- a location or a built-in variable
 

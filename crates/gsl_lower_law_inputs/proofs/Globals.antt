@@ -1,13 +1,12 @@
 -- The global variables of a module.
 use Rattle.std.proofs.Common.{◌≡◌, refl, ◌∙◌, ℕ, IsTrue, true, List, length, Option, Some, None}
 use Rattle.gsl_instr.specs.declared.enumerant.storage_class.TheConstants as storage_class
-use Rattle.gsl_types.specs.Known.{AreStructs, IsSound}
+use Rattle.gsl_types.specs.Known.{AreStructs, IsSound, is_plain}
 use Rattle.gsl_types.specs.declared.ty.StructType.{StructType}
 use Rattle.gsl_types.specs.declared.ty.Ty.{Ty}
 use Rattle.gsl_words.specs.declared.module.Module.{Module}
 use Rattle.gsl_values.specs.declared.value.Value.{Value}
 use Rattle.gsl_tree.specs.Values.{is_value_of, zero_value}
-use Rattle.gsl_tree.specs.WellTyped.{is_plain}
 use Rattle.gsl_tree.specs.declared.unit.GlobalVar.{GlobalVar}
 use Rattle.gsl_machine.specs.Constants.{constant}
 use Rattle.gsl_sound_code.proofs.Looks.{Kept}

@@ -7,7 +7,7 @@ use Rattle.gsl_types.specs.declared.ty.Ty.TheFolds.{fold-roll-Ty}
 use Rattle.gsl_types.specs.declared.ty.Ty.TheOpen.{Ty-F}
 use Rattle.gsl_types.specs.declared.ty.Ty.TheViews.{out-Ty, roll-Ty, roll-out-Ty}
 use Rattle.gsl_tree.specs.Shapes.{Shape, shape_kind, shape_of}
-use Rattle.gsl_tree.specs.WellTyped.{is_plain, is_plain_kind}
+use Rattle.gsl_types.specs.Known.{is_plain, is_plain_kind}
 
 -- what holds of each item of a list holds of the one at a number
 pub at_number : {A : Type 0} (P : A → Type 0) (items : List A) (number : ℕ) (a : A) → AllByRecursion P items → slice_get items number ≡ Some a → P a

@@ -38,14 +38,14 @@ use Rattle.gsl_lower_law_inputs.proofs.Passed.{at_number, components_are, shape_
 
 -- ---- demands that are met
 
-abbrev met : Met
+abbrev pub met : Met
 met = Ok tt
 
-first_met : (a b : Met) → and_met a b ≡ met → a ≡ met
+pub first_met : (a b : Met) → and_met a b ≡ met → a ≡ met
 first_met (Ok x) b is = refl
 first_met (Err refusal) b is = absurd (cc)
 
-second_met : (a b : Met) → and_met a b ≡ met → b ≡ met
+pub second_met : (a b : Met) → and_met a b ≡ met → b ≡ met
 second_met (Ok x) b is = is
 second_met (Err refusal) b is = absurd (cc)
 

@@ -3,7 +3,7 @@ use Rattle.std.proofs.Common.{◌≡◌, refl, sym, ap, ◌∙◌, subst, ℕ, B
 use Rattle.std.specs.Prelude.{◌==◌}
 use Rattle.std.proofs.lemmas.Bool.{eqb-true, false≢true}
 use Rattle.gsl_instr.specs.Forms.{form_of}
-use Rattle.gsl_types.specs.Known.{IsSound}
+use Rattle.gsl_types.specs.Known.{IsSound, is_plain, is_plain_kind}
 use Rattle.gsl_types.specs.declared.ty.Scalar.{Scalar}
 use Rattle.gsl_types.specs.declared.ty.Scalar.TheVariants.{Bool as Boolean, Int, Uint}
 use Rattle.gsl_types.specs.declared.ty.StructType.{StructType}
@@ -16,7 +16,6 @@ use Rattle.gsl_types.specs.declared.ty.Ty.TheVariants.{outs-One, outs-Vector, ro
 use Rattle.gsl_words.specs.declared.module.Module.{Module}
 use Rattle.gsl_tree.specs.Shapes.{Shape, shape_kind, shape_of}
 use Rattle.gsl_tree.specs.Values.{zero_value}
-use Rattle.gsl_tree.specs.WellTyped.{is_plain, is_plain_kind}
 use Rattle.gsl_valid.specs.Kinds.{shape_of as made_of}
 use Rattle.gsl_valid.specs.Types.{defined_as, lanes_in, lanes_of, lanes_with, scalar_in}
 use Rattle.gsl_machine.specs.Constants.{zeros}
