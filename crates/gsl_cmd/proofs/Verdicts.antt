@@ -120,7 +120,7 @@ module _ (stage : Stage) where
   unfolding typed_of tree_of tokens_of
   source_answered unit source typed is = tree_answered (tree_of unit source) typed (source_parsed unit source) is
 
-  abbrev Answers : List TypedUnit → Type 0
+  abbrev pub Answers : List TypedUnit → Type 0
   Answers units = (trees : List Tree) × AreAnswers stage trees units
 
   answers_by_first : (first : Checked TypedUnit) (more : Checked (List TypedUnit)) (units : List TypedUnit) → ((typed : TypedUnit) → first ≡ Ok typed → (us : Tree) × IsParsed us × (checked stage us ≡ Ok typed))
@@ -132,7 +132,7 @@ module _ (stage : Stage) where
   answers_by_first (Ok typed) (Err fault) units one others is = absurd cc
   answers_by_first (Err fault) more units one others is = absurd cc
 
-  all_answered : (unit : ℕ) (sources : List (List ℕ)) (units : List TypedUnit) → typed_from stage unit sources ≡ Ok units → Answers units
+  pub all_answered : (unit : ℕ) (sources : List (List ℕ)) (units : List TypedUnit) → typed_from stage unit sources ≡ Ok units → Answers units
   all_answered unit [] units is = subst Answers (let same : [] ≡ units = cc in same) ([], tt)
   all_answered unit (source ∷ sources) units is =
       answers_by_first (typed_of stage unit source) (typed_from stage (unit + 1) sources) units (source_answered unit source) (all_answered (unit + 1) sources) is
@@ -144,7 +144,7 @@ module _ (stage : Stage) where
   count_by_first (Ok typed) (Err fault) units count others is = absurd cc
   count_by_first (Err fault) more units count others is = absurd cc
 
-  all_counted : (unit : ℕ) (sources : List (List ℕ)) (units : List TypedUnit) → typed_from stage unit sources ≡ Ok units → length units ≡ length sources
+  pub all_counted : (unit : ℕ) (sources : List (List ℕ)) (units : List TypedUnit) → typed_from stage unit sources ≡ Ok units → length units ≡ length sources
   all_counted unit [] units is = ap length (let same : units ≡ [] = cc in same)
   all_counted unit (source ∷ sources) units is =
       let counted = count_by_first (typed_of stage unit source) (typed_from stage (unit + 1) sources) units (length sources) (all_counted (unit + 1) sources) is in omega (arith, counted)

@@ -1,0 +1,11 @@
+pub mod Sources
+pub mod Initialised
+pub mod Alike
+pub mod Exactly
+pub mod Types
+pub mod Apart
+pub mod Stages
+pub mod There
+pub mod Asked
+pub mod Doing
+pub mod Whole
