@@ -16,10 +16,10 @@ use Rattle.gsl_lower_flow.specs.Programs.{lowered}
 use Rattle.gsl_lower_follows.specs.Frames.{Global, Holder, Interface, Local, Name, Param, Stage, value_of}
 use Rattle.gsl_lower_law_returns.specs.Calling.{is_shared}
 use Rattle.gsl_lower_law_outside.specs.Beginning.{BeginsWith, HaveOutside}
-use Rattle.gsl_lower_law_inputs.specs.Beginning.{stages_given}
-use Rattle.gsl_lower_law_inputs.proofs.Begun.{globals_begin, interfaces_begin, stages_begin}
-use Rattle.gsl_lower_law_inputs.proofs.Given.{stages_typed}
-use Rattle.gsl_lower_law_inputs.proofs.Typed.{variables_typed}
+use Rattle.gsl_lower_law_outputs.specs.OfLawInputs.{stages_given}
+use Rattle.gsl_lower_law_outputs.proofs.OfLawInputs.{globals_begin, interfaces_begin, stages_begin}
+use Rattle.gsl_lower_law_outputs.proofs.OfLawInputs.{stages_typed}
+use Rattle.gsl_lower_law_outputs.proofs.OfLawInputs.{variables_typed}
 use Rattle.gsl_lower_law_buffers.proofs.Begun.{blocks_begin, blocks_seen}
 use Rattle.gsl_lower_law_buffers.proofs.Staying.{all_stay}
 use Rattle.gsl_lower_law_outputs.proofs.Functions.{declares_none_behind}

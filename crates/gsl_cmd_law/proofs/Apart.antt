@@ -1,12 +1,11 @@
 -- In a program without blocks no expression stands for a part of one.
-use Rattle.std.proofs.Common.{◌≡◌, refl, sym, ap, ◌∙◌, Bool, false, List, [], ◌∷◌}
+use Rattle.std.proofs.Common.{◌≡◌, refl, sym, ap, ◌∙◌, Bool, false, List, []}
 use Rattle.std.specs.List.{AllByRecursion}
 use Rattle.gsl_types.specs.declared.ty.Direction.{Direction}
-use Rattle.gsl_types.specs.declared.ty.Direction.TheVariants.{In, Out, InOut}
 use Rattle.gsl_types.specs.declared.ty.Ty.{Ty}
 use Rattle.gsl_tree.specs.Around.{Around}
 use Rattle.gsl_tree.specs.Expressions.{HasType, IsNode}
-use Rattle.gsl_tree.specs.Paths.{coming_out, if_out, in_block, in_block_by, kind_in}
+use Rattle.gsl_tree.specs.Paths.{in_block, in_block_by, kind_in}
 use Rattle.gsl_tree.specs.Trees.{Throughout, ThroughoutAll, form_of, parts_of, type_of}
 use Rattle.gsl_tree.specs.WellTyped.{around_body, program_lists}
 use Rattle.gsl_tree.specs.declared.expr.Expr.{Expr}
@@ -15,19 +14,11 @@ use Rattle.gsl_tree.specs.declared.expr.ExprKind.TheFolds.{fold-ExprKind, fold-r
 use Rattle.gsl_tree.specs.declared.expr.ExprKind.TheOpen.{ExprKind-F}
 use Rattle.gsl_tree.specs.declared.expr.ExprKind.TheViews.{out-Expr, roll-out-Expr, roll-out-ExprKind}
 use Rattle.gsl_tree.specs.declared.program.Program.{Program}
-use Rattle.gsl_lower_law_program.specs.Shaders.{IsApart}
 use Rattle.gsl_cmd_law.proofs.Types.{no_member}
 
--- what comes out of a call goes to some of its arguments
-pub out_apart : (params : List (Direction × Ty)) (args : List Expr) → AllByRecursion IsApart args → AllByRecursion IsApart (coming_out params args)
-out_apart [] args all = tt
-out_apart (param ∷ params) [] all = tt
-out_apart (param ∷ params) (arg ∷ args) all = by param.0 (out_apart params args all.1)
-  where
-    by : (way : Direction) → AllByRecursion IsApart (coming_out params args) → AllByRecursion IsApart (if_out way arg (coming_out params args))
-    by In rest = rest
-    by Out rest = (all.0, rest)
-    by InOut rest = (all.0, rest)
+-- An expression stands for no part of a block.
+abbrev pub IsApart : Expr → Type 0
+IsApart e = in_block e ≡ false
 
 module _ (p : Program) (none : p.blocks ≡ []) (params : List (Direction × Ty)) (locals : List Ty) where
   abbrev around : Around

@@ -7,7 +7,7 @@ use Rattle.gsl_tree.specs.declared.expr.Expr.{Expr}
 use Rattle.gsl_tree.specs.declared.program.Program.{Program}
 use Rattle.gsl_typed_constants.specs.Known.{AreSound}
 use Rattle.gsl_typed_constants.proofs.Initialised.{initialised}
-use Rattle.gsl_lower_law_inputs.specs.Beginning.{AreInitialised}
+use Rattle.gsl_lower_law_outputs.specs.OfLawInputs.{AreInitialised}
 use Rattle.gsl_lower_law_program.proofs.Sounds.{IsKnown, known_in}
 
 known_at_top : (p : Program) (e : Expr) → Throughout (IsKnown p) e → IsSound (length p.structs) (type_of e)

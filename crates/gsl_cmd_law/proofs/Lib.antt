@@ -6,6 +6,8 @@ pub mod Types
 pub mod Apart
 pub mod Stages
 pub mod There
+pub mod Reading
 pub mod Asked
+pub mod Blocks
 pub mod Doing
 pub mod Whole

@@ -19,9 +19,9 @@ use Rattle.gsl_lower_expr.specs.Parts.{stage_number}
 use Rattle.gsl_lower_flow.specs.Programs.{program_needs, uses}
 use Rattle.gsl_lower_follows.specs.Frames.{Frame, id_if}
 use Rattle.gsl_lower_law_entered.specs.Modules.{IsFrame}
-use Rattle.gsl_lower_law_evaluated.specs.Evaluating.{KnowsStage}
-use Rattle.gsl_lower_law_inputs.specs.Beginning.{stage_given, stage_vars, stages_given, where_named}
-use Rattle.gsl_lower_law_inputs.proofs.Given.{stages_typed}
+use Rattle.gsl_lower_law_program.specs.OfLawEvaluated.{KnowsStage}
+use Rattle.gsl_lower_law_outputs.specs.OfLawInputs.{stage_given, stage_vars, stages_given, where_named}
+use Rattle.gsl_lower_law_outputs.proofs.OfLawInputs.{stages_typed}
 use Rattle.gsl_lower_law_program.specs.Shaders.{stage_of}
 use Rattle.gsl_lower_law_program.specs.Standing.{HaveFunctions}
 

@@ -27,8 +27,8 @@ use Rattle.gsl_tree.specs.declared.expr.StageVar.TheVariants.{NumWorkGroups, Wor
 use Rattle.gsl_tree.specs.declared.program.Program.{Program}
 use Rattle.gsl_tree.specs.declared.unit.Block.{Block}
 use Rattle.gsl_tree.specs.declared.unit.BlockMember.{BlockMember}
-use Rattle.gsl_lower_law_evaluated.specs.Evaluating.{IsTyped}
-use Rattle.gsl_lower_law_evaluated.proofs.Facts.{at_place, conversion_of}
+use Rattle.gsl_lower_law_program.specs.OfLawEvaluated.{IsTyped}
+use Rattle.gsl_lower_law_program.proofs.OfLawEvaluated.{at_place, conversion_of}
 
 -- ---- types
 

@@ -7,13 +7,15 @@ ghost use Rattle.gsl_base.specs.declared.stage.Stage.{Stage};
 ghost use Rattle.gsl_cmd.specs.Verdict.{Accepts, linked_of};
 ghost use Rattle.gsl_cmd.specs.declared.compiling.TheConstants.{MAX_SOURCES};
 ghost use Rattle.gsl_cmd_law.specs.Exactly.{Does, EndsExactly};
-ghost use Rattle.gsl_lower_flow.specs.Programs.{lowered, program_needs, uses};
+ghost use Rattle.gsl_cmd_law.specs.Reading.{ReadsNoWholes};
+ghost use Rattle.gsl_cmd_law.specs.Sizes.{IsShortFor};
+ghost use Rattle.gsl_lower_flow.specs.Programs.{lowered, module_for, program_needs, uses};
 ghost use Rattle.gsl_lower_flow.specs.Reaching.{is_lowered};
 ghost use Rattle.gsl_lower_follows.specs.Frames.{Frame};
 ghost use Rattle.gsl_lower_holders.specs.Flow.{Flow, Gives};
 ghost use Rattle.gsl_lower_law_entered.specs.Modules.{IsFrame};
-ghost use Rattle.gsl_lower_law_evaluated.specs.Evaluating.{KnowsStage};
-ghost use Rattle.gsl_lower_law_inputs.specs.Beginning.{AreInitialised, stages_given};
+ghost use Rattle.gsl_lower_law_program.specs.OfLawEvaluated.{KnowsStage};
+ghost use Rattle.gsl_lower_law_outputs.specs.OfLawInputs.{AreInitialised, stages_given};
 ghost use Rattle.gsl_lower_law_linked.specs.Nesting.{AreOnce, MayNest};
 ghost use Rattle.gsl_lower_law_program.specs.Alike.{BeginAlike};
 ghost use Rattle.gsl_lower_law_program.specs.Shaders.{AllAsked, EndsAs, stage_of};
@@ -31,7 +33,7 @@ ghost use Rattle.gsl_tree.specs.declared.program.Program.{Program};
 ghost use Rattle.gsl_valid.specs.Valid.{Valid};
 ghost use Rattle.gsl_words.specs.declared.module.Module.{Module};
 ghost use Rattle.gsl_words.specs.declared.target.Target.{Target};
-ghost use Rattle.std.specs.Prelude.{List, Ok, [], length, true, ℕ, ◌≡◌, ◌≤◌};
+ghost use Rattle.std.specs.Prelude.{List, Ok, Some, [], length, true, ℕ, ◌≡◌, ◌≤◌};
 
 /// The program that sources make together is well typed; in it calls nest at most 64 deep, each leads to a function of the program, and no two functions have one head.
 pub fn programs_of_sources_are_linked()
@@ -58,6 +60,16 @@ pub fn programs_without_blocks_are_asked()
     ensures { (target : Target) (p : Program) (main : ℕ) (flow : Flow) → IsProgram p → p.blocks ≡ [] → (h : HaveFunctions target p main flow) → (input : Input) → FitsTypes input → AllAsked (module_of flow.sections main p.local_size) input flow.sections p h.place (stages_given h.place.stage_vars p.local_size input) (is_lowered p) }
 {}
 
+/// A program without blocks reads no struct and no array of one whole.
+pub fn programs_without_blocks_read_none()
+    ensures { (p : Program) → IsProgram p → p.blocks ≡ [] → ReadsNoWholes p }
+{}
+
+/// In a program that reads no struct and no array of a block whole all that is asked of the expressions in its functions is so, on an input that fits and that has fewer than 2^32 bytes in each buffer where the program has blocks.
+pub fn programs_are_asked()
+    ensures { (target : Target) (p : Program) (main : ℕ) (flow : Flow) → IsProgram p → Valid (module_of flow.sections main p.local_size) → (h : HaveFunctions target p main flow) → (input : Input) → IsFitting p input → IsShortFor p input → ReadsNoWholes p → AllAsked (module_of flow.sections main p.local_size) input flow.sections p h.place (stages_given h.place.stage_vars p.local_size input) (is_lowered p) }
+{}
+
 /// On an input that fits, the valid module of a program does what the shader does, where what is asked of the expressions in its functions is so.
 pub fn programs_do_as_shaders()
     ensures { (target : Target) (p : Program) (main : ℕ) (flow : Flow) → IsProgram p → MayNest p → AreOnce p → lowered target p (empty p.stage target) ≡ Gives main flow → Valid (module_of flow.sections main p.local_size) → (h : HaveFunctions target p main flow) → (input : Input) → IsFitting p input → AllAsked (module_of flow.sections main p.local_size) input flow.sections p h.place (stages_given h.place.stage_vars p.local_size input) (is_lowered p) → Does (module_of flow.sections main p.local_size) p input }
@@ -66,6 +78,11 @@ pub fn programs_do_as_shaders()
 /// Where the program of the sources has no blocks, the module that they compile to does what the shader does on every input that fits: it ends with an output exactly when the shader does, it strays exactly when the shader does, and it never comes to an instruction that is none.
 pub fn compiled_modules_do_as_shaders()
     ensures { (target : Target) (stage : Stage) (sources : List (List ℕ)) (m : Module) → length sources ≤ MAX_SOURCES → (accepts : Accepts target stage sources m) → accepts.linked.blocks ≡ [] → (input : Input) → IsFitting accepts.linked input → Does m accepts.linked input × EndsExactly m accepts.linked input }
+{}
+
+/// Where the program that sources make reads no struct and no array of a block whole, the valid module that it is lowered to does what the shader does on every input that fits and that has fewer than 2^32 bytes in each buffer: it ends with an output exactly when the shader does, it strays exactly when the shader does, and it never comes to an instruction that is none.
+pub fn lowered_modules_do_as_shaders()
+    ensures { (target : Target) (stage : Stage) (sources : List (List ℕ)) (p : Program) (m : Module) → length sources ≤ MAX_SOURCES → linked_of stage sources ≡ Ok p → ReadsNoWholes p → module_for target p ≡ Some m → Valid m → (input : Input) → IsFitting p input → IsShortFor p input → Does m p input × EndsExactly m p input }
 {}
 
 /// What comes to what the shader comes to, with any number of units, does what the shader does, within so many instructions for each unit.

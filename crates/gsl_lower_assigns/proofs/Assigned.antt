@@ -27,17 +27,18 @@ use Rattle.gsl_lower_follows.proofs.Growing.{adds_given, adds_then}
 use Rattle.gsl_lower_follows.proofs.Holding.{does_so}
 use Rattle.gsl_lower_law_expr.proofs.Operands.{given_behind, given_value}
 use Rattle.gsl_lower_law_expr.proofs.Short.{behind_assoc}
+use Rattle.gsl_lower_law_stored.specs.Buffers.{KnowsBuffers}
 use Rattle.gsl_lower_reaching.specs.Reaching.{GivesPlace, HasReached, HasStrayed, IsTrail, Start}
+use Rattle.gsl_lower_reaching.specs.Reaching.Start.{OfBlock}
 use Rattle.gsl_lower_reaching.specs.Trails.{IsInside, IsOutside, Trail}
 use Rattle.gsl_lower_reaching.proofs.Moving.{trail_after}
-use Rattle.gsl_lower_reads.specs.Waiting.{IsKept}
-use Rattle.gsl_lower_reads.proofs.Holds.{adds_fetched, is_fetched}
-use Rattle.gsl_lower_reads.proofs.Probing.{adds_tested, kept_in, kept_none, kept_out}
+use Rattle.gsl_lower_indexes.specs.OfReads.{IsKept}
+use Rattle.gsl_lower_indexes.proofs.OfReads.{adds_fetched, is_fetched}
+use Rattle.gsl_lower_indexes.proofs.OfReads.{adds_tested, kept_in, kept_none, kept_out}
 use Rattle.gsl_lower_indexes.specs.Computed.{Comes}
-use Rattle.gsl_lower_writes.specs.Written.{IsWritten}
-use Rattle.gsl_lower_writes.proofs.Adding.{adds_stores}
-use Rattle.gsl_lower_writes.proofs.Outside.{store_strays}
-use Rattle.gsl_lower_writes.proofs.Stored.{trail_stored}
+use Rattle.gsl_lower_stores.specs.OfWrites.{IsWritten}
+use Rattle.gsl_lower_stores.proofs.OfWrites.{adds_stores}
+use Rattle.gsl_lower_stores.proofs.Stored.{place_stored, place_unstored}
 use Rattle.gsl_lower_assigns.specs.Assigning.{Assigns, assign_means}
 
 -- what comes to something goes on to stray
@@ -47,7 +48,7 @@ comes_strays (Ends s) comes = absurd comes
 comes_strays Strays comes = refl
 comes_strays Goes comes = absurd comes
 
-module _ (m : Module) (input : Input) (sections : Sections) (f : Frame m input sections) (p : Program) (around : Around) (loose : Start) (a right : Lower) (y : Run Value) (known : Assigns p a right y) (gives : GivesValue m input sections f p around right.traits.splits right.ty right.value y) where
+module _ (m : Module) (input : Input) (sections : Sections) (f : Frame m input sections) (p : Program) (around : Around) (loose : Start) (knows : loose ≡ OfBlock → KnowsBuffers m input sections f p) (a right : Lower) (y : Run Value) (known : Assigns p a right y) (gives : GivesValue m input sections f p around right.traits.splits right.ty right.value y) where
   abbrev t : Ty
   t = a.ty
 
@@ -106,25 +107,25 @@ module _ (m : Module) (input : Input) (sections : Sections) (f : Frame m input s
 
   module _ (id : ℕ) (v : Value) (typed : is_value_of p.structs t v ≡ true) where
     module _ (b : Flow) (s : shader.State) (units : ℕ) (state : State) (r : Reached) (l : Trail) (good : Good m input sections f p around b s state) (is : IsTrail m input sections f p around false loose b state r l) (stands : Stands state.ids id v) where
-      put_inside : (x : Access) → IsInside p.structs true t x l → Does m input sections f p 0 units state (Has false b state) none_waits (Got v (stored x v s) units) (put_in id r b)
+      put_inside : (x : Access) → IsInside p.structs p.blocks true t x l → Does m input sections f p 0 units state (Has false b state) none_waits (Got v (stored x v s) units) (put_in id r b)
       put_inside x inside =
           does_then m input sections f p 0 units b state (IsWritten m input sections f p around b state) none_waits (Has false b state) none_waits (Got tt (stored x v s) units) (λ one u left. Got v u left) (stores p.structs t r id b) (λ done. given id) good.inside
           (adds_stores m input sections p.structs t r id b) (λ done. adds_given id)
-          (trail_stored m input sections f p around known.are loose t known.sound id v typed x l inside b s units state r good is stands)
+          (place_stored m input sections f p around known.are loose t known.sound id v typed knows x l inside b s units state r good is stands)
           (λ done between one u left mid within grown after less. λ there. reaches_here m input left mid (Has false b state id between v u) (record { given = inr (typed, (after.ids refl).same id _ stands); after = after }))
           (λ done between u left mid within grown none less. absurd none)
 
-      put_outside : IsOutside p.structs true t l → Does m input sections f p 0 units state (Has false b state) none_waits Strays (put_in id r b)
+      put_outside : IsOutside p.structs p.blocks true t l → Does m input sections f p 0 units state (Has false b state) none_waits Strays (put_in id r b)
       put_outside outside =
           does_then m input sections f p 0 units b state (λ done later (one : Value) u last. ⊥) none_waits (Has false b state) none_waits Strays (λ one u left. Strays) (stores p.structs t r id b) (λ done. given id) good.inside
           (adds_stores m input sections p.structs t r id b) (λ done. adds_given id)
-          (store_strays m input sections f p around known.are loose t known.sound id v typed units b s state r l (λ done later (one : Value) u last. ⊥) good is outside stands)
+          (place_unstored m input sections f p around known.are loose t known.sound id v typed units b s state r l (λ done later (one : Value) u last. ⊥) good is outside stands)
           (λ done between one u left mid within grown none less. absurd none)
           (λ done between u left mid within grown none less. absurd none)
 
     -- behind what waited
     module _ (b : Flow) (s : shader.State) (units : ℕ) (state : State) (kept : Reached) (l : Trail) (good : Good m input sections f p around b s state) (is : IsTrail m input sections f p around more loose b state kept l) (stands : Stands state.ids id v) where
-      fetched_in : (x : Access) → IsInside p.structs true t x l → Does m input sections f p 0 units state (Has false b state) none_waits (Got v (stored x v s) units) (behind_value kept id b)
+      fetched_in : (x : Access) → IsInside p.structs p.blocks true t x l → Does m input sections f p 0 units state (Has false b state) none_waits (Got v (stored x v s) units) (behind_value kept id b)
       fetched_in x inside =
           does_then m input sections f p 0 units b state (IsKept m input sections f p around false loose l s b state) none_waits (Has false b state) none_waits (Got tt s units) (λ one u left. Got v (stored x v u) left) (fetch_reached more kept b) (put_in id) good.inside
           (adds_fetched m input sections more kept b) (adds_put id)
@@ -134,7 +135,7 @@ module _ (m : Module) (input : Input) (sections : Sections) (f : Frame m input s
           (put_inside between u left mid to l q.after.good q.is ((q.after.ids refl).same id _ stands) x inside))
           (λ to between u left mid within grown none less. absurd none)
 
-      fetched_out : IsOutside p.structs true t l → Does m input sections f p 0 units state (Has false b state) none_waits Strays (behind_value kept id b)
+      fetched_out : IsOutside p.structs p.blocks true t l → Does m input sections f p 0 units state (Has false b state) none_waits Strays (behind_value kept id b)
       fetched_out outside =
           does_then m input sections f p 0 units b state (IsKept m input sections f p around false loose l s b state) none_waits (Has false b state) none_waits (Got tt s units) (λ one u left. Strays) (fetch_reached more kept b) (put_in id) good.inside
           (adds_fetched m input sections more kept b) (adds_put id)
@@ -157,7 +158,7 @@ module _ (m : Module) (input : Input) (sections : Sections) (f : Frame m input s
       v_stands : Stands mid.ids id v
       v_stands = (given_value m input sections f p around mid.ids id right.ty v real g.given).1
 
-    right_in : (x : Access) → IsInside p.structs true t x l → Does m input sections f p 0 units state (Has more b state) none_waits (shader_run.◌>>=◌ y (storing x) s units) (rest kept b)
+    right_in : (x : Access) → IsInside p.structs p.blocks true t x l → Does m input sections f p 0 units state (Has more b state) none_waits (shader_run.◌>>=◌ y (storing x) s units) (rest kept b)
     right_in x inside =
         does_then m input sections f p 0 units b state IsRight none_waits (Has more b state) none_waits (y s units) (storing x) (right.value b) (behind_value kept) good.inside
         (gives.adds b) (adds_behind kept)
@@ -167,7 +168,7 @@ module _ (m : Module) (input : Input) (sections : Sections) (f : Frame m input s
         (fetched_in id v (v_typed id between v u mid g) between u left mid kept l g.after.good (trail_after m input sections f p around more loose b between state mid u kept l grown g.after is) (v_stands id between v u mid g) x inside))
         (λ id between u left mid within grown none less. absurd none)
 
-    right_out : right.traits.calls ≡ false → IsOutside p.structs true t l → Does m input sections f p 0 units state (Has more b state) none_waits Strays (rest kept b)
+    right_out : right.traits.calls ≡ false → IsOutside p.structs p.blocks true t l → Does m input sections f p 0 units state (Has more b state) none_waits Strays (rest kept b)
     right_out alone outside =
         subst (λ ran. Does m input sections f p 0 units state (Has more b state) none_waits ran (rest kept b)) (comes_strays (y s units) (known.comes alone s units))
         (does_then m input sections f p 0 units b state IsRight none_waits (Has more b state) none_waits (y s units) (λ v u left. Strays) (right.value b) (behind_value kept) good.inside
@@ -181,7 +182,7 @@ module _ (m : Module) (input : Input) (sections : Sections) (f : Frame m input s
   -- ---- the left side
 
   module _ (b : Flow) (s : shader.State) (units : ℕ) (state : State) (r : Reached) (l : Trail) (good : Good m input sections f p around b s state) (is : IsTrail m input sections f p around false loose b state r l) where
-    next_in : (x : Access) → IsInside p.structs true t x l → Does m input sections f p 0 units state (Has more b state) none_waits (shader_run.◌>>=◌ y (storing x) s units) (next r b)
+    next_in : (x : Access) → IsInside p.structs p.blocks true t x l → Does m input sections f p 0 units state (Has more b state) none_waits (shader_run.◌>>=◌ y (storing x) s units) (next r b)
     next_in x inside =
         does_then m input sections f p 0 units b state (IsKept m input sections f p around more loose l s b state) none_waits (Has more b state) none_waits (Got tt s units) (λ one u left. shader_run.◌>>=◌ y (storing x) u left) (before r b) rest good.inside
         (adds_before r b) adds_rest
@@ -191,7 +192,7 @@ module _ (m : Module) (input : Input) (sections : Sections) (f : Frame m input s
         (right_in between u left mid kept l q.after.good q.is x inside))
         (λ kept between u left mid within grown none less. absurd none)
 
-    next_out : IsOutside p.structs true t l → Does m input sections f p 0 units state (Has more b state) none_waits Strays (next r b)
+    next_out : IsOutside p.structs p.blocks true t l → Does m input sections f p 0 units state (Has more b state) none_waits Strays (next r b)
     next_out outside = by right.traits.calls refl
       where
         by : (calls : Bool) → right.traits.calls ≡ calls → Does m input sections f p 0 units state (Has more b state) none_waits Strays ((lift (probe p.structs calls t r) >>= (λ done. hold_reached more r) >>= rest) b)

@@ -1,49 +1,40 @@
 -- A new value is computed and stored.
-use Rattle.std.proofs.Common.{◌≡◌, ◌≢◌, refl, sym, subst, inr, ℕ, Bool, true, false, ◌||◌, List, length, Some}
+use Rattle.std.proofs.Common.{◌≡◌, ◌≢◌, refl, inr, ℕ, Bool, true, false, ◌||◌, List}
 use Rattle.gsl_base.specs.declared.input.Input.{Input}
-use Rattle.gsl_types.specs.Known.{AreStructs, IsSound}
 use Rattle.gsl_types.specs.declared.ty.Ty.{Ty}
 use Rattle.gsl_types.specs.declared.ty.Ty.TheVariants.{Void}
 use Rattle.gsl_words.specs.declared.module.Module.{Module}
 use Rattle.gsl_values.specs.declared.value.Value.{Value}
 use Rattle.gsl_tree.specs.Around.{Around}
 use Rattle.gsl_tree.specs.Operations.{Given}
-use Rattle.gsl_tree.specs.Shapes.{Shape, shape_of}
 use Rattle.gsl_tree.specs.Values.{is_value_of}
 use Rattle.gsl_tree.specs.declared.program.Program.{Program}
 use Rattle.gsl_typed_law.specs.Given.{AreChoices, Gives}
-use Rattle.gsl_meaning.specs.Accesses.{Access, read as means_read, stored}
+use Rattle.gsl_meaning.specs.Accesses.{Access, stored}
 use Rattle.gsl_meaning.specs.Running.{Got, Ran, drawing, storing}
 use Rattle.gsl_meaning.specs.Running as shader_run
 use Rattle.gsl_meaning.specs.State as shader
 use Rattle.gsl_machine.specs.State.{Ids, State}
 use Rattle.gsl_spv.specs.Sections.{Sections}
 use Rattle.gsl_lower_values.specs.Building.{Step}
-use Rattle.gsl_lower_places.specs.Reading.{read}
-use Rattle.gsl_lower_places.specs.Writing.{stored as stored_step}
 use Rattle.gsl_lower_places.specs.declared.reached.Reached.{Reached}
 use Rattle.gsl_lower_law.specs.Computing.{Computes}
 use Rattle.gsl_lower_law.specs.Values.{Keeps, Stands}
 use Rattle.gsl_lower_law.proofs.Joining.{keeps_same, keeps_then}
-use Rattle.gsl_lower_law_places.proofs.Stored.{Nothing, stored_left}
 use Rattle.gsl_lower_holders.specs.Flow.{Emit, Flow, given, lift, ◌>>=◌}
-use Rattle.gsl_lower_expr.specs.Parts.{read_by, reads, store_by, stores}
+use Rattle.gsl_lower_expr.specs.Parts.{stores}
 use Rattle.gsl_lower_follows.specs.Frames.{Frame, Good}
 use Rattle.gsl_lower_follows.specs.Giving.{Adds, After, Does, Grown, HasGiven, none_waits}
 use Rattle.gsl_lower_follows.proofs.Behind.{reaches_here}
-use Rattle.gsl_lower_follows.proofs.Doing.{does_lift, does_then}
+use Rattle.gsl_lower_follows.proofs.Doing.{does_then}
 use Rattle.gsl_lower_follows.proofs.Drawn.{computed_given}
 use Rattle.gsl_lower_follows.proofs.Growing.{adds_given, adds_lift, adds_then}
 use Rattle.gsl_lower_follows.proofs.Holding.{does_so}
 use Rattle.gsl_lower_law_expr.proofs.Operands.{given_behind, given_value}
 use Rattle.gsl_lower_law_expr.proofs.Steps.{Always}
-use Rattle.gsl_lower_reaching.specs.Reaching.{AtVariable, Start}
-use Rattle.gsl_lower_reaching.specs.Trails.{IsInside, Trail}
-use Rattle.gsl_lower_reads.proofs.Adding.{always_read}
-use Rattle.gsl_lower_writes.specs.Written.{IsWritten}
-use Rattle.gsl_lower_writes.proofs.Adding.{adds_stores}
-use Rattle.gsl_lower_writes.proofs.Pointed.{ServesPlace}
-use Rattle.gsl_lower_writes.proofs.Renewed.{after_stored}
+use Rattle.gsl_lower_stores.specs.OfWrites.{Serves}
+use Rattle.gsl_lower_stores.specs.OfWrites.{IsWritten}
+use Rattle.gsl_lower_stores.proofs.OfWrites.{adds_stores}
 
 module _ (m : Module) (input : Input) (sections : Sections) (f : Frame m input sections) (p : Program) (around : Around) (t : Ty) where
   -- its value was given
@@ -102,33 +93,17 @@ module _ (m : Module) (input : Input) (sections : Sections) (f : Frame m input s
           (stores_here new new v v between u left mid h.after.good (still_keeping state.ids mid.ids (h.after.ids refl) keeping) got.0 got.1 got.0 got.1))
           (λ new between u left mid within grown none less. absurd none)
 
-  -- ---- by one pointer
+  module _ (x : Access) where
+    -- ---- what serves to read and to store
 
-  module _ (are : AreStructs p.structs) (loose : Start) (sound_t : IsSound (length p.structs) t) (shape : Shape) (shaped : shape_of t ≡ Some shape) (r : Reached) (a : Access) (l : Trail) (x : AtVariable m input sections f p around loose r.base l) (inside : IsInside p.structs true t a l) where
     abbrev pub Serving : Reached → Ids → Type 0
-    Serving = ServesPlace m input sections f p around are loose t sound_t shape shaped r a l x inside
+    Serving = Serves m input sections f p around t x
 
     pub still_serving : (to : Reached) (ids later : Ids) → Keeps ids later → Serving to ids → Serving to later
     still_serving to ids later keeps serving = record {
-      reads = λ b s state good more. serving.reads b s state good (keeps_then keeps more);
-      stores = λ b s state value v typed good more stands. serving.stores b s state value v typed good (keeps_then keeps more) stands;
+      reads = λ b s units state good more. serving.reads b s units state good (keeps_then keeps more);
+      stores = λ b s units state value v good more typed stands. serving.stores b s units state value v good (keeps_then keeps more) typed stands;
     }
 
-    pub serving_keeps : (to : Reached) (ids : Ids) → Serving to ids → Keeping a to ids
-    unfolding stores
-    serving_keeps to ids serving = record {
-      stores = λ b s units state value v good keeps typed stands.
-          subst (λ o. Does m input sections f p 0 units state (IsWritten m input sections f p around b state) none_waits (Got tt (stored a v s) units) (store_by p.structs t to value o b)) (sym shaped)
-          (does_lift m input sections f p around units b s state Nothing (stored_left m input sections state _ state.buffers) (IsWritten m input sections f p around b state) none_waits tt (stored a v s) (stored_step shape to value) good
-          (serving.stores b s state value v typed good keeps stands)
-          (λ done later q inside_later extends. after_stored m input sections f p around are loose t sound_t b s state r a l good x inside v typed q.ids later inside_later q.ready q.keeps));
-    }
-
-    -- what is there now
-    pub serving_reads : (to : Reached) (b : Flow) (s : shader.State) (units : ℕ) (state : State) → is_value_of p.structs t (means_read p.structs t a s) ≡ true → Good m input sections f p around b s state → Serving to state.ids
-        → Does m input sections f p 0 units state (Has false b state) none_waits (Got (means_read p.structs t a s) s units) (reads p.structs t to b)
-    unfolding reads
-    serving_reads to b s units state typed good serving =
-        subst (λ o. Does m input sections f p 0 units state (Has false b state) none_waits (Got (means_read p.structs t a s) s units) (read_by p.structs t to o b)) (sym shaped)
-        (computed_given m input sections f p around t (λ choices. (means_read p.structs t a s, choices)) (read shape to) (λ b. always_read m input sections shape to b.sections) (λ choices are. record { typed = typed; left = are }) b s units state good
-        (serving.reads b s state good (keeps_same state.ids)))
+    pub serving_keeps : (to : Reached) (ids : Ids) → Serving to ids → Keeping x to ids
+    serving_keeps to ids serving = record { stores = serving.stores }

@@ -23,10 +23,11 @@ use Rattle.gsl_lower_places.specs.Pointed.{to_renew}
 use Rattle.gsl_lower_places.specs.declared.reached.Reached.{Reached}
 use Rattle.gsl_lower_law.specs.Computing.{Computes}
 use Rattle.gsl_lower_law.specs.Values.{IsOf, Stands}
+use Rattle.gsl_lower_law.proofs.Joining.{keeps_same}
 use Rattle.gsl_lower_law_operators.proofs.Straights.{stepped_computes}
 use Rattle.gsl_lower_holders.specs.Flow.{Emit, Flow, given, lift, ◌>>=◌}
 use Rattle.gsl_lower_expr.specs.Parts.{Lower, reads, shape_or, stepped, stepped_at, stores}
-use Rattle.gsl_lower_follows.specs.Frames.{Frame, Good, HeldAs}
+use Rattle.gsl_lower_follows.specs.Frames.{Frame, Good}
 use Rattle.gsl_lower_follows.specs.Giving.{Adds, Does, GivesValue, none_waits}
 use Rattle.gsl_lower_follows.proofs.Doing.{does_then}
 use Rattle.gsl_lower_follows.proofs.Drawn.{computed_given}
@@ -35,21 +36,19 @@ use Rattle.gsl_lower_law_expr.proofs.Binary.{shape_is}
 use Rattle.gsl_lower_law_expr.proofs.Operands.{given_value}
 use Rattle.gsl_lower_law_expr.proofs.Shapes.{value_shape}
 use Rattle.gsl_lower_law_expr.proofs.Steps.{always_stepped}
-use Rattle.gsl_lower_reaching.specs.Reaching.{AtVariable, GivesPlace, HasReached, HasStrayed, IsTrail, Start}
+use Rattle.gsl_lower_law_stored.specs.Buffers.{KnowsBuffers}
+use Rattle.gsl_lower_reaching.specs.Reaching.{GivesPlace, HasReached, HasStrayed, IsTrail, Start}
 use Rattle.gsl_lower_reaching.specs.Reaching.Start.{OfBlock}
-use Rattle.gsl_lower_reaching.specs.Reaching.Begins.{variable}
 use Rattle.gsl_lower_reaching.specs.Trails.{IsInside, IsOutside, Trail}
-use Rattle.gsl_lower_reads.proofs.Adding.{adds_reads}
-use Rattle.gsl_lower_reads.proofs.Found.{read_typed}
-use Rattle.gsl_lower_reads.proofs.Straying.{read_strays}
-use Rattle.gsl_lower_writes.proofs.Adding.{adds_stores, always_renewed}
-use Rattle.gsl_lower_writes.proofs.Outside.{renewed_strays}
-use Rattle.gsl_lower_writes.proofs.Pointed.{IsServed, ServesPlace, place_renewed}
-use Rattle.gsl_lower_writes.proofs.Stored.{at_variable, own_named}
+use Rattle.gsl_lower_indexes.proofs.OfReads.{adds_reads}
+use Rattle.gsl_lower_indexes.proofs.OfReads.{read_strays}
+use Rattle.gsl_lower_stores.specs.OfWrites.{IsReady}
+use Rattle.gsl_lower_stores.proofs.OfWrites.{adds_stores, always_renewed}
+use Rattle.gsl_lower_stores.proofs.Ready.{place_ready, ready_strays}
 use Rattle.gsl_lower_assigns.specs.Updating.{IsStepped, step_means}
-use Rattle.gsl_lower_assigns.proofs.Finishing.{Has, from_before, serving_keeps, serving_reads, still_serving, stores_here}
+use Rattle.gsl_lower_assigns.proofs.Finishing.{Has, Serving, from_before, serving_keeps, still_serving, stores_here}
 
-module _ (m : Module) (input : Input) (sections : Sections) (f : Frame m input sections) (p : Program) (around : Around) (loose : Start) (a : Lower) (which : StepOp) (known : IsStepped p a.ty which) where
+module _ (m : Module) (input : Input) (sections : Sections) (f : Frame m input sections) (p : Program) (around : Around) (loose : Start) (knows : loose ≡ OfBlock → KnowsBuffers m input sections f p) (a : Lower) (which : StepOp) (known : IsStepped p a.ty which) where
   abbrev t : Ty
   t = a.ty
 
@@ -99,15 +98,9 @@ module _ (m : Module) (input : Input) (sections : Sections) (f : Frame m input s
       stepped_computes m input sections which (operand (shape_or t) old) v state before (subst (λ s. IsOf s v) (sym same_shape) (value_shape p.structs t known.shape v known.are known.sound known.shaped typed).1) stands
 
   module _ (b : Flow) (s : shader.State) (units : ℕ) (state : State) (r : Reached) (l : Trail) (good : Good m input sections f p around b s state) (is : IsTrail m input sections f p around false loose b state r l) where
-    module _ (acc : Access) (inside : IsInside p.structs true t acc l) where
-      x : AtVariable m input sections f p around loose r.base l
-      x = at_variable m input sections f p around b state loose r l (own_named m input sections f p around b state loose r l is (inside.named refl)) (inside.named refl)
-
-      abbrev Serving : Reached → Ids → Type 0
-      Serving = ServesPlace m input sections f p around known.are loose t known.sound known.shape known.shaped r acc l x inside
-
-      there_typed : (b : Flow) (s : shader.State) (state : State) → Good m input sections f p around b s state → is_value_of p.structs t (means_read p.structs t acc s) ≡ true
-      there_typed b s state good = read_typed m input sections f p around known.are (λ id v. HeldAs m input sections f false id v b state) b.place.used b s state state loose true r.base r.path t acc l good (variable x) inside known.sound
+    module _ (acc : Access) (inside : IsInside p.structs p.blocks true t acc l) where
+      abbrev Served : Reached → Ids → Type 0
+      Served = Serving m input sections f p around t acc
 
       result_stands : (ids : Ids) (old new : ℕ) (v w : Value) → Stands ids old v → Stands ids new w → (postfix : Bool) → Stands ids (if postfix then old else new) (if postfix then v else w)
       result_stands ids old new v w stands_old stands_new true = stands_old
@@ -118,7 +111,7 @@ module _ (m : Module) (input : Input) (sections : Sections) (f : Frame m input s
       result_typed v w typed_v typed_w false = typed_w
 
       -- the new value
-      with_old_in : (to : Reached) (old : ℕ) (v : Value) (b : Flow) (s : shader.State) (units : ℕ) (state : State) → Good m input sections f p around b s state → Serving to state.ids → is_value_of p.structs t v ≡ true → Stands state.ids old v
+      with_old_in : (to : Reached) (old : ℕ) (v : Value) (b : Flow) (s : shader.State) (units : ℕ) (state : State) → Good m input sections f p around b s state → Served to state.ids → is_value_of p.structs t v ≡ true → Stands state.ids old v
           → Does m input sections f p 0 units state (Has m input sections f p around t false b state) none_waits (goes_on acc v s units) (with_old to old b)
       with_old_in to old v b s units state good serving typed stands =
           does_then m input sections f p 0 units b state (Has m input sections f p around t false b state) none_waits (Has m input sections f p around t false b state) none_waits (Got (step_value which v) s units) (λ w u left. Got (result_of v w) (stored acc w u) left) (lift (step old) b) (with_new to old) good.inside
@@ -129,41 +122,42 @@ module _ (m : Module) (input : Input) (sections : Sections) (f : Frame m input s
           let got = given_value m input sections f p around mid.ids new t w known.real h.given in
           from_before m input sections f p around t false false false b between state mid u left (Got (result_of v w) (stored acc w u) left) (with_new to old new) (λ e. refl) grown h.after
           (stores_here m input sections f p around t acc to new (result_of old new) w (result_of v w) between u left mid h.after.good
-          (serving_keeps m input sections f p around t known.are loose known.sound known.shape known.shaped r acc l x inside to mid.ids (still_serving m input sections f p around t known.are loose known.sound known.shape known.shaped r acc l x inside to state.ids mid.ids (h.after.ids refl) serving))
+          (serving_keeps m input sections f p around t acc to mid.ids (still_serving m input sections f p around t acc to state.ids mid.ids (h.after.ids refl) serving))
           got.0 got.1 (result_typed v w typed got.0 (is_postfix which)) (result_stands mid.ids old new v w ((h.after.ids refl).same old _ stands) got.1 (is_postfix which))))
           (λ new between u left mid within grown none less. absurd none)
 
-      by_pointer_in : (to : Reached) (b : Flow) (s : shader.State) (units : ℕ) (state : State) → Good m input sections f p around b s state → Serving to state.ids
+      by_pointer_in : (to : Reached) (b : Flow) (s : shader.State) (units : ℕ) (state : State) → Good m input sections f p around b s state → Served to state.ids
           → Does m input sections f p 0 units state (Has m input sections f p around t false b state) none_waits (goes_on acc (means_read p.structs t acc s) s units) (by_pointer to b)
       by_pointer_in to b s units state good serving =
           does_then m input sections f p 0 units b state (Has m input sections f p around t false b state) none_waits (Has m input sections f p around t false b state) none_waits (Got (means_read p.structs t acc s) s units) (goes_on acc) (reads p.structs t to b) (with_old to) good.inside
           (adds_reads m input sections p.structs t to b) (adds_old to)
-          (serving_reads m input sections f p around t known.are loose known.sound known.shape known.shaped r acc l x inside to b s units state (there_typed b s state good) good serving)
+          (serving.reads b s units state good (keeps_same state.ids))
           (λ old between v u left mid within grown h less.
           let got = given_value m input sections f p around mid.ids old t v known.real h.given in
           from_before m input sections f p around t false false false b between state mid u left (goes_on acc v u left) (with_old to old) (λ e. refl) grown h.after
-          (with_old_in to old v between u left mid h.after.good (still_serving m input sections f p around t known.are loose known.sound known.shape known.shaped r acc l x inside to state.ids mid.ids (h.after.ids refl) serving) got.0 got.1))
+          (with_old_in to old v between u left mid h.after.good (still_serving m input sections f p around t acc to state.ids mid.ids (h.after.ids refl) serving) got.0 got.1))
           (λ old between u left mid within grown none less. absurd none)
 
       next_in : Does m input sections f p 0 units state (Has m input sections f p around t false b state) none_waits (shader_run.◌>>=◌ (told_by (means_read p.structs t acc)) (goes_on acc) s units) (next r b)
       next_in =
           subst (λ shape. Does m input sections f p 0 units state (Has m input sections f p around t false b state) none_waits (goes_on acc (means_read p.structs t acc s) s units) ((lift (to_renew shape r) >>= by_pointer) b)) (sym same_shape)
-          (does_then m input sections f p 0 units b state (IsServed m input sections f p around known.are loose t known.sound known.shape known.shaped r acc l x inside b s state) none_waits (Has m input sections f p around t false b state) none_waits (Got tt s units) (λ one u left. goes_on acc (means_read p.structs t acc u) u left) (lift (to_renew known.shape r) b) by_pointer good.inside
+          (does_then m input sections f p 0 units b state (IsReady m input sections f p around t acc b s state) none_waits (Has m input sections f p around t false b state) none_waits (Got tt s units) (λ one u left. goes_on acc (means_read p.structs t acc u) u left) (lift (to_renew known.shape r) b) by_pointer good.inside
           (adds_lift (to_renew known.shape r) (λ b. always_renewed m input sections known.shape r b.sections) b) adds_pointer
-          (place_renewed m input sections f p around known.are loose t known.sound known.shape known.shaped r acc l x inside b s units state good (own_named m input sections f p around b state loose r l is (inside.named refl)))
+          (place_ready m input sections f p around known.are loose t known.sound known.shape known.shaped knows r acc l inside b s units state good is)
           (λ to between one u left mid within grown q less.
           from_before m input sections f p around t false false false b between state mid u left (goes_on acc (means_read p.structs t acc u) u left) (by_pointer to) (λ e. refl) grown q.after
           (by_pointer_in to between u left mid q.after.good q.serves))
           (λ to between u left mid within grown none less. absurd none))
 
-    next_out : IsOutside p.structs true t l → Does m input sections f p 0 units state (Has m input sections f p around t false b state) none_waits Strays (next r b)
+    next_out : IsOutside p.structs p.blocks true t l → Does m input sections f p 0 units state (Has m input sections f p around t false b state) none_waits Strays (next r b)
     next_out outside =
-        renewed_strays m input sections f p around known.are loose t (shape_or t) units b s state r l by_pointer (Has m input sections f p around t false b state) good is outside adds_pointer
+        subst (λ shape. Does m input sections f p 0 units state (Has m input sections f p around t false b state) none_waits Strays ((lift (to_renew shape r) >>= by_pointer) b)) (sym same_shape)
+        (ready_strays m input sections f p around known.are loose t known.sound known.shape known.shaped units b s state r l by_pointer (Has m input sections f p around t false b state) good is outside adds_pointer
         (does_then m input sections f p 0 units b state (λ (old : ℕ) later (one : Value) u last. ⊥) none_waits (Has m input sections f p around t false b state) none_waits Strays (λ one u left. Strays) (reads p.structs t r b) (with_old r) good.inside
         (adds_reads m input sections p.structs t r b) (adds_old r)
         (read_strays m input sections f p around known.are loose true t b s state r l good is outside units (λ (old : ℕ) later (one : Value) u last. ⊥) shape_apart)
         (λ old between one u left mid within grown none less. absurd none)
-        (λ old between u left mid within grown none less. absurd none))
+        (λ old between u left mid within grown none less. absurd none)))
 
   none_more : (c : Bool) → c ≡ false → (c || false) ≡ false
   none_more true e = e

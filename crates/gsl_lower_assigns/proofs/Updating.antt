@@ -25,7 +25,8 @@ use Rattle.gsl_lower_places.specs.Pointed.{to_renew}
 use Rattle.gsl_lower_places.specs.declared.reached.Reached.{Reached}
 use Rattle.gsl_lower_law.specs.Computing.{Computes}
 use Rattle.gsl_lower_law.specs.Operands.{Fit}
-use Rattle.gsl_lower_law.specs.Values.{Keeps, Stands}
+use Rattle.gsl_lower_law.specs.Values.{Stands}
+use Rattle.gsl_lower_law.proofs.Joining.{keeps_same}
 use Rattle.gsl_lower_law_operators.proofs.Binaries.{binary_computes}
 use Rattle.gsl_lower_holders.specs.Flow.{Emit, Flow, given, lift, ◌>>=◌}
 use Rattle.gsl_lower_holders.specs.Waiting.{fetch, fetch_reached, hold, hold_reached}
@@ -43,24 +44,23 @@ use Rattle.gsl_lower_law_expr.proofs.Operands.{given_value}
 use Rattle.gsl_lower_law_expr.proofs.Shapes.{operation_fits, signed_shape, value_shape}
 use Rattle.gsl_lower_law_expr.proofs.Short.{behind_assoc, does_change}
 use Rattle.gsl_lower_law_expr.proofs.Steps.{Always, always_binary, always_given}
-use Rattle.gsl_lower_reaching.specs.Reaching.{AtVariable, GivesPlace, HasReached, HasStrayed, IsOwnTrail, IsTrail, Start}
-use Rattle.gsl_lower_reaching.specs.Reaching.IsTrail.{own}
+use Rattle.gsl_lower_law_stored.specs.Buffers.{KnowsBuffers}
+use Rattle.gsl_lower_reaching.specs.Reaching.{GivesPlace, HasReached, HasStrayed, IsTrail, Start}
 use Rattle.gsl_lower_reaching.specs.Reaching.Start.{OfBlock}
-use Rattle.gsl_lower_reaching.specs.Reaching.Begins.{variable}
 use Rattle.gsl_lower_reaching.specs.Trails.{IsInside, IsOutside, Trail}
-use Rattle.gsl_lower_reaching.proofs.Moving.{numbers_so, picks_so, trail_after}
-use Rattle.gsl_lower_reads.specs.Waiting.{IsKept}
-use Rattle.gsl_lower_reads.proofs.Holds.{adds_fetched, adds_held, is_fetched, is_held}
-use Rattle.gsl_lower_reads.proofs.Adding.{adds_reads}
-use Rattle.gsl_lower_reads.proofs.Found.{read_typed}
-use Rattle.gsl_lower_reads.proofs.Straying.{read_strays}
-use Rattle.gsl_lower_reads.proofs.Taking.{taken}
-use Rattle.gsl_lower_writes.proofs.Adding.{adds_stores, always_renewed}
-use Rattle.gsl_lower_writes.proofs.Outside.{renewed_strays}
-use Rattle.gsl_lower_writes.proofs.Pointed.{IsServed, ServesPlace, place_renewed}
-use Rattle.gsl_lower_writes.proofs.Stored.{at_variable, own_named, trail_stored}
+use Rattle.gsl_lower_reaching.proofs.Moving.{trail_after}
+use Rattle.gsl_lower_indexes.specs.OfReads.{IsKept}
+use Rattle.gsl_lower_indexes.proofs.OfReads.{adds_fetched, adds_held, is_fetched, is_held}
+use Rattle.gsl_lower_indexes.proofs.OfReads.{adds_reads}
+use Rattle.gsl_lower_indexes.proofs.OfReads.{read_strays}
+use Rattle.gsl_lower_indexes.proofs.OfReads.{taken}
+use Rattle.gsl_lower_stores.specs.OfWrites.{IsReady}
+use Rattle.gsl_lower_stores.proofs.OfWrites.{adds_stores, always_renewed}
+use Rattle.gsl_lower_stores.proofs.Ready.{place_ready, ready_strays}
+use Rattle.gsl_lower_stores.proofs.Staying.{trail_still}
+use Rattle.gsl_lower_stores.proofs.Stored.{place_stored}
 use Rattle.gsl_lower_assigns.specs.Updating.{Updates, update_means}
-use Rattle.gsl_lower_assigns.proofs.Finishing.{Has, Keeping, finishes, from_before, serving_keeps, serving_reads, still_serving}
+use Rattle.gsl_lower_assigns.proofs.Finishing.{Has, Keeping, Serving, finishes, from_before, serving_keeps, still_serving}
 
 -- what a part of lowering gives
 abbrev carrier : {B C A : Type 0} → (B → C → Emit A) → Type 0
@@ -74,7 +74,7 @@ same_fits Equal n e = refl
 same_fits Unequal n e = refl
 same_fits _ n e = absurd cc
 
-module _ (m : Module) (input : Input) (sections : Sections) (f : Frame m input sections) (p : Program) (around : Around) (loose : Start) (t right : Ty) (which : BinaryOp) (known : Updates p around which t right) where
+module _ (m : Module) (input : Input) (sections : Sections) (f : Frame m input sections) (p : Program) (around : Around) (loose : Start) (knows : loose ≡ OfBlock → KnowsBuffers m input sections f p) (t right : Ty) (which : BinaryOp) (known : Updates p around which t right) where
   abbrev operates : Operates p around which t right t
   operates = known.operates
 
@@ -177,26 +177,24 @@ module _ (m : Module) (input : Input) (sections : Sections) (f : Frame m input s
 
   -- ---- where it leads
 
-  module _ (r : Reached) (acc : Access) (l : Trail) (x : AtVariable m input sections f p around loose r.base l) (inside : IsInside p.structs true t acc l) where
-    abbrev Serving : Reached → Ids → Type 0
-    Serving = ServesPlace m input sections f p around operates.are loose t operates.sound_left known.shape known.shaped r acc l x inside
+  module _ (r : Reached) (acc : Access) (l : Trail) (inside : IsInside p.structs p.blocks true t acc l) where
+    abbrev Served : Reached → Ids → Type 0
+    Served = Serving m input sections f p around t acc
 
     -- a pointer to it, or the trail itself, which waits in holders
     abbrev PlaceAs : Bool → Reached → Flow → State → Type 0
-    PlaceAs false to b state = Serving to state.ids
+    PlaceAs false to b state = Served to state.ids
     PlaceAs true to b state = IsTrail m input sections f p around true loose b state to l
 
     place_after : (waits : Bool) (b later : Flow) (state last : State) (s : shader.State) (to : Reached) → Grown b later → After m input sections f p around waits b state later s last → PlaceAs waits to b state → PlaceAs waits to later last
-    place_after false b later state last s to grown after place = still_serving m input sections f p around t operates.are loose operates.sound_left known.shape known.shaped r acc l x inside to state.ids last.ids (after.ids refl) place
+    place_after false b later state last s to grown after place = still_serving m input sections f p around t acc to state.ids last.ids (after.ids refl) place
     place_after true b later state last s to grown after place = trail_after m input sections f p around true loose b later state last s to l grown after place
-
-    there_typed : (b : Flow) (s : shader.State) (state : State) → Good m input sections f p around b s state → is_value_of p.structs t (means_read p.structs t acc s) ≡ true
-    there_typed b s state good = read_typed m input sections f p around operates.are (λ id v. HeldAs m input sections f false id v b state) b.place.used b s state state loose true r.base r.path t acc l good (variable x) inside operates.sound_left
 
     -- the old value and the place are there, or wait
     record IsBegun (waits : Bool) (b : Flow) (s : shader.State) (state : State) (kept : Kept) (later : Flow) (one : Unit {0}) (u : shader.State) (last : State) : Type 0 where
       after : After m input sections f p around false b state later u last
       still : u ≡ s
+      typed : is_value_of p.structs t (means_read p.structs t acc s) ≡ true
       old : HeldAs m input sections f waits kept.old (means_read p.structs t acc s) later last
       to : PlaceAs waits kept.to later last
 
@@ -204,6 +202,7 @@ module _ (m : Module) (input : Input) (sections : Sections) (f : Frame m input s
     record HasRead (s : shader.State) (b : Flow) (state : State) (id : ℕ) (later : Flow) (one : Unit {0}) (u : shader.State) (last : State) : Type 0 where
       after : After m input sections f p around false b state later u last
       still : u ≡ s
+      typed : is_value_of p.structs t (means_read p.structs t acc s) ≡ true
       stands : Stands last.ids id (means_read p.structs t acc s)
 
     -- it waits
@@ -213,30 +212,31 @@ module _ (m : Module) (input : Input) (sections : Sections) (f : Frame m input s
       old : HeldAs m input sections f true kept v later last
 
     -- it was read from a pointer
-    begun_by : (to : Reached) (b0 : Flow) (s0 : shader.State) (state0 : State) (b : Flow) (s : shader.State) (units : ℕ) (state : State) → Grown b0 b → After m input sections f p around false b0 state0 b s state → s ≡ s0 → Serving to state.ids
+    begun_by : (to : Reached) (b0 : Flow) (s0 : shader.State) (state0 : State) (b : Flow) (s : shader.State) (units : ℕ) (state : State) → Grown b0 b → After m input sections f p around false b0 state0 b s state → s ≡ s0 → Served to state.ids
         → Does m input sections f p 0 units state (IsBegun false b0 s0 state0) none_waits (Got tt s units) (read_both false to b)
     unfolding hold hold_reached
     begun_by to b0 s0 state0 b s units state grown0 after0 same serving =
         does_then m input sections f p 0 units b state (HasRead s b state) none_waits (IsBegun false b0 s0 state0) none_waits (Got tt s units) (λ one u left. Got tt u left) (reads p.structs t to b) (held_both false to) after0.good.inside
         (adds_reads m input sections p.structs t to b) (adds_both false to)
-        (does_change m input sections f p around units units state (Gives_ false b state) (HasRead s b state) (means_read p.structs t acc s) tt s (reads p.structs t to b) (λ id later last h. record { after = h.after; still = refl; stands = (given_value m input sections f p around last.ids id t (means_read p.structs t acc s) operates.real_left h.given).1 })
-        (serving_reads m input sections f p around t operates.are loose operates.sound_left known.shape known.shaped r acc l x inside to b s units state (there_typed b s state after0.good) after0.good serving))
+        (does_change m input sections f p around units units state (Gives_ false b state) (HasRead s b state) (means_read p.structs t acc s) tt s (reads p.structs t to b) (λ id later last h. let got = given_value m input sections f p around last.ids id t (means_read p.structs t acc s) operates.real_left h.given in record { after = h.after; still = refl; typed = got.0; stands = got.1 })
+        (serving.reads b s units state after0.good (keeps_same state.ids)))
         (λ old between one u left mid within grown q less.
         λ there. reaches_here m input left mid (IsBegun false b0 s0 state0 (kept_as old to) between tt u) (record {
           after = after_then m input sections f p around false false b0 b between state0 state mid s u grown0 after0 q.after;
           still = q.still ∙ same;
+          typed = subst (λ w. is_value_of p.structs t (means_read p.structs t acc w) ≡ true) same q.typed;
           old = subst (λ w. Stands mid.ids old (means_read p.structs t acc w)) same q.stands;
-          to = still_serving m input sections f p around t operates.are loose operates.sound_left known.shape known.shaped r acc l x inside to state.ids mid.ids (q.after.ids refl) serving;
+          to = still_serving m input sections f p around t acc to state.ids mid.ids (q.after.ids refl) serving;
         }))
         (λ old between u left mid within grown none less. absurd none)
 
     begun_pointed : (b : Flow) (s : shader.State) (units : ℕ) (state : State) → Good m input sections f p around b s state → IsTrail m input sections f p around false loose b state r l → Does m input sections f p 0 units state (IsBegun false b s state) none_waits (Got tt s units) (begin false r b)
     begun_pointed b s units state good is =
         subst (λ shape. Does m input sections f p 0 units state (IsBegun false b s state) none_waits (Got tt s units) ((lift (to_renew shape r) >>= read_both false) b)) (sym same_shape)
-        (does_then m input sections f p 0 units b state (IsServed m input sections f p around operates.are loose t operates.sound_left known.shape known.shaped r acc l x inside b s state) none_waits (IsBegun false b s state) none_waits (Got tt s units) (λ one u left. Got tt u left) (lift (to_renew known.shape r) b) (read_both false) good.inside
+        (does_then m input sections f p 0 units b state (IsReady m input sections f p around t acc b s state) none_waits (IsBegun false b s state) none_waits (Got tt s units) (λ one u left. Got tt u left) (lift (to_renew known.shape r) b) (read_both false) good.inside
         (adds_lift (to_renew known.shape r) (λ b. always_renewed m input sections known.shape r b.sections) b) (adds_read false)
-        (place_renewed m input sections f p around operates.are loose t operates.sound_left known.shape known.shaped r acc l x inside b s units state good (own_named m input sections f p around b state loose r l is (inside.named refl)))
-        (λ to between one u left mid within grown q less. begun_by to b s state between u left mid grown q.after q.still q.serves)
+        (place_ready m input sections f p around operates.are loose t operates.sound_left known.shape known.shaped knows r acc l inside b s units state good is)
+        (λ to between one u left mid within grown q less. begun_by to b s state between u left mid grown q.after q.same q.serves)
         (λ to between u left mid within grown none less. absurd none))
 
     -- both wait
@@ -244,7 +244,7 @@ module _ (m : Module) (input : Input) (sections : Sections) (f : Frame m input s
     begun_held b s units state good is =
         does_then m input sections f p 0 units b state (HasRead s b state) none_waits (IsBegun true b s state) none_waits (Got tt s units) (λ one u left. Got tt u left) (reads p.structs t r b) (held_both true r) good.inside
         (adds_reads m input sections p.structs t r b) (adds_both true r)
-        (does_change m input sections f p around units units state (Gives_ false b state) (HasRead s b state) (means_read p.structs t acc s) tt s (reads p.structs t r b) (λ id later last h. record { after = h.after; still = refl; stands = (given_value m input sections f p around last.ids id t (means_read p.structs t acc s) operates.real_left h.given).1 })
+        (does_change m input sections f p around units units state (Gives_ false b state) (HasRead s b state) (means_read p.structs t acc s) tt s (reads p.structs t r b) (λ id later last h. let got = given_value m input sections f p around last.ids id t (means_read p.structs t acc s) operates.real_left h.given in record { after = h.after; still = refl; typed = got.0; stands = got.1 })
         (taken m input sections f p around operates.are loose true t operates.sound_left b s state r acc l good is inside units shape_apart))
         (λ old b1 one u left mid within grown q less.
         does_then m input sections f p 0 left b1 mid (IsOldHeld (means_read p.structs t acc s) u b1 mid) none_waits (IsBegun true b s state) none_waits (Got tt u left) (λ one w left. Got tt w left) (hold true old b1) (λ before. hold_reached true r >>= (λ kept. given (kept_as before kept))) within
@@ -260,6 +260,7 @@ module _ (m : Module) (input : Input) (sections : Sections) (f : Frame m input s
         λ there. reaches_here m input left mid3 (IsBegun true b s state (kept_as before kept) b3 tt z) (record {
           after = after_then m input sections f p around false false b b2 b3 state mid2 mid3 w z (grown_then grown grown2) (after_then m input sections f p around false false b b1 b2 state mid mid2 u w grown q.after h.after) k.after;
           still = k.still ∙ h.still ∙ q.still;
+          typed = q.typed;
           old = held_after m input sections f p around true b2 b3 mid2 mid3 z before (means_read p.structs t acc s) grown3 (after_any m input sections f p around true b2 b3 mid2 mid3 z k.after) h.old;
           to = k.is;
         }))
@@ -281,26 +282,19 @@ module _ (m : Module) (input : Input) (sections : Sections) (f : Frame m input s
     done_by to y i v w b s units state good keeping typed_v typed_w stands_v stands_w =
         finishes m input sections f p around t acc to (answer v w) (step i y) (always_step i y) (λ choices are. operates.gives v w choices are typed_v typed_w) operates.real_left b s units state good keeping (computes i y v w state b.sections typed_v typed_w stands_v stands_w)
 
-    -- a trail that is there stays so while ids stand for the same
-    trail_still : (to : Reached) (b later : Flow) (state last : State) → AtVariable m input sections f p around loose to.base l → Keeps state.ids last.ids → IsOwnTrail m input sections f p around false loose b state to l → IsTrail m input sections f p around false loose later last to l
-    trail_still to b later state last at keeps is = own (record {
-      begins = variable at;
-      numbers = numbers_so (λ id v. HeldAs m input sections f false id v b state) (λ id v. HeldAs m input sections f false id v later last) (λ id v stands. keeps.same id _ stands) to.path l.words is.numbers;
-      picks = picks_so (λ id v. HeldAs m input sections f false id v b state) (λ id v. HeldAs m input sections f false id v later last) (λ id v stands. keeps.same id _ stands) to.picked l.picks is.picks;
-    })
-
+    -- a trail that is there serves to store while ids stand for the same
     trail_keeps : (to : Reached) (b : Flow) (state : State) → IsTrail m input sections f p around false loose b state to l → Keeping m input sections f p around t acc to state.ids
-    trail_keeps to b state is =
-        let x = own_named m input sections f p around b state loose to l is (inside.named refl) in
-        let at = at_variable m input sections f p around b state loose to l x (inside.named refl) in
-        record { stores = λ later s units last value v good keeps typed stands. trail_stored m input sections f p around operates.are loose t operates.sound_left value v typed acc l inside later s units last to good (trail_still to b later state last at keeps x) stands }
+    trail_keeps to b state is = record {
+      stores = λ later s units last value v good keeps typed stands.
+          place_stored m input sections f p around operates.are loose t operates.sound_left value v typed knows acc l inside later s units last to good (trail_still m input sections f p around loose b later state last to l (inside.named refl) keeps is) stands;
+    }
 
     module _ (kept : Kept) (y : ℕ) (v w : Value) (typed_v : is_value_of p.structs t v ≡ true) (typed_w : is_value_of p.structs right w ≡ true) where
       ended : (waits : Bool) (b : Flow) (s : shader.State) (units : ℕ) (state : State) → Good m input sections f p around b s state → HeldAs m input sections f waits kept.old v b state → PlaceAs waits kept.to b state → Stands state.ids y w
           → Does m input sections f p 0 units state (Gives_ false b state) none_waits (goes_on v w s units) (end waits kept y b)
       unfolding fetch fetch_reached
       ended false b s units state good old place stands =
-          done_by kept.to y kept.old v w b s units state good (serving_keeps m input sections f p around t operates.are loose operates.sound_left known.shape known.shaped r acc l x inside kept.to state.ids place) typed_v typed_w old stands
+          done_by kept.to y kept.old v w b s units state good (serving_keeps m input sections f p around t acc kept.to state.ids place) typed_v typed_w old stands
       ended true b s units state good old place stands =
           does_then m input sections f p 0 units b state (Again m input sections f p around v b state) none_waits (Gives_ false b state) none_waits (Got tt s units) (λ one u left. goes_on v w u left) (fetch true t kept.old b) (with_old true kept y) good.inside
           (adds_fetch m input sections true t kept.old b) (adds_with true kept y)
@@ -345,12 +339,12 @@ module _ (m : Module) (input : Input) (sections : Sections) (f : Frame m input s
           (begun waits b s units state good is)
           (λ kept between one u left mid within grown q less.
           from_before m input sections f p around t false waits waits b between state mid u left (shader_rest (means_read p.structs t acc s) u left) (value >>= end waits kept) (λ e. e) grown q.after
-          (right_in kept (means_read p.structs t acc s) between u left mid q.after.good q.old q.to (there_typed b s state good)))
+          (right_in kept (means_read p.structs t acc s) between u left mid q.after.good q.old q.to q.typed))
           (λ kept between u left mid within grown none less. absurd none)
 
   -- ---- out of bounds
 
-  module _ (b : Flow) (s : shader.State) (units : ℕ) (state : State) (r : Reached) (l : Trail) (good : Good m input sections f p around b s state) (is : IsTrail m input sections f p around false loose b state r l) (outside : IsOutside p.structs true t l) where
+  module _ (b : Flow) (s : shader.State) (units : ℕ) (state : State) (r : Reached) (l : Trail) (good : Good m input sections f p around b s state) (is : IsTrail m input sections f p around false loose b state r l) (outside : IsOutside p.structs p.blocks true t l) where
     abbrev Never : {A : Type 0} → A → Flow → Value → shader.State → State → Type 0
     Never a later one u last = ⊥
 
@@ -364,7 +358,8 @@ module _ (m : Module) (input : Input) (sections : Sections) (f : Frame m input s
 
     begin_out : (waits : Bool) → Does m input sections f p 0 units state (λ (kept : Kept). Never kept) none_waits Strays (begin waits r b)
     begin_out false =
-        renewed_strays m input sections f p around operates.are loose t (shape_or t) units b s state r l (read_both false) (λ (kept : Kept). Never kept) good is outside (adds_read false) (both_out false)
+        subst (λ shape. Does m input sections f p 0 units state (λ (kept : Kept). Never kept) none_waits Strays ((lift (to_renew shape r) >>= read_both false) b)) (sym same_shape)
+        (ready_strays m input sections f p around operates.are loose t operates.sound_left known.shape known.shaped units b s state r l (read_both false) (λ (kept : Kept). Never kept) good is outside (adds_read false) (both_out false))
     begin_out true = both_out true
 
     all_out : (waits : Bool) (value : Emit ℕ) → Adds value → Does m input sections f p 0 units state (Gives_ waits b state) none_waits Strays ((begin waits r >>= (λ kept. value >>= end waits kept)) b)
@@ -375,16 +370,16 @@ module _ (m : Module) (input : Input) (sections : Sections) (f : Frame m input s
         (λ kept between one u left mid within grown none less. absurd none)
         (λ kept between u left mid within grown none less. absurd none)
 
-module _ (m : Module) (input : Input) (sections : Sections) (f : Frame m input sections) (p : Program) (around : Around) (loose : Start) (splits : Bool) (which : BinaryOp) (a b : Lower) (known : Updates p around which a.ty b.ty) (left : Run Access) (right : Run Value) where
+module _ (m : Module) (input : Input) (sections : Sections) (f : Frame m input sections) (p : Program) (around : Around) (loose : Start) (knows : loose ≡ OfBlock → KnowsBuffers m input sections f p) (splits : Bool) (which : BinaryOp) (a b : Lower) (known : Updates p around which a.ty b.ty) (left : Run Access) (right : Run Value) where
   abbrev waits : Bool
   waits = b.traits.splits
 
   abbrev next : Reached → Emit ℕ
-  next r = begin m input sections f p around loose a.ty b.ty which known waits r >>= (λ kept. b.value >>= end m input sections f p around loose a.ty b.ty which known waits kept)
+  next r = begin m input sections f p around loose knows a.ty b.ty which known waits r >>= (λ kept. b.value >>= end m input sections f p around loose knows a.ty b.ty which known waits kept)
 
   joined : (now : Flow) → updated p.structs which a b now ≡ (a.reach >>= next) now
   unfolding before_update after_update
-  joined now = behind_assoc (a.reach now) (begin m input sections f p around loose a.ty b.ty which known waits) (λ kept. b.value >>= end m input sections f p around loose a.ty b.ty which known waits kept)
+  joined now = behind_assoc (a.reach now) (begin m input sections f p around loose knows a.ty b.ty which known waits) (λ kept. b.value >>= end m input sections f p around loose knows a.ty b.ty which known waits kept)
 
   -- an assignment by an operator reads the old value first, and stores the new one where the left side leads
   pub place_updated : GivesPlace m input sections f p around splits loose true a.ty a.reach left → GivesValue m input sections f p around b.traits.splits b.ty b.value right
@@ -395,8 +390,8 @@ module _ (m : Module) (input : Input) (sections : Sections) (f : Frame m input s
   }
     where
       adds_next : (r : Reached) → Adds (next r)
-      adds_next r = adds_then (begin m input sections f p around loose a.ty b.ty which known waits r) (λ kept. b.value >>= end m input sections f p around loose a.ty b.ty which known waits kept) (adds_begin m input sections f p around loose a.ty b.ty which known waits r)
-          (λ kept. adds_then b.value (end m input sections f p around loose a.ty b.ty which known waits kept) gives.adds (adds_end m input sections f p around loose a.ty b.ty which known waits kept))
+      adds_next r = adds_then (begin m input sections f p around loose knows a.ty b.ty which known waits r) (λ kept. b.value >>= end m input sections f p around loose knows a.ty b.ty which known waits kept) (adds_begin m input sections f p around loose knows a.ty b.ty which known waits r)
+          (λ kept. adds_then b.value (end m input sections f p around loose knows a.ty b.ty which known waits kept) gives.adds (adds_end m input sections f p around loose knows a.ty b.ty which known waits kept))
 
       all : GivesValue m input sections f p around (splits || waits) a.ty (a.reach >>= next) (update_means p.structs a.ty left right (binary_value which (is_signed a.ty)))
       all = record {
@@ -407,8 +402,8 @@ module _ (m : Module) (input : Input) (sections : Sections) (f : Frame m input s
             (leads.does now s units state good)
             (λ r between x u last mid within grown q less.
             from_before m input sections f p around a.ty splits waits (splits || waits) now between state mid u last (shader_run.◌>>=◌ right (λ y. shader_run.◌>>=◌ (drawing (binary_value which (is_signed a.ty) (means_read p.structs a.ty x u) y)) (storing x)) u last) (next r) (λ e. e) grown q.after
-            (all_in m input sections f p around loose a.ty b.ty which known r x q.trail (at_variable m input sections f p around between mid loose r q.trail (own_named m input sections f p around between mid loose r q.trail q.is (q.inside.named refl)) (q.inside.named refl)) q.inside waits b.value right gives between u last mid q.after.good q.is))
+            (all_in m input sections f p around loose knows a.ty b.ty which known r x q.trail q.inside waits b.value right gives between u last mid q.after.good q.is))
             (λ r between u last mid within grown q less.
             from_before m input sections f p around a.ty splits waits (splits || waits) now between state mid u last Strays (next r) (λ e. e) grown q.after
-            (all_out m input sections f p around loose a.ty b.ty which known between u last mid r q.trail q.after.good q.is q.outside waits b.value gives.adds));
+            (all_out m input sections f p around loose knows a.ty b.ty which known between u last mid r q.trail q.after.good q.is q.outside waits b.value gives.adds));
       }

@@ -9,6 +9,7 @@ use Rattle.gsl_types.specs.declared.ty.Ty.{Ty}
 use Rattle.gsl_tree.specs.Expressions.{element_of}
 use Rattle.gsl_tree.specs.Operations.{length_of}
 use Rattle.gsl_tree.specs.Shapes.{Shape, shape_of}
+use Rattle.gsl_tree.specs.declared.unit.Block.{Block as Declared}
 use Rattle.gsl_meaning.specs.Accesses.{Access, index_in, index_of}
 use Rattle.gsl_lower_places.specs.declared.reached.Part.{Part}
 use Rattle.gsl_lower_places.specs.declared.reached.Part.TheVariants.{Fixed, By}
@@ -125,7 +126,7 @@ may_rechosen writes (By s id) k c e = refl
 
 -- ---- in bounds
 
-module _ (structs : List StructType) (writes : Bool) (base t : Ty) (part : Part) (k : ℕ) (sound : IsSound (length structs) base) (has : element_of base ≡ Some t) where
+module _ (structs : List StructType) (blocks : List Declared) (writes : Bool) (base t : Ty) (part : Part) (k : ℕ) (sound : IsSound (length structs) base) (has : element_of base ≡ Some t) where
   module _ (shape : Shape) (of : shape_of base ≡ Some shape) (less : k < length_of base) where
     vector : (length_of base ≡ shape.1) × (2 ≤ shape.1)
     vector = vector_counted (length structs) base t shape sound has of
@@ -194,7 +195,7 @@ module _ (structs : List StructType) (writes : Bool) (base t : Ty) (part : Part)
     root_indexed a None = refl
     root_indexed a (Some positions) = refl
 
-    pub component_inside : (a : Access) (l : Trail) → IsInside structs writes base a l → IsInside structs writes t (index_of a k) (component_trail shape part k l)
+    pub component_inside : (a : Access) (l : Trail) → IsInside structs blocks writes base a l → IsInside structs blocks writes t (index_of a k) (component_trail shape part k l)
     component_inside a l x = record {
       begins = root_indexed a a.picked ∙ x.begins;
       whole = x.whole;
@@ -241,7 +242,7 @@ module _ (structs : List StructType) (writes : Bool) (base t : Ty) (part : Part)
       out = out;
     }
 
-    pub component_outside : (l : Trail) → KnownBelow shape k part → ((c : Chosen) → l.picks ≡ Some c → k < length c.positions) → IsOutside structs writes base l → IsOutside structs writes t (component_trail shape part k l)
+    pub component_outside : (l : Trail) → KnownBelow shape k part → ((c : Chosen) → l.picks ≡ Some c → k < length c.positions) → IsOutside structs blocks writes base l → IsOutside structs blocks writes t (component_trail shape part k l)
     component_outside l less near x = record { out = by l.picks near x.out; may = may l.picks; named = x.named }
       where
         by : (o : Option Chosen) → ((c : Chosen) → o ≡ Some c → k < length c.positions) → IsOut structs l.ty base l.words o → IsMissing structs l.ty t l.words (next_chosen shape part k o)
@@ -255,7 +256,7 @@ module _ (structs : List StructType) (writes : Bool) (base t : Ty) (part : Part)
   -- ---- out of bounds here
 
   -- an element that is not there
-  pub longer_lost : (a : Access) (l : Trail) → ((shape : Shape) → shape_of base ≡ Some shape → ⊥) → length_of base ≤ k → IsInside structs writes base a l → IsOutside structs writes t (longer l k)
+  pub longer_lost : (a : Access) (l : Trail) → ((shape : Shape) → shape_of base ≡ Some shape → ⊥) → length_of base ≤ k → IsInside structs blocks writes base a l → IsOutside structs blocks writes t (longer l k)
   longer_lost a l none most x =
       let w = whole_picked x.whole base (l.front ++ l.words) l.picks a.path a.picked none x.picks in
       record {
@@ -265,14 +266,14 @@ module _ (structs : List StructType) (writes : Bool) (base t : Ty) (part : Part)
       }
 
 -- a component that is not there
-pub component_lost : (structs : List StructType) (writes : Bool) (base t : Ty) (s : Scalar) (id k : ℕ) (shape : Shape) (a : Access) (l : Trail) → IsSound (length structs) base → element_of base ≡ Some t → shape_of base ≡ Some shape → l.picks ≡ None → length_of base ≤ k
-    → IsInside structs writes base a l → IsOutside structs writes t (component_trail shape (By s id) k l)
-component_lost structs writes base t s id k shape a l sound has of none most x =
+pub component_lost : (structs : List StructType) (blocks : List Declared) (writes : Bool) (base t : Ty) (s : Scalar) (id k : ℕ) (shape : Shape) (a : Access) (l : Trail) → IsSound (length structs) base → element_of base ≡ Some t → shape_of base ≡ Some shape → l.picks ≡ None → length_of base ≤ k
+    → IsInside structs blocks writes base a l → IsOutside structs blocks writes t (component_trail shape (By s id) k l)
+component_lost structs blocks writes base t s id k shape a l sound has of none most x =
     let v = vector_counted (length structs) base t shape sound has of in
     let is : IsPicked x.whole base (l.front ++ l.words) None a.path a.picked = subst (λ c. IsPicked x.whole base (l.front ++ l.words) c a.path a.picked) none x.picks in
     record {
       out = subst (λ c. IsMissing structs l.ty t l.words (next_chosen shape (By s id) k c)) (sym none)
-          (missing_component structs writes base t (By s id) k sound has shape of l.ty l.words tt
+          (missing_component structs blocks writes base t (By s id) k sound has shape of l.ty l.words tt
           (inr (record { whole = x.whole; sound = x.sound; leads = x.leads; of = ap shape_of is.0 ∙ of; word = k; is = refl; several = v.1; outside = (let same = v.0 in omega (arith, same, most)) })));
       may = subst (λ c. MayWrite writes (Some (next_chosen shape (By s id) k c))) (sym none) (λ e. refl);
       named = x.named;

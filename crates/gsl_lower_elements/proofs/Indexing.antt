@@ -169,7 +169,7 @@ module _ (m : Module) (input : Input) (sections : Sections) (f : Frame m input s
           subst (λ c. IsTrail m input sections f p around false lies b state (with_picked r (component_of shape (By kind id))) (record l { picks = Some (next_chosen shape (By kind id) k c) })) (sym (e ∙ none))
           (with_picks lies b state r l (picking shape (Some (By kind id)) (0 ∷ [])) (record { shape = shape; word = Some k; positions = 0 ∷ [] }) is (refl, refl, is_k))
 
-      module _ (a : Access) (inside : IsInside p.structs writes base a l) where
+      module _ (a : Access) (inside : IsInside p.structs p.blocks writes base a l) where
         counted : (shape : Shape) → shape_of base ≡ Some shape → parts_at a s ≡ length_of base
         counted shape of = by is
           where
@@ -185,12 +185,12 @@ module _ (m : Module) (input : Input) (sections : Sections) (f : Frame m input s
           strays most = cond-false (nat_lt k (parts_at a s)) (Got (index_of a k) s units) Strays (le-ltb k (parts_at a s) (subst (λ n. n ≤ k) (sym are_so) most))
 
           -- nothing is done, and the trail is longer
-          here_in : (next : Reached) (trail : Trail) → IsTrail m input sections f p around false lies b state next trail → IsInside p.structs writes t (index_of a k) trail → k < count
+          here_in : (next : Reached) (trail : Trail) → IsTrail m input sections f p around false lies b state next trail → IsInside p.structs p.blocks writes t (index_of a k) trail → k < count
               → Does m input sections f p 0 units state (Reaches b state) (Strayed b state) (indexing a k s units) (Gives next b)
           here_in next trail x leads less = subst (λ ran. Does m input sections f p 0 units state (Reaches b state) (Strayed b state) ran (Gives next b)) (sym (got less))
               (λ within. reaches_here m input units state (Reaches b state next b (index_of a k) s) (record { trail = trail; is = x; inside = leads; after = after_same m input sections f p around b s state good }))
 
-          here_out : (next : Reached) (trail : Trail) → IsTrail m input sections f p around false lies b state next trail → IsOutside p.structs writes t trail → count ≤ k
+          here_out : (next : Reached) (trail : Trail) → IsTrail m input sections f p around false lies b state next trail → IsOutside p.structs p.blocks writes t trail → count ≤ k
               → Does m input sections f p 0 units state (Reaches b state) (Strayed b state) (indexing a k s units) (Gives next b)
           here_out next trail x leads most = subst (λ ran. Does m input sections f p 0 units state (Reaches b state) (Strayed b state) ran (Gives next b)) (sym (strays most))
               (λ within. later s units (reaches_here m input units state (Strayed b state next b s) (record { trail = trail; is = x; outside = leads; after = after_same m input sections f p around b s state good })))
@@ -210,9 +210,9 @@ module _ (m : Module) (input : Input) (sections : Sections) (f : Frame m input s
             own_counted = parts_counted m input sections f p around are (λ id v. HeldAs m input sections f false id v b state) b.place.used b s state state lies writes r.base r.path base a l good x.begins inside t sound has
 
             by : (k < length_of base) ⊎ (length_of base ≤ k) → Does m input sections f p 0 units state (Reaches b state) (Strayed b state) (indexing a k s units) (Gives (part_of r part) b)
-            by (inl less) = here_in (length_of base) own_counted (part_of r part) (longer l k) (own_longer none x (λ v. more_inside p.structs are writes base t k a l (none_shape base none) (inr (has, less)) sound_t inside v.value v.typed))
-                (subst (λ o. IsInside p.structs writes t (index_in a o k) (longer l k)) (sym w.unpicked) (inside_longer p.structs writes base t k a l (none_shape base none) (inr (has, less)) sound_t inside)) less
-            by (inr most) = here_out (length_of base) own_counted (part_of r part) (longer l k) (own_longer none x (λ v. let known = may.fixed none v.marked in let less = may.known known.0 known.1 fixed_length in absurd (omega (arith, less, most)))) (longer_lost p.structs writes base t part k sound has a l (none_shape base none) most inside) most
+            by (inl less) = here_in (length_of base) own_counted (part_of r part) (longer l k) (own_longer none x (λ v. more_inside p.structs p.blocks are writes base t k a l (none_shape base none) (inr (has, less)) sound_t inside v.value v.typed))
+                (subst (λ o. IsInside p.structs p.blocks writes t (index_in a o k) (longer l k)) (sym w.unpicked) (inside_longer p.structs p.blocks writes base t k a l (none_shape base none) (inr (has, less)) sound_t inside)) less
+            by (inr most) = here_out (length_of base) own_counted (part_of r part) (longer l k) (own_longer none x (λ v. let known = may.fixed none v.marked in let less = may.known known.0 known.1 fixed_length in absurd (omega (arith, less, most)))) (longer_lost p.structs p.blocks writes base t part k sound has a l (none_shape base none) most inside) most
 
         block_array : shape_of base ≡ None → IsBlockTrail m input sections f p around false lies b state r l → Does m input sections f p 0 units state (Reaches b state) (Strayed b state) (indexing a k s units) (Gives (part_of r part) b)
         block_array none x = by (cases_lt k (elements (laid_as x.begins.block.std140 p.structs l.ty) x.begins.offset (size_of m input x.begins.id)))
@@ -231,11 +231,11 @@ module _ (m : Module) (input : Input) (sections : Sections) (f : Frame m input s
             by (inl less) =
                 here_in (elements (laid_as x.begins.block.std140 p.structs l.ty) x.begins.offset (size_of m input x.begins.id)) (row_counted m input sections f p around are lies b s state r l good x writes base a inside t has none) (part_of r part) (further l k t)
                 (in_block (block_further m input sections f p around lies b state r l x part k t number here.none here.no_picks (element_laid p.structs (size_of m input x.begins.id) x.begins.block.std140 x.begins.offset k l.ty t (laid_as x.begins.block.std140 p.structs l.ty) row less) sound_t))
-                (subst (λ o. IsInside p.structs writes t (index_in a o k) (further l k t)) (sym here.unpicked) (inside_further p.structs writes base t k a l here.none here.path_is here.unpicked sound_t inside)) less
+                (subst (λ o. IsInside p.structs p.blocks writes t (index_in a o k) (further l k t)) (sym here.unpicked) (inside_further p.structs p.blocks writes base t k a l here.none here.path_is here.unpicked sound_t inside)) less
             by (inr most) =
                 here_out (elements (laid_as x.begins.block.std140 p.structs l.ty) x.begins.offset (size_of m input x.begins.id)) (row_counted m input sections f p around are lies b s state r l good x writes base a inside t has none) (part_of r part) (longer l k)
                 (in_block (block_longer m input sections f p around lies b state r l x part k number (beyond most l.words here.none)))
-                (longer_lost p.structs writes base t part k sound has a l (none_shape base none) (subst (λ u. length_of u ≤ k) here.ty (row_short p.structs (size_of m input x.begins.id) l.ty t (laid_as x.begins.block.std140 p.structs l.ty) x.begins.block.std140 x.begins.offset k row most)) inside) most
+                (longer_lost p.structs p.blocks writes base t part k sound has a l (none_shape base none) (subst (λ u. length_of u ≤ k) here.ty (row_short p.structs (size_of m input x.begins.id) l.ty t (laid_as x.begins.block.std140 p.structs l.ty) x.begins.block.std140 x.begins.offset k row most)) inside) most
 
         of_array : shape_of base ≡ None → Does m input sections f p 0 units state (Reaches b state) (Strayed b state) (indexing a k s units) (Gives (part_of r part) b)
         of_array none = by is
@@ -250,11 +250,11 @@ module _ (m : Module) (input : Input) (sections : Sections) (f : Frame m input s
             by : (one : Part) → part ≡ one → (k < length_of base) ⊎ (length_of base ≤ k) → Does m input sections f p 0 units state (Reaches b state) (Strayed b state) (indexing a k s units) (Gives (with_picked r (component_of shape one)) b)
             by one same (inl less) =
                 here_in (length_of base) (counted shape of) (with_picked r (component_of shape one)) (component_trail shape one k l) (trail_component shape one (subst (λ part. NumberBy (λ id v. HeldAs m input sections f false id v b state) part k) same number) l.picks refl none)
-                (component_inside p.structs writes base t one k sound has shape of less a l inside) less
+                (component_inside p.structs p.blocks writes base t one k sound has shape of less a l inside) less
             by (Fixed n) same (inr most) = absurd (let less = may.known n same (shape_fixed base t shape has of) in omega (arith, less, most))
             by (By kind id) same (inr most) =
                 here_out (length_of base) (counted shape of) (with_picked r (component_of shape (By kind id))) (component_trail shape (By kind id) k l) (trail_component shape (By kind id) (subst (λ part. NumberBy (λ id v. HeldAs m input sections f false id v b state) part k) same number) l.picks refl none)
-                (component_lost p.structs writes base t kind id k shape a l sound has of none most inside) most
+                (component_lost p.structs p.blocks writes base t kind id k shape a l sound has of none most inside) most
 
       -- the trail behind a component of a swizzle
       trail_again : (shape : Shape) (one : Part) (c : Chosen) (flow : Flow) (last : State) (next : Reached) → l.picks ≡ Some c → IsTrail m input sections f p around false lies flow last next (record l { picks = Some (rechosen one k c) }) → IsTrail m input sections f p around false lies flow last next (component_trail shape one k l)
@@ -277,13 +277,13 @@ module _ (m : Module) (input : Input) (sections : Sections) (f : Frame m input s
           (trail_after m input sections f p around false lies b (flow_of after b.place) state last s r l grown (after_step (IsNext r q c kind id k) b s state next after good within x) is)
           x.is.2))
 
-      module _ (a : Access) (inside : IsInside p.structs writes base a l) where
+      module _ (a : Access) (inside : IsInside p.structs p.blocks writes base a l) where
         of_swizzle : (shape : Shape) → shape_of base ≡ Some shape → (q : Picked) (c : Chosen) → l.picks ≡ Some c → PicksBy (λ id v. HeldAs m input sections f false id v b state) (Some q) (Some c) → (one : Part) → part ≡ one
             → Does m input sections f p 0 units state (Reaches b state) (Strayed b state) (indexing a k s units) (lift (steps.◌>>=◌ (component_in q one) (λ picked. steps.given (with_picked r picked))) b)
         of_swizzle shape of q c e picks (Fixed n) same =
             here_in a inside (length_of base) (counted a inside shape of) (with_picked r (record q { positions = slice_index q.positions n ∷ [] })) (component_trail shape (Fixed n) k l)
             (trail_again shape (Fixed n) c b state (with_picked r (record q { positions = slice_index q.positions n ∷ [] })) e (trail_known n q c (subst (λ part. NumberBy (λ id v. HeldAs m input sections f false id v b state) part k) same number) picks))
-            (component_inside p.structs writes base t (Fixed n) k sound has shape of (may.known n same (shape_fixed base t shape has of)) a l inside) (may.known n same (shape_fixed base t shape has of))
+            (component_inside p.structs p.blocks writes base t (Fixed n) k sound has shape of (may.known n same (shape_fixed base t shape has of)) a l inside) (may.known n same (shape_fixed base t shape has of))
         of_swizzle shape of q c e picks (By kind id) same = by (cases_lt k (length_of base))
           where
             stands : Stands state.ids id (Word k)
@@ -300,7 +300,7 @@ module _ (m : Module) (input : Input) (sections : Sections) (f : Frame m input s
                 (λ next after x within extends. record {
                   trail = component_trail shape (By kind id) k l;
                   is = trail_found shape kind id q c next after within e x (record { extends = extends; used = omega arith; place = refl });
-                  inside = component_inside p.structs writes base t (By kind id) k sound has shape of less a l inside;
+                  inside = component_inside p.structs p.blocks writes base t (By kind id) k sound has shape of less a l inside;
                   after = after_step (IsNext r q c kind id k) b s state next after good within x;
                 }))
             by (inr most) =
@@ -325,14 +325,14 @@ module _ (m : Module) (input : Input) (sections : Sections) (f : Frame m input s
 
       -- ---- behind an index that was out of bounds
 
-      module _ {R : Type 0} (Then : Reached → Flow → R → shader.State → State → Type 0) (outside : IsOutside p.structs writes base l) where
-        here_lost : (next : Reached) (trail : Trail) → IsTrail m input sections f p around false lies b state next trail → IsOutside p.structs writes t trail → Does m input sections f p 0 units state Then (Strayed b state) Strays (Gives next b)
+      module _ {R : Type 0} (Then : Reached → Flow → R → shader.State → State → Type 0) (outside : IsOutside p.structs p.blocks writes base l) where
+        here_lost : (next : Reached) (trail : Trail) → IsTrail m input sections f p around false lies b state next trail → IsOutside p.structs p.blocks writes t trail → Does m input sections f p 0 units state Then (Strayed b state) Strays (Gives next b)
         here_lost next trail x leads = λ within. later s units (reaches_here m input units state (Strayed b state next b s) (record { trail = trail; is = x; outside = leads; after = after_same m input sections f p around b s state good }))
 
         vector_lost : (shape : Shape) → shape_of base ≡ Some shape → (one : Part) → part ≡ one → l.picks ≡ None → Does m input sections f p 0 units state Then (Strayed b state) Strays (Gives (with_picked r (component_of shape one)) b)
         vector_lost shape of one same none =
             here_lost (with_picked r (component_of shape one)) (component_trail shape one k l) (trail_component shape one (subst (λ part. NumberBy (λ id v. HeldAs m input sections f false id v b state) part k) same number) l.picks refl none)
-            (component_outside p.structs writes base t one k sound has shape of l (below one same) (λ c e. absurd (let z : None ≡ Some c = sym none ∙ e in cc)) outside)
+            (component_outside p.structs p.blocks writes base t one k sound has shape of l (below one same) (λ c e. absurd (let z : None ≡ Some c = sym none ∙ e in cc)) outside)
           where
             below : (one : Part) → part ≡ one → KnownBelow shape k one
             below (Fixed n) same = (let less = may.known n same (shape_fixed base t shape has of) in let v = vector_counted (length p.structs) base t shape sound has of in let many = v.0 in omega (arith, less, many))
@@ -352,8 +352,8 @@ module _ (m : Module) (input : Input) (sections : Sections) (f : Frame m input s
             below (Fixed n) same = (let less = may.known n same (shape_fixed base t shape has of) in let v = vector_counted (length p.structs) base t shape sound has of in let many = v.0 in omega (arith, less, many))
             below (By kind id) same = tt
 
-            lost : (one : Part) → part ≡ one → k < length c.positions → IsOutside p.structs writes t (component_trail shape one k l)
-            lost one same less = component_outside p.structs writes base t one k sound has shape of l (below one same) (λ d d_is. subst (λ (d : Chosen). k < length d.positions) (some_same (sym e ∙ d_is)) less) outside
+            lost : (one : Part) → part ≡ one → k < length c.positions → IsOutside p.structs p.blocks writes t (component_trail shape one k l)
+            lost one same less = component_outside p.structs p.blocks writes base t one k sound has shape of l (below one same) (λ d d_is. subst (λ (d : Chosen). k < length d.positions) (some_same (sym e ∙ d_is)) less) outside
               where
                 some_same : {x y : Chosen} → Some x ≡ Some y → x ≡ y
                 some_same e = cc
@@ -389,7 +389,7 @@ module _ (m : Module) (input : Input) (sections : Sections) (f : Frame m input s
         step_out = by (shape_of base) refl
           where
             lost_longer : shape_of base ≡ None → IsTrail m input sections f p around false lies b state r l → IsTrail m input sections f p around false lies b state (part_of r part) (longer l k)
-            lost_longer none (own x) = own_longer none x (λ v. more_outside p.structs are writes base l (none_shape base none) outside k v.value v.typed v.has)
+            lost_longer none (own x) = own_longer none x (λ v. more_outside p.structs p.blocks are writes base l (none_shape base none) outside k v.value v.typed v.has)
             lost_longer none (in_block x) =
                 in_block (block_longer m input sections f p around lies b state r l x part k number
                 (behind_beyond (size_of m input x.begins.id) (laid_as x.begins.block.std140 p.structs l.ty) x.begins.offset l.words k p.structs l.ty (out_some p.structs l.ty base l.words l.picks (none_shape base none) outside.out) x.begins.beyond))
@@ -402,5 +402,5 @@ module _ (m : Module) (input : Input) (sections : Sections) (f : Frame m input s
             by_pick shape of (Some q) (Some c) e picks = swizzle_lost shape of q c e picks part refl
 
             by : (o : Option Shape) → shape_of base ≡ o → Does m input sections f p 0 units state Then (Strayed b state) Strays (lift (step_into o part r) b)
-            by None e = here_lost (part_of r part) (longer l k) (lost_longer e is) (outside_longer p.structs writes base t k l (none_shape base e) outside)
+            by None e = here_lost (part_of r part) (longer l k) (lost_longer e is) (outside_longer p.structs p.blocks writes base t k l (none_shape base e) outside)
             by (Some shape) e = by_pick shape e r.picked l.picks refl (picks_of_trail is)

@@ -137,7 +137,7 @@ module _ (m : Module) (input : Input) (sections : Sections) where
         picks = tt;
       }
 
-      inside : IsInside p.structs false t (member_root block number) trail
+      inside : IsInside p.structs p.blocks false t (member_root block number) trail
       unfolding trail
       inside = record { begins = refl; whole = t; sound = known.sound; leads = refl; picks = (refl, refl, refl); may = tt; named = λ e. absurd (let z : false ≡ true = e in cc) }
 

@@ -9,3 +9,5 @@ pub mod Indexing
 pub mod Rebased
 pub mod Pointed
 pub mod Literal
+pub mod OfLawExpr
+pub mod OfReaching

@@ -110,7 +110,7 @@ module _ (m : Module) (input : Input) (sections : Sections) (f : Frame m input s
   abbrev begun : Pointer
   begun = from m input sections f p around are start b s state r l good x
 
-  module _ (a : Access) (inside : IsInside p.structs writes t a l) (sound_t : IsSound (length p.structs) t) where
+  module _ (a : Access) (inside : IsInside p.structs p.blocks writes t a l) (sound_t : IsSound (length p.structs) t) where
     run_pointed : (shape : Shape) → shape_of t ≡ Some shape → (o : Option Picked) (c : Option Chosen) → PicksBy (λ id v. HeldAs m input sections f false id v b state) o c → IsPicked inside.whole t (l.front ++ l.words) c a.path a.picked → Does m input sections AnyAt state.choices state b.sections (pointed shape (at_base r.path o))
     run_pointed shape shaped None None picks y =
         whole_there m input sections x.begins.id x.begins.class shape r.path l.front begun (to m input sections f p around are start b s state r l good x) state b.sections (points m input sections f p around are start b s state r l good x)
@@ -161,7 +161,7 @@ module _ (m : Module) (input : Input) (sections : Sections) (f : Frame m input s
 
   -- ---- out of bounds
 
-  module _ (outside : IsOutside p.structs writes t l) where
+  module _ (outside : IsOutside p.structs p.blocks writes t l) where
     run_out : (shape : Shape) (o : Option Picked) (c : Option Chosen) → PicksBy (λ id v. HeldAs m input sections f false id v b state) o c → IsOut p.structs l.ty t l.words c → Strays m input sections state b.sections (pointed shape (at_base r.path o))
     run_out shape None None picks out = whole_pointed_out m input sections x.begins.id x.begins.class shape r.path (l.front ++ l.words) begun state b.sections (points m input sections f p around are start b s state r l good x) (all_numbers m input sections f p around are start b s state r l good x) (path_strays m input sections f p around are start b s state r l good x out)
     run_out shape None (Some c) picks out = absurd picks

@@ -35,7 +35,7 @@ use Rattle.gsl_lower_elements.proofs.Picked.{picked_found, picks_are, shape_type
 use Rattle.gsl_lower_elements.proofs.Standing.{from, leads, number_each, points, read_told, run_held, run_of, run_stored, run_there, run_value, to, value_there, whole_is}
 
 module _ (m : Module) (input : Input) (sections : Sections) (f : Frame m input sections) (p : Program) (around : Around) (are : AreStructs p.structs) (start : Start) (b : Flow) (s : shader.State) (state : State) (r : Reached) (l : Trail) (good : Good m input sections f p around b s state)
-    (x : IsBlockTrail m input sections f p around false start b state r l) (writes : Bool) (t : Ty) (a : Access) (inside : IsInside p.structs writes t a l) (sound_t : IsSound (length p.structs) t) where
+    (x : IsBlockTrail m input sections f p around false start b state r l) (writes : Bool) (t : Ty) (a : Access) (inside : IsInside p.structs p.blocks writes t a l) (sound_t : IsSound (length p.structs) t) where
   abbrev run_at : (shape : Shape) → shape_of l.ty ≡ Some shape → Value
   run_at shape of = run_value m input sections f p around are start b s state r l good x shape of
 

@@ -56,9 +56,9 @@ module _ (m : Module) (input : Input) (sections : Sections) (f : Frame m input s
     -- What goes on with what was reached, from wherever it leads: out of bounds only where it may stray.
     pub record GoesOn : Type 0 where
       pub adds : (r : Reached) → Adds (next r)
-      pub inside : (b : Flow) (s : shader.State) (units : ℕ) (state : State) (r : Reached) (a : Access) (l : Trail) → Good m input sections f p around b s state → IsTrail m input sections f p around false lies b state r l → IsInside p.structs writes base a l
+      pub inside : (b : Flow) (s : shader.State) (units : ℕ) (state : State) (r : Reached) (a : Access) (l : Trail) → Good m input sections f p around b s state → IsTrail m input sections f p around false lies b state r l → IsInside p.structs p.blocks writes base a l
           → Does m input sections f p 0 units state (HasReached m input sections f p around more loose writes t b state) (HasStrayed m input sections f p around more loose writes t b state) (go a s units) (next r b)
-      pub outside : (b : Flow) (s : shader.State) (units : ℕ) (state : State) (r : Reached) (l : Trail) → Good m input sections f p around b s state → IsTrail m input sections f p around false lies b state r l → IsOutside p.structs writes base l
+      pub outside : (b : Flow) (s : shader.State) (units : ℕ) (state : State) (r : Reached) (l : Trail) → Good m input sections f p around b s state → IsTrail m input sections f p around false lies b state r l → IsOutside p.structs p.blocks writes base l
           → (origin : shader.State) (budget : ℕ) → run origin budget ≡ Strays
           → Does m input sections f p 0 units state (HasReached m input sections f p around more loose writes t b state) (HasStrayed m input sections f p around more loose writes t b state) Strays (next r b)
 

@@ -149,7 +149,7 @@ module _ (m : Module) (input : Input) (sections : Sections) (f : Frame m input s
 
   -- ---- in bounds
 
-  module _ (writes : Bool) (t : Ty) (a : Access) (inside : IsInside p.structs writes t a l) where
+  module _ (writes : Bool) (t : Ty) (a : Access) (inside : IsInside p.structs p.blocks writes t a l) where
     pub none : l.words ≡ []
     none = no_words m input sections f p around are start writes t b state r a l inside x
 

@@ -74,7 +74,7 @@ module _ (m : Module) (input : Input) (sections : Sections) (f : Frame m input s
         component_strays m input state x.begins.id x.begins.offset c.shape.1 (pointee m input sections f p around are start b s state r l good x) z.word (bytes m input sections f p around are start b s state r l good x) z.several
         (run_lie m input sections f p around are start b s state r l good x c.shape (ap shape_of whole_is ∙ z.of)) (held m input sections f p around are start b s state r l good x).1 z.outside
 
-  module _ (writes : Bool) (t : Ty) (outside : IsOutside p.structs writes t l) where
+  module _ (writes : Bool) (t : Ty) (outside : IsOutside p.structs p.blocks writes t l) where
     pub can : (q : Picked) (c : Chosen) → PicksBy (λ id v. HeldAs m input sections f false id v b state) (Some q) (Some c) → 1 ≤ length c.positions → ArePositions c.shape.1 c.word c.positions → CanPick q
     can q c picks some within = record {
       some = subst (λ ps. 1 ≤ length ps) (sym picks.1) some;

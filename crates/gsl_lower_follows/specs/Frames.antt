@@ -1,5 +1,5 @@
 -- A function that runs: where its code stands, where its variables are, and what its state has to do with the state of the shader.
-use Rattle.std.specs.Prelude.{◌≡◌, ◌≢◌, ℕ, zero, suc, ◌<◌, ◌-◌, Bool, true, false, List, [], ◌∷◌, ◌++◌, drop, length, map, slice_get, Option, Some, None}
+use Rattle.std.specs.Prelude.{◌≡◌, ◌≢◌, ℕ, zero, suc, ◌<◌, ◌-◌, ◌^◌, Bool, true, false, List, [], ◌∷◌, ◌++◌, drop, length, map, slice_get, Option, Some, None}
 use Rattle.std.specs.List.{AllByRecursion}
 use Rattle.gsl_base.specs.declared.input.Input.{Input}
 use Rattle.gsl_instr.specs.declared.op.TheConstants as op
@@ -27,6 +27,7 @@ use Rattle.gsl_spv.specs.Sections.{Sections}
 use Rattle.gsl_lower_law.specs.Values.{Ready, Stands, Text}
 use Rattle.gsl_lower_holders.specs.Flow.{Flow}
 use Rattle.gsl_lower_holders.specs.declared.place.FlowPlace.{FlowPlace}
+use Rattle.gsl_lower_follows.specs.Sizes.{IsShort}
 
 abbrev pub AreBytes : List ℕ → Type 0
 AreBytes = AllByRecursion (λ byte. byte < 256)
@@ -153,9 +154,9 @@ module _ (m : Module) (input : Input) (whole : Sections) (f : Frame m input whol
       pub count : length state.variables ≡ length f.begun
       pub outside : (number : ℕ) → ((name : Name) → f.seat name ≢ Some number) → slice_get state.variables number ≡ slice_get f.begun number
 
-    -- What a block holds is seen in bytes.
+    -- What a block holds is seen in bytes, which a word counts where it counts those of the input.
     abbrev pub IsSeen : Block → Option Value → Type 0
-    IsSeen block v = (bytes : List ℕ) × (v ≡ Some (words_in p.structs block bytes)) × AreBytes bytes
+    IsSeen block v = (bytes : List ℕ) × (v ≡ Some (words_in p.structs block bytes)) × AreBytes bytes × (IsShort input → length bytes < 2 ^ 32)
 
     -- A variable of a type has a value of it.
     abbrev pub HasType : Option Ty → Option Value → Type 0

@@ -1,3 +1,4 @@
+pub mod Sizes
 pub mod Stretching
 pub mod Frames
 pub mod Following

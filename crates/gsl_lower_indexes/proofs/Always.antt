@@ -14,7 +14,7 @@ use Rattle.gsl_lower_places.specs.declared.reached.Reached.{Reached}
 use Rattle.gsl_lower_expr.specs.Parts.{step_into}
 use Rattle.gsl_lower_follows.proofs.Fetching.{no_state}
 use Rattle.gsl_lower_law_expr.proofs.Steps.{Always, always_then}
-use Rattle.gsl_lower_elements.proofs.Tables.{position_grows}
+use Rattle.gsl_lower_reads.proofs.OfElements.{position_grows}
 
 module _ (m : Module) (input : Input) (sections : Sections) where
   always_in : (q : Picked) (part : Part) → Always (component_in q part)

@@ -33,11 +33,11 @@ use Rattle.gsl_lower_follows.proofs.Fetching.{adds_keep}
 use Rattle.gsl_lower_follows.proofs.Growing.{adds_given, adds_then}
 use Rattle.gsl_lower_follows.proofs.Holding.{after_then, does_so}
 use Rattle.gsl_lower_law_expr.proofs.Short.{behind_assoc}
-use Rattle.gsl_lower_elements.specs.Indexes.{Indexes, indexed_means}
+use Rattle.gsl_lower_reads.specs.OfElements.{Indexes, indexed_means}
 use Rattle.gsl_lower_reaching.specs.Reaching.{GivesPlace, HasReached, HasStrayed, IsTrail, Start, is_of_value}
 use Rattle.gsl_lower_reaching.specs.Reaching.Start.{OfBlock, OfValue, OfVariable}
 use Rattle.gsl_lower_reaching.specs.Trails.{IsInside, IsOutside, Trail}
-use Rattle.gsl_lower_elements.proofs.Rebased.{GoesOn, place_then}
+use Rattle.gsl_lower_reads.proofs.OfElements.{GoesOn, place_then}
 use Rattle.gsl_lower_reads.specs.Waiting.{IsKept}
 use Rattle.gsl_lower_reads.proofs.Probing.{adds_tested, kept_in as tested_in, kept_none as tested_none, kept_out as tested_out}
 use Rattle.gsl_lower_reads.proofs.Adding.{adds_reads}
@@ -92,12 +92,12 @@ module _ (m : Module) (input : Input) (sections : Sections) (f : Frame m input s
     record IsHeld (a : Access) (s : shader.State) (b : Flow) (state : State) (kept : Reached) (later : Flow) (one : Unit {0}) (u : shader.State) (last : State) : Type 0 where
       trail : Trail
       kept_is : IsTrail m input sections f p around more loose later last kept trail
-      inside : IsInside p.structs writes base a trail
+      inside : IsInside p.structs p.blocks writes base a trail
       after : After m input sections f p around false b state later u last
       still : u ≡ s
 
     module _ (b : Flow) (s : shader.State) (units : ℕ) (state : State) (r : Reached) (l : Trail) (good : Good m input sections f p around b s state) (trail_is : IsTrail m input sections f p around false lies b state r l) where
-      held_in : (a : Access) → IsInside p.structs writes base a l → Does m input sections f p 0 units state (IsHeld a s b state) none_waits (Got tt s units) (held r b)
+      held_in : (a : Access) → IsInside p.structs p.blocks writes base a l → Does m input sections f p 0 units state (IsHeld a s b state) none_waits (Got tt s units) (held r b)
       held_in a inside =
           does_then m input sections f p 0 units b state (IsReady m input sections f p around are writes base is.sound loose a s b state) none_waits (IsHeld a s b state) none_waits (Got tt s units) (λ one u left. Got tt u left) (spilled p.structs spill base r b) (then_held i.traits.calls) good.inside
           (adds_spilled m input sections f p around are writes base is.sound spill r b) (adds_tested m input sections p.structs i.traits.calls more base)
@@ -108,7 +108,7 @@ module _ (m : Module) (input : Input) (sections : Sections) (f : Frame m input s
           (tested_in m input sections f p around are loose writes base is.sound between u left mid to x.trail x.after.good x.is i.traits.calls more a x.inside))
           (λ to between u left mid within grown none less. absurd none)
 
-      next_in : (a : Access) → IsInside p.structs writes base a l → Does m input sections f p 0 units state (Reaches more b state) (Strayed more b state) (goes a s units) (next r b)
+      next_in : (a : Access) → IsInside p.structs p.blocks writes base a l → Does m input sections f p 0 units state (Reaches more b state) (Strayed more b state) (goes a s units) (next r b)
       next_in a inside =
           does_then m input sections f p 0 units b state (IsHeld a s b state) none_waits (Reaches more b state) (Strayed more b state) (Got tt s units) (λ one u left. goes a u left) (held r b) rest good.inside (adds_before r b) adds_rest
           (held_in a inside)
@@ -121,7 +121,7 @@ module _ (m : Module) (input : Input) (sections : Sections) (f : Frame m input s
     Never a later one u last = ⊥
 
     -- behind an index that was out of bounds
-    next_out : (b : Flow) (s : shader.State) (units : ℕ) (state : State) (r : Reached) (l : Trail) → Good m input sections f p around b s state → IsTrail m input sections f p around false lies b state r l → IsOutside p.structs writes base l
+    next_out : (b : Flow) (s : shader.State) (units : ℕ) (state : State) (r : Reached) (l : Trail) → Good m input sections f p around b s state → IsTrail m input sections f p around false lies b state r l → IsOutside p.structs p.blocks writes base l
         → (i.traits.calls ≡ true → (v : Value) × (is_value_of p.structs base v ≡ true)) → Does m input sections f p 0 units state (Reaches more b state) (Strayed more b state) Strays (next r b)
     next_out b s units state r l good trail_is outside some = by_spill spill may fast
       where

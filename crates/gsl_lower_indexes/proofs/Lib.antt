@@ -2,3 +2,5 @@ pub mod Always
 pub mod Spilling
 pub mod Stages
 pub mod Computing
+pub mod OfElements
+pub mod OfReads

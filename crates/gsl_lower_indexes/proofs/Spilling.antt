@@ -37,8 +37,8 @@ use Rattle.gsl_lower_reaching.specs.Reaching.{Begins, IsOwnTrail, IsTrail, Start
 use Rattle.gsl_lower_reaching.specs.Reaching.IsTrail.{own, in_block}
 use Rattle.gsl_lower_reaching.specs.Reaching.Start.{OfBlock, OfValue, OfVariable}
 use Rattle.gsl_lower_reaching.specs.Reaching.Begins.{variable, value, holder}
-use Rattle.gsl_lower_reaching.specs.Trails.{IsInside, IsOfVariable, Trail}
-use Rattle.gsl_lower_elements.proofs.Indexing.{none_shape}
+use Rattle.gsl_lower_reaching.specs.Trails.{IsInside, MayStore, Trail}
+use Rattle.gsl_lower_reads.proofs.OfElements.{none_shape}
 use Rattle.gsl_lower_reaching.proofs.Parts.{whole_picked}
 use Rattle.gsl_lower_reads.proofs.Adding.{adds_reads}
 use Rattle.gsl_lower_reads.proofs.Found.{found_whole, read_found, read_typed}
@@ -54,7 +54,7 @@ module _ (m : Module) (input : Input) (sections : Sections) (f : Frame m input s
   pub record IsReady (loose : Start) (a : Access) (s : shader.State) (b : Flow) (state : State) (r : Reached) (later : Flow) (one : Unit {0}) (u : shader.State) (last : State) : Type 0 where
     pub trail : Trail
     pub is : IsTrail m input sections f p around false loose later last r trail
-    pub inside : IsInside p.structs writes t a trail
+    pub inside : IsInside p.structs p.blocks writes t a trail
     pub after : After m input sections f p around false b state later u last
     pub still : u ≡ s
 
@@ -73,7 +73,7 @@ module _ (m : Module) (input : Input) (sections : Sections) (f : Frame m input s
       by (holder y) = (y.value, y.begins)
 
   -- a holder with it is where the access leads
-  holder_ready : (a : Access) (s : shader.State) (b later : Flow) (state last : State) (h : ℕ) (v : Value) (l : Trail) → shape_of t ≡ None → IsInside p.structs writes t a l → l.root ≡ access.Loose v
+  holder_ready : (a : Access) (s : shader.State) (b later : Flow) (state last : State) (h : ℕ) (v : Value) (l : Trail) → shape_of t ≡ None → IsInside p.structs p.blocks writes t a l → l.root ≡ access.Loose v
       → Waits m input sections f later.place.used h (value_at v (l.front ++ l.words)) last → is_value_of p.structs t (value_at v (l.front ++ l.words)) ≡ true → After m input sections f p around false b state later s last
       → IsReady OfVariable a s b state (whole (Variable h storage_class.FUNCTION)) later tt s last
   holder_ready a s b later state last h v l none inside root waits typed after =
@@ -88,7 +88,7 @@ module _ (m : Module) (input : Input) (sections : Sections) (f : Frame m input s
           leads = refl;
           picks = (refl, w.path_is ∙ sym (append-nil (l.front ++ l.words)), w.unpicked);
           may = tt;
-          named = λ e. subst IsOfVariable root (inside.named e);
+          named = λ e. subst (MayStore p.blocks) root (inside.named e);
         };
         after = after;
         still = refl;
@@ -100,7 +100,7 @@ module _ (m : Module) (input : Input) (sections : Sections) (f : Frame m input s
     pub shapeless : spill ≡ true → shape_of t ≡ None
 
   module _ (real : t ≢ Void) where
-    module _ (a : Access) (s : shader.State) (units : ℕ) (b : Flow) (state : State) (r : Reached) (l : Trail) (good : Good m input sections f p around b s state) (inside : IsInside p.structs writes t a l) where
+    module _ (a : Access) (s : shader.State) (units : ℕ) (b : Flow) (state : State) (r : Reached) (l : Trail) (good : Good m input sections f p around b s state) (inside : IsInside p.structs p.blocks writes t a l) where
       value_read : Value
       value_read = read p.structs t a s
 

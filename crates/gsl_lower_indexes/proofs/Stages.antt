@@ -40,9 +40,9 @@ use Rattle.gsl_lower_law_expr.proofs.Operands.{after_less, given_value}
 use Rattle.gsl_lower_reaching.specs.Reaching.{HasReached, HasStrayed, IsTrail, Start}
 use Rattle.gsl_lower_reaching.specs.Reaching.Start.{OfValue}
 use Rattle.gsl_lower_reaching.specs.Trails.{IsInside, IsOutside, Trail}
-use Rattle.gsl_lower_elements.proofs.Indexing.{MayIndex, step_in, step_out}
+use Rattle.gsl_lower_reads.proofs.OfElements.{MayIndex, step_in, step_out}
 use Rattle.gsl_lower_reaching.proofs.Moving.{trail_after}
-use Rattle.gsl_lower_elements.proofs.Rebased.{does_both}
+use Rattle.gsl_lower_reads.proofs.OfElements.{does_both}
 use Rattle.gsl_lower_reads.specs.Waiting.{IsKept}
 use Rattle.gsl_lower_reads.proofs.Holds.{adds_fetched, is_fetched}
 use Rattle.gsl_lower_indexes.specs.Computed.{Comes, MayCall}
@@ -129,7 +129,7 @@ module _ (m : Module) (input : Input) (sections : Sections) (f : Frame m input s
     stands_then b b2 state last u id v after stands = (after.ids refl).same id _ stands
 
     module _ (b : Flow) (s : shader.State) (units : ℕ) (state : State) (kept : Reached) (l : Trail) (id : ℕ) (v : Value) (good : Good m input sections f p around b s state) (is : IsTrail m input sections f p around i.traits.splits lies b state kept l) (stands : Stands state.ids id (Word (word_in v))) where
-      index_in : (a : Access) → IsInside p.structs writes base a l → Does m input sections f p 0 units state (Reaches false b state) (Strayed false b state) (indexing a (word_in v) s units) (behind_index kept id b)
+      index_in : (a : Access) → IsInside p.structs p.blocks writes base a l → Does m input sections f p 0 units state (Reaches false b state) (Strayed false b state) (indexing a (word_in v) s units) (behind_index kept id b)
       index_in a inside =
           does_then m input sections f p 0 units b state (IsKept m input sections f p around false lies l s b state) none_waits (Reaches false b state) (Strayed false b state) (Got tt s units) (λ one u left. indexing a (word_in v) u left) (fetch_reached i.traits.splits kept b) (last_step id) good.inside
           (adds_fetched m input sections i.traits.splits kept b) (adds_last id)
@@ -139,7 +139,7 @@ module _ (m : Module) (input : Input) (sections : Sections) (f : Frame m input s
           (step_in m input sections f p around are lies writes base t (by_id id) (word_in v) sound sound_t has (may id (word_in v)) left between u mid to l x.after.good x.is (stands_then b between state mid u id (Word (word_in v)) x.after stands) a inside))
           (λ to between u left mid within grown none less. absurd none)
 
-      index_out : IsOutside p.structs writes base l → Does m input sections f p 0 units state (Reaches false b state) (Strayed false b state) Strays (behind_index kept id b)
+      index_out : IsOutside p.structs p.blocks writes base l → Does m input sections f p 0 units state (Reaches false b state) (Strayed false b state) Strays (behind_index kept id b)
       index_out outside =
           does_then m input sections f p 0 units b state (IsKept m input sections f p around false lies l s b state) none_waits (Reaches false b state) (Strayed false b state) (Got tt s units) (λ one u left. Strays) (fetch_reached i.traits.splits kept b) (last_step id) good.inside
           (adds_fetched m input sections i.traits.splits kept b) (adds_last id)
@@ -152,7 +152,7 @@ module _ (m : Module) (input : Input) (sections : Sections) (f : Frame m input s
     -- ---- the index, behind what waits
 
     module _ (b : Flow) (s : shader.State) (units : ℕ) (state : State) (kept : Reached) (l : Trail) (good : Good m input sections f p around b s state) (is : IsTrail m input sections f p around i.traits.splits lies b state kept l) where
-      pub kept_in : (a : Access) → IsInside p.structs writes base a l
+      pub kept_in : (a : Access) → IsInside p.structs p.blocks writes base a l
           → Does m input sections f p 0 units state (Reaches i.traits.splits b state) (Strayed i.traits.splits b state) (shader_run.◌>>=◌ y (λ v. indexing a (word_in v)) s units) (behind_kept kept b)
       kept_in a inside =
           does_then m input sections f p 0 units b state (HasGiven m input sections f p around i.traits.splits i.ty b state) none_waits (Reaches i.traits.splits b state) (Strayed i.traits.splits b state) (y s units) (λ v. indexing a (word_in v)) (i.value b) (behind_index kept) good.inside
@@ -165,7 +165,7 @@ module _ (m : Module) (input : Input) (sections : Sections) (f : Frame m input s
           (subst (Stands mid.ids id) (index_word p i.ty v known.number got.0) got.1) a inside))
           (λ id between u left mid within grown none less. absurd none)
 
-      pub kept_out : i.traits.calls ≡ false → IsOutside p.structs writes base l → Does m input sections f p 0 units state (Reaches i.traits.splits b state) (Strayed i.traits.splits b state) Strays (behind_kept kept b)
+      pub kept_out : i.traits.calls ≡ false → IsOutside p.structs p.blocks writes base l → Does m input sections f p 0 units state (Reaches i.traits.splits b state) (Strayed i.traits.splits b state) Strays (behind_kept kept b)
       kept_out alone outside =
           subst (λ ran. Does m input sections f p 0 units state (Reaches i.traits.splits b state) (Strayed i.traits.splits b state) ran (behind_kept kept b)) (comes_strays (y s units) (known.comes alone s units))
           (does_then m input sections f p 0 units b state (HasGiven m input sections f p around i.traits.splits i.ty b state) none_waits (Reaches i.traits.splits b state) (Strayed i.traits.splits b state) (y s units) (λ v u left. Strays) (i.value b) (behind_index kept) good.inside

@@ -32,9 +32,9 @@ use Rattle.gsl_lower_follows.specs.Frames.{Frame}
 use Rattle.gsl_lower_law_bound.specs.Bound as bound
 use Rattle.gsl_lower_law_bound.proofs.Standing.{blocks_bound}
 use Rattle.gsl_lower_law_entered.specs.Modules.{IsFrame}
-use Rattle.gsl_lower_law_inputs.specs.Beginning.{IsFitting}
-use Rattle.gsl_lower_law_inputs.proofs.Typed.{first_met, met, second_met}
-use Rattle.gsl_lower_law_outside.specs.Beginning.{HaveOutside}
+use Rattle.gsl_lower_law_bound.specs.OfLawInputs.{IsFitting}
+use Rattle.gsl_lower_law_bound.proofs.OfLawInputs.{first_met, met, second_met}
+use Rattle.gsl_lower_law_bound.specs.OfLawOutside.{HaveOutside}
 use Rattle.gsl_lower_law_stored.specs.Buffers.{HasBuffer, IsBound, KnowsBuffers}
 use Rattle.gsl_lower_law_backed.proofs.Alone.{only_one, stands_alone}
 

@@ -34,8 +34,8 @@ use Rattle.gsl_lower_types.proofs.Finding.{came}
 use Rattle.gsl_lower_law_entered.proofs.Given.{mapped}
 use Rattle.gsl_lower_law_members.specs.Parts.{laid_as}
 use Rattle.gsl_lower_law_members.proofs.Laid.{block_member_at}
-use Rattle.gsl_lower_law_outside.proofs.Keeping.{same_after, same_made}
-use Rattle.gsl_lower_law_outside.proofs.Program.{decorated_adds, gives_add}
+use Rattle.gsl_lower_law_inputs.proofs.OfLawOutside.{same_after, same_made}
+use Rattle.gsl_lower_law_inputs.proofs.OfLawOutside.{decorated_adds, gives_add}
 use Rattle.gsl_lower_law_inputs.proofs.Puts.{EachTells}
 use Rattle.gsl_lower_law_inputs.proofs.Tells.{AllTell, HasDecoration, HasVariable, adds_tells, decorated_tells, given_tells, tells_so, tells_then, variable_tells}
 use Rattle.gsl_lower_law_bound.proofs.Laid.{AreLaid, group_lays, row_lays}

@@ -1,10 +1,8 @@
 -- What functions know of the members of blocks in the module of a program.
 use Rattle.std.proofs.Common.{◌≡◌, refl, sym, ap, ◌∙◌, subst, ℕ, zero, suc, ◌-◌, ◌/◌, ◌<◌, ◌^◌, Bool, true, false, List, [], ◌∷◌, length, slice_get, Option, Some, None, if◌then◌else◌, arith, div-le_self}
 use Rattle.std.specs.Prelude.{◌&&◌, nat_le, nat_lt, unwrap_or}
-use Rattle.std.specs.List.{AllByRecursion}
 use Rattle.std.specs.Option.{ForSome}
 use Rattle.std.proofs.lemmas.Bool.{and_parts, ltb-true}
-use Rattle.gsl_base.specs.declared.input.Buffer.{Buffer}
 use Rattle.gsl_base.specs.declared.input.Input.{Input}
 use Rattle.gsl_instr.specs.declared.enumerant.decoration.TheConstants as decoration
 use Rattle.gsl_layout.specs.Measures.{measure, stride_of}
@@ -34,16 +32,17 @@ use Rattle.gsl_machine.specs.Memory.{bytes_if, is_push}
 use Rattle.gsl_machine.specs.State.{InBlock, Points}
 use Rattle.gsl_sound_ids.proofs.Globals.{globals_agree}
 use Rattle.gsl_spv.specs.Finished.{module_of}
-use Rattle.gsl_views.specs.Buffers.{bytes_at, is_at}
+use Rattle.gsl_views.specs.Buffers.{bytes_at}
 use Rattle.gsl_views.specs.Viewed.{elements}
 use Rattle.gsl_lower_holders.specs.Flow.{Flow}
 use Rattle.gsl_lower_types.specs.Blocks.{class_of}
 use Rattle.gsl_lower_follows.specs.Frames.{Frame}
 use Rattle.gsl_lower_law_entered.specs.Modules.{IsFrame}
 use Rattle.gsl_lower_law_entered.proofs.Given.{mapped}
+use Rattle.gsl_lower_law_members.proofs.Sized.{few_at}
 use Rattle.gsl_lower_law_members.specs.Parts.{laid_as}
 use Rattle.gsl_lower_law_members.specs.Sizes.{size_of}
-use Rattle.gsl_lower_law_outside.specs.Beginning.{HaveOutside}
+use Rattle.gsl_lower_law_inputs.specs.OfLawOutside.{HaveOutside}
 use Rattle.gsl_lower_law_inputs.proofs.Passed.{at_number}
 use Rattle.gsl_lower_reaching.specs.Reaching.{KnowsBlock, KnowsMember}
 use Rattle.gsl_lower_law_bound.specs.Bound.{IsBound, IsShort}
@@ -53,20 +52,15 @@ use Rattle.gsl_lower_law_bound.proofs.Standing.{blocks_bound, classes_are, class
 -- ---- how many bytes are given
 
 module _ (input : Input) (few : IsShort input) where
-  given_at : (buffers : List Buffer) (set binding : ℕ) → AllByRecursion (λ (buffer : Buffer). length buffer.bytes < 2 ^ 32) buffers → length (unwrap_or (bytes_at buffers set binding) []) < 2 ^ 32
-  given_at [] set binding all = omega arith
-  given_at (buffer ∷ buffers) set binding all = by (is_at set binding buffer) (given_at buffers set binding all.1)
-    where
-      by : (b : Bool) → length (unwrap_or (bytes_at buffers set binding) []) < 2 ^ 32 → length (unwrap_or (if b then Some buffer.bytes else bytes_at buffers set binding) []) < 2 ^ 32
-      by true later = all.0
-      by false later = later
+  pub given_at : (set binding : ℕ) → length (unwrap_or (bytes_at input.buffers set binding) []) < 2 ^ 32
+  given_at set binding = few_at input.buffers set binding few.buffers
 
   given_if : (set binding : Option ℕ) → length (unwrap_or (bytes_if input.buffers set binding) []) < 2 ^ 32
   given_if None binding = omega arith
   given_if (Some set) None = omega arith
-  given_if (Some set) (Some binding) = given_at input.buffers set binding few.buffers
+  given_if (Some set) (Some binding) = given_at set binding
 
-  pushed : (o : Option (List ℕ)) → ForSome o (λ bytes. length bytes < 2 ^ 32) → length (unwrap_or o []) < 2 ^ 32
+  pub pushed : (o : Option (List ℕ)) → ForSome o (λ bytes. length bytes < 2 ^ 32) → length (unwrap_or o []) < 2 ^ 32
   pushed None all = omega arith
   pushed (Some bytes) all = all bytes refl
 

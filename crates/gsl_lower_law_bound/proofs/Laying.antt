@@ -16,7 +16,7 @@ use Rattle.gsl_lower_holders.specs.Flow.{find_type}
 use Rattle.gsl_lower_types.specs.Known.{Known, Put, aside, id_or_put, once, with_type}
 use Rattle.gsl_lower_types.proofs.Finding.{came}
 use Rattle.gsl_lower_law_members.specs.Parts.{laid_as}
-use Rattle.gsl_lower_law_outside.proofs.Keeping.{same_after, same_made}
+use Rattle.gsl_lower_law_inputs.proofs.OfLawOutside.{same_after, same_made}
 use Rattle.gsl_lower_law_inputs.proofs.Tells.{AllTell}
 
 -- ---- what is so of one half of a pair

@@ -5,3 +5,4 @@ pub mod Laid
 pub mod Blocks
 pub mod Standing
 pub mod Known
+pub mod OfLawInputs

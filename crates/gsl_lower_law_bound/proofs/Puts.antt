@@ -30,8 +30,8 @@ use Rattle.gsl_lower_text.specs.Written.{Written}
 use Rattle.gsl_lower_text.proofs.Constants.{at}
 use Rattle.gsl_lower_types.specs.Declaring.{decorated}
 use Rattle.gsl_lower_types.specs.Laid.{array_by, offsets, struct_by}
-use Rattle.gsl_lower_law_outside.proofs.Keeping.{asks_add, extends_declare, made_by, same_after}
-use Rattle.gsl_lower_law_outside.proofs.Program.{decorated_adds}
+use Rattle.gsl_lower_law_inputs.proofs.OfLawOutside.{asks_add, extends_declare, made_by, same_after}
+use Rattle.gsl_lower_law_inputs.proofs.OfLawOutside.{decorated_adds}
 use Rattle.gsl_lower_law_inputs.proofs.Decorated.{member_number_found, number_found}
 use Rattle.gsl_lower_law_inputs.proofs.Tells.{AllTell, HasDecoration, HasGlobal, declared_tells, given_tells, interned_tells, tells_so, tells_then}
 use Rattle.gsl_lower_law_bound.proofs.Said.{array_shape, runtime_shape, scalar_size, scalar_with, struct_shape, vector_size, word_said}

@@ -40,8 +40,8 @@ use Rattle.gsl_lower_types.specs.Values.{program_types}
 use Rattle.gsl_lower_types.proofs.Adding.{globals_add, interfaces_add}
 use Rattle.gsl_lower_types.proofs.Finding.{came}
 use Rattle.gsl_lower_flow.specs.Programs.{built_type, built_types, declared, nothing_laid, place, program_needs, stages}
-use Rattle.gsl_lower_law_outside.specs.Beginning.{HaveOutside}
-use Rattle.gsl_lower_law_outside.proofs.Keeping.{same_after, same_made}
+use Rattle.gsl_lower_law_inputs.specs.OfLawOutside.{HaveOutside}
+use Rattle.gsl_lower_law_inputs.proofs.OfLawOutside.{same_after, same_made}
 use Rattle.gsl_lower_law_inputs.proofs.Decorated.{number_found}
 use Rattle.gsl_lower_law_inputs.proofs.Puts.{EachTells}
 use Rattle.gsl_lower_law_inputs.proofs.Stages.{stages_tell}

@@ -1,1 +1,3 @@
 pub mod Bound
+pub mod OfLawInputs
+pub mod OfLawOutside

@@ -1,5 +1,5 @@
 -- The bytes of blocks as a run starts, and the words that the shader begins with.
-use Rattle.std.proofs.Common.{◌≡◌, refl, sym, ap, ◌∙◌, subst, ℕ, zero, suc, Bool, true, false, if◌then◌else◌, List, [], ◌∷◌, slice_get, unwrap_or, Option, Some, None}
+use Rattle.std.proofs.Common.{◌≡◌, refl, sym, ap, ◌∙◌, subst, ℕ, zero, suc, ◌<◌, ◌^◌, Bool, true, false, if◌then◌else◌, List, [], ◌∷◌, length, slice_get, unwrap_or, Option, Some, None}
 use Rattle.std.specs.List.{AllByRecursion}
 use Rattle.std.specs.Option.{ForSome}
 use Rattle.gsl_base.specs.Ranges.{FitsBuffer, FitsTypes}
@@ -30,10 +30,11 @@ use Rattle.gsl_spv.specs.Sections.{Sections}
 use Rattle.gsl_lower_holders.specs.Flow.{Flow}
 use Rattle.gsl_lower_follows.specs.Frames.{AreBytes, Frame, IsSeen}
 use Rattle.gsl_lower_law_entered.proofs.Given.{map_there}
-use Rattle.gsl_lower_law_outside.specs.Beginning.{HaveOutside}
-use Rattle.gsl_lower_law_inputs.specs.Beginning.{IsFitting}
-use Rattle.gsl_lower_law_inputs.proofs.Typed.{first_met, met, second_met}
-use Rattle.gsl_lower_law_bound.specs.Bound.{IsBound}
+use Rattle.gsl_lower_law_bound.specs.OfLawOutside.{HaveOutside}
+use Rattle.gsl_lower_law_bound.specs.OfLawInputs.{IsFitting}
+use Rattle.gsl_lower_law_bound.proofs.OfLawInputs.{first_met, met, second_met}
+use Rattle.gsl_lower_law_bound.specs.Bound.{IsBound, IsShort}
+use Rattle.gsl_lower_law_bound.proofs.Known.{given_at, pushed}
 use Rattle.gsl_lower_law_bound.proofs.Standing.{blocks_bound}
 
 -- ---- what an input that fits gives
@@ -69,6 +70,14 @@ given_small input block bytes fits is = by (is_push block.kind) is
     by true is = pushed_small input.push bytes fits.push is
     by false is = found_small input.buffers block.set block.binding bytes fits.buffers is
 
+-- a word counts those where it counts the bytes of each buffer
+given_few : (input : Input) (block : Block) (bytes : List ℕ) → IsShort input → given_bytes input block ≡ Some bytes → length bytes < 2 ^ 32
+given_few input block bytes few is = subst (λ o. length (unwrap_or o []) < 2 ^ 32) is (by (is_push block.kind))
+  where
+    by : (push : Bool) → length (unwrap_or (if push then input.push else bytes_at input.buffers block.set block.binding) []) < 2 ^ 32
+    by true = pushed input few input.push few.push
+    by false = given_at input few block.set block.binding
+
 -- ---- the words that the shader begins with
 
 module _ (p : Program) (input : Input) (fits : FitsTypes input) (fitting : IsFitting p input) (number : ℕ) (block : Block) (there : slice_get p.blocks number ≡ Some block) where
@@ -81,7 +90,7 @@ module _ (p : Program) (input : Input) (fits : FitsTypes input) (fitting : IsFit
 
 pub blocks_seen : (p : Program) (input : Input) → FitsTypes input → IsFitting p input → (m : Module) (whole : Sections) (f : Frame m input whole) (around : Around) (number : ℕ) (block : Block) → slice_get p.blocks number ≡ Some block → IsSeen m input whole f p around block (slice_get (begins p input).blocks number)
 blocks_seen p input fits fitting m whole f around number block there =
-    let g = given_there p input fits fitting number block there in (g.0, begun_there p input fits fitting number block there, given_small input block g.0 fits g.1)
+    let g = given_there p input fits fitting number block there in (g.0, begun_there p input fits fitting number block there, given_small input block g.0 fits g.1, λ few. given_few input block g.0 few g.1)
 
 -- ---- the bytes that a run starts with
 

@@ -5,11 +5,9 @@ use Rattle.gsl_types.specs.Known.{AreStructs, IsSound}
 use Rattle.gsl_types.specs.declared.ty.Scalar.TheVariants.{Int}
 use Rattle.gsl_types.specs.declared.ty.Ty.{Ty}
 use Rattle.gsl_types.specs.declared.ty.Ty.TheVariants as ty
-use Rattle.gsl_types.specs.declared.ty.Ty.TheViews.{out-Ty}
 use Rattle.gsl_words.specs.declared.module.Module.{Module}
 use Rattle.gsl_values.specs.declared.value.Value.{Value}
 use Rattle.gsl_tree.specs.Around.{Around}
-use Rattle.gsl_tree.specs.Expressions.{is_runtime_layer}
 use Rattle.gsl_tree.specs.Shapes.{Shape, shape_of}
 use Rattle.gsl_tree.specs.declared.program.Program.{Program}
 use Rattle.gsl_meaning.specs.Accesses.{Access}
@@ -27,8 +25,8 @@ use Rattle.gsl_lower_follows.specs.Giving.{GivesValue}
 use Rattle.gsl_lower_reaching.specs.Reaching.{GivesPlace, Start, is_of_value}
 use Rattle.gsl_lower_reaching.specs.Reaching.Start.{OfBlock, OfValue}
 use Rattle.gsl_lower_reaching.proofs.Places.{value_place}
-use Rattle.gsl_lower_reads.specs.Accessing.{accessed_means}
-use Rattle.gsl_lower_reads.proofs.Accessed.{place_gives}
+use Rattle.gsl_lower_assigns.specs.OfReads.{accessed_means}
+use Rattle.gsl_lower_assigns.proofs.OfReads.{place_gives}
 use Rattle.gsl_lower_law_evaluated.specs.Evaluating.{Evaluates}
 
 module _ (m : Module) (input : Input) (whole : Sections) (f : Frame m input whole) (p : Program) (around : Around) where
@@ -43,7 +41,7 @@ module _ (m : Module) (input : Input) (whole : Sections) (f : Frame m input whol
     typed = refl;
     meant = refl;
     sound = sound;
-    gives = λ read. gives;
+    gives = λ read wholes. gives;
     lengths = λ runtime. lacks false (ty.One Int) _;
     start = OfValue;
     start_loose = sym loose;
@@ -58,14 +56,13 @@ module _ (m : Module) (input : Input) (whole : Sections) (f : Frame m input whol
 
   -- what leads somewhere gives the value there
   pub place_evaluates : (may_write blocked : Bool) (start : Start) (t : Ty) (known : Traits) (reach : Emit Reached) (run : Run Access) → AreStructs p.structs → IsSound (length p.structs) t → is_of_value start ≡ known.is_loose → (start ≡ OfBlock → blocked ≡ true)
-      → (blocked ≡ true → shape_of t ≡ None → is_runtime_layer (out-Ty t) ≡ false → GivesValue m input whole f p around known.splits t (accessed p.structs t reach) (accessed_means p.structs t run))
       → ((writes : Bool) → (writes ≡ true → may_write ≡ true) → GivesPlace m input whole f p around known.splits start writes t reach run) → Tells known (meaning.accessed p.structs t run)
       → Evaluates m input whole f p around may_write blocked t (leading p.structs t reach known) (meaning.accessed p.structs t run)
-  place_evaluates may_write blocked start t known reach run are sound loose in_one wholes leads tells = record {
+  place_evaluates may_write blocked start t known reach run are sound loose in_one leads tells = record {
     typed = refl;
     meant = refl;
     sound = sound;
-    gives = λ read. given read blocked refl;
+    gives = λ read wholes. given wholes blocked refl;
     lengths = λ runtime. lacks false (ty.One Int) _;
     start = start;
     start_loose = loose;
@@ -77,10 +74,10 @@ module _ (m : Module) (input : Input) (whole : Sections) (f : Frame m input whol
       by_place : (shape_of t ≡ None → start ≡ OfBlock → ⊥) → GivesValue m input whole f p around known.splits t (accessed p.structs t reach) (accessed_means p.structs t run)
       by_place apart = place_gives m input whole f p around known.splits start false t reach run are sound apart (leads false (λ e. absurd (let z : false ≡ true = e in cc)))
 
-      by_shape : is_runtime_layer (out-Ty t) ≡ false → blocked ≡ true → (o : Option Shape) → shape_of t ≡ o → GivesValue m input whole f p around known.splits t (accessed p.structs t reach) (accessed_means p.structs t run)
-      by_shape read is None none = wholes is none read
-      by_shape read is (Some shape) shaped = by_place (λ none. absurd (let z : None ≡ Some shape = sym none ∙ shaped in cc))
+      by_shape : (shape_of t ≡ None → GivesValue m input whole f p around known.splits t (accessed p.structs t reach) (accessed_means p.structs t run)) → (o : Option Shape) → shape_of t ≡ o → GivesValue m input whole f p around known.splits t (accessed p.structs t reach) (accessed_means p.structs t run)
+      by_shape wholes None none = wholes none
+      by_shape wholes (Some shape) shaped = by_place (λ none. absurd (let z : None ≡ Some shape = sym none ∙ shaped in cc))
 
-      given : is_runtime_layer (out-Ty t) ≡ false → (b : Bool) → blocked ≡ b → GivesValue m input whole f p around known.splits t (accessed p.structs t reach) (accessed_means p.structs t run)
-      given read true is = by_shape read is (shape_of t) refl
-      given read false is = by_place (λ none e. absurd (let z : false ≡ true = sym is ∙ in_one e in cc))
+      given : (blocked ≡ true → shape_of t ≡ None → GivesValue m input whole f p around known.splits t (accessed p.structs t reach) (accessed_means p.structs t run)) → (b : Bool) → blocked ≡ b → GivesValue m input whole f p around known.splits t (accessed p.structs t reach) (accessed_means p.structs t run)
+      given wholes true is = by_shape (wholes is) (shape_of t) refl
+      given wholes false is = by_place (λ none e. absurd (let z : false ≡ true = sym is ∙ in_one e in cc))

@@ -24,7 +24,7 @@ use Rattle.gsl_values.specs.declared.lane.Lanes.{Lanes}
 use Rattle.gsl_values.specs.declared.op.BinaryOp.{BinaryOp}
 use Rattle.gsl_values.specs.declared.op.UnaryOp.{UnaryOp}
 use Rattle.gsl_values.specs.declared.value.Value.{Value}
-use Rattle.gsl_tree.specs.Around.{Around, uvec3}
+use Rattle.gsl_tree.specs.Around.{Around, is_buffer, may_write_member, member_in, uvec3, writes_member}
 use Rattle.gsl_tree.specs.Constants.{gives}
 use Rattle.gsl_tree.specs.Expressions as tree
 use Rattle.gsl_tree.specs.Expressions.{IsBinary, IsBuild, IsBuilt, IsConst, IsIndex, IsSwizzle, IsUnary, MayBeRead, boolean, element_of, is_in_range, is_runtime_layer, shapes_of}
@@ -33,7 +33,7 @@ use Rattle.gsl_tree.specs.Paths.{in_block, in_block_by, is_writable, kind_in, re
 use Rattle.gsl_tree.specs.Shapes.{Shape, is_integer, shape_kind, shape_of}
 use Rattle.gsl_tree.specs.Trees.{form_of, type_of}
 use Rattle.gsl_tree.specs.Values.{all_pass, is_value_of, parts_in, word_in}
-use Rattle.gsl_tree.specs.WellTyped.{IsVariableType, around_body, program_lists}
+use Rattle.gsl_tree.specs.WellTyped.{IsVariableType, around_body, is_push, program_lists}
 use Rattle.gsl_tree.specs.declared.expr.Expr.{Expr}
 use Rattle.gsl_tree.specs.declared.expr.ExprKind.{ExprKind}
 use Rattle.gsl_tree.specs.declared.expr.ExprKind.TheFolds.{fold-Expr, fold-ExprKind, map-ExprKind}
@@ -43,6 +43,9 @@ use Rattle.gsl_tree.specs.declared.expr.LogicOp.TheVariants as logic
 use Rattle.gsl_tree.specs.declared.expr.StageVar.{StageVar}
 use Rattle.gsl_tree.specs.declared.expr.StepOp.{StepOp}
 use Rattle.gsl_tree.specs.declared.program.Program.{Program}
+use Rattle.gsl_tree.specs.declared.unit.BlockKind.{BlockKind}
+use Rattle.gsl_tree.specs.declared.unit.BlockKind.TheVariants.{Buffer, Push, Uniform}
+use Rattle.gsl_tree.specs.declared.unit.BlockMember.{BlockMember}
 use Rattle.gsl_typed_law.proofs.Builtins.{builtin_typed}
 use Rattle.gsl_typed_law.proofs.Components.{shape_again, some_component}
 use Rattle.gsl_typed_law.proofs.Conversions.{converted_same, step_typed}
@@ -87,13 +90,15 @@ use Rattle.gsl_lower_law_built.proofs.Filling.{shape_constructs}
 use Rattle.gsl_lower_law_built.proofs.Fitting.{array_composes, passes, struct_composes}
 use Rattle.gsl_lower_law_built.proofs.Selected.{selected_gives}
 use Rattle.gsl_lower_law_built.proofs.Sequence.{sequence_gives}
+use Rattle.gsl_lower_law_stored.specs.Buffers.{KnowsBuffers}
 use Rattle.gsl_lower_reaching.specs.Reaching.{GivesPlace, KnowsMember, Start, is_of_value}
 use Rattle.gsl_lower_reaching.specs.Reaching.Start.{OfBlock, OfVariable}
+use Rattle.gsl_lower_reaching.specs.Trails.{MayStore}
 use Rattle.gsl_lower_reaching.proofs.Places.{block_place, member_place, swizzle_place}
-use Rattle.gsl_lower_elements.specs.Indexes.{Indexes, indexed_means}
-use Rattle.gsl_lower_elements.proofs.Literal.{literal_place}
-use Rattle.gsl_lower_indexes.specs.Computed.{CanTest, spilled_to}
-use Rattle.gsl_lower_indexes.proofs.Computing.{index_place}
+use Rattle.gsl_lower_assigns.specs.OfElements.{Indexes, indexed_means}
+use Rattle.gsl_lower_assigns.proofs.OfElements.{literal_place}
+use Rattle.gsl_lower_assigns.specs.OfIndexes.{CanTest, spilled_to}
+use Rattle.gsl_lower_assigns.proofs.OfIndexes.{index_place}
 use Rattle.gsl_typed_places.specs.Members.{IsMember}
 use Rattle.gsl_lower_assigns.specs.Assigning.{assign_means}
 use Rattle.gsl_lower_assigns.proofs.Assigned.{place_assigned}
@@ -169,7 +174,7 @@ module _ (m : Module) (input : Input) (whole : Sections) (f : Frame m input whol
   is_blocked form = in_block_by (map-ExprKind ExprKind Expr Bool Bool kinds_blocked in_block form)
 
   abbrev pub Is : Expr → Type 0
-  Is e = Evaluates m input whole f p around (is_writable around e && not (in_block e)) (in_block e) (type_of e) (low e) (part e)
+  Is e = Evaluates m input whole f p around (is_writable around e) (in_block e) (type_of e) (low e) (part e)
 
   abbrev pub AllAre : List Expr → Type 0
   AllAre [] = Unit {0}
@@ -180,10 +185,24 @@ module _ (m : Module) (input : Input) (whole : Sections) (f : Frame m input whol
 
   -- ---- parts
 
-  own : (e : Expr) → Is e → is_runtime_layer (out-Ty (type_of e)) ≡ false → Gives (low e).traits.splits (low e).ty (low e).value (part e).value
-  own e is read = subst (λ t. Gives (low e).traits.splits t (low e).value (part e).value) (sym is.typed) (is.gives read)
+  -- a struct or an array in a block gives its value
+  abbrev pub IsWhole : Expr → Type 0
+  IsWhole e = in_block e ≡ true → shape_of (type_of e) ≡ None → Gives (low e).traits.splits (type_of e) (low e).value (part e).value
 
-  own_leads : (e : Expr) (is : Is e) → type_of e ≢ ty.Void → (writes : Bool) → (writes ≡ true → (is_writable around e && not (in_block e)) ≡ true) → GivesPlace m input whole f p around (low e).traits.splits is.start writes (low e).ty (low e).reach (part e).access
+  abbrev pub AllWhole : List Expr → Type 0
+  AllWhole = AllByRecursion IsWhole
+
+  own : (e : Expr) → Is e → is_runtime_layer (out-Ty (type_of e)) ≡ false → IsWhole e → Gives (low e).traits.splits (low e).ty (low e).value (part e).value
+  own e is read wholes = subst (λ t. Gives (low e).traits.splits t (low e).value (part e).value) (sym is.typed) (is.gives read wholes)
+
+  -- what is a scalar or vector is no struct and no array
+  no_whole : (e : Expr) (shape : Shape) → shape_of (type_of e) ≡ Some shape → IsWhole e
+  no_whole e shape shaped in_one none = absurd (let z : None ≡ Some shape = sym none ∙ shaped in cc)
+
+  own_shaped : (e : Expr) → Is e → (shape : Shape) → shape_of (type_of e) ≡ Some shape → Gives (low e).traits.splits (low e).ty (low e).value (part e).value
+  own_shaped e is shape shaped = own e is (shaped_read (type_of e) shape shaped) (no_whole e shape shaped)
+
+  own_leads : (e : Expr) (is : Is e) → type_of e ≢ ty.Void → (writes : Bool) → (writes ≡ true → is_writable around e ≡ true) → GivesPlace m input whole f p around (low e).traits.splits is.start writes (low e).ty (low e).reach (part e).access
   own_leads e is real writes may = subst (λ t. GivesPlace m input whole f p around (low e).traits.splits is.start writes t (low e).reach (part e).access) (sym is.typed) (is.leads real writes may)
 
   own_sound : (e : Expr) → Is e → IsSound count (low e).ty
@@ -208,13 +227,13 @@ module _ (m : Module) (input : Input) (whole : Sections) (f : Frame m input whol
   pub row_gives : (es : List Expr) (t : Ty) (value : Emit ℕ) (run : Run Value) → Gives (any_splits (map low es)) t value run → Gives (together (map known_of (map low es))).splits t value run
   row_gives es t value run = subst (λ b. Gives b t value run) (sym (together_splits (traits.valued false false true) (map low es)))
 
-  all_give : (es : List Expr) → AllAre es → AllByRecursion (λ (e : Expr). type_of e ≢ ty.Void) es → AllByRecursion (MayBeRead around) es → AllGive Gives (map low es) (map part es)
-  all_give [] all real reads = tt
-  all_give (e ∷ es) all real reads = ((own_real e all.0 real.0, own e all.0 (is_false (is_runtime_layer (out-Ty (type_of e))) reads.0.1)), all_give es all.1 real.1 reads.1)
+  all_give : (es : List Expr) → AllAre es → AllByRecursion (λ (e : Expr). type_of e ≢ ty.Void) es → AllByRecursion (MayBeRead around) es → AllWhole es → AllGive Gives (map low es) (map part es)
+  all_give [] all real reads wholes = tt
+  all_give (e ∷ es) all real reads wholes = ((own_real e all.0 real.0, own e all.0 (is_false (is_runtime_layer (out-Ty (type_of e))) reads.0.1) wholes.0), all_give es all.1 real.1 reads.1 wholes.1)
 
-  each_gives : (es : List Expr) → AllAre es → AllByRecursion (MayBeRead around) es → EachGives Gives (map low es) (map part es)
-  each_gives [] all reads = tt
-  each_gives (e ∷ es) all reads = (own e all.0 (is_false (is_runtime_layer (out-Ty (type_of e))) reads.0.1), each_gives es all.1 reads.1)
+  each_gives : (es : List Expr) → AllAre es → AllByRecursion (MayBeRead around) es → AllWhole es → EachGives Gives (map low es) (map part es)
+  each_gives [] all reads wholes = tt
+  each_gives (e ∷ es) all reads wholes = (own e all.0 (is_false (is_runtime_layer (out-Ty (type_of e))) reads.0.1) wholes.0, each_gives es all.1 reads.1 wholes.1)
 
   low_types : (es : List Expr) → AllAre es → built.types_of (map low es) ≡ tree.types_of es
   low_types [] all = refl
@@ -235,6 +254,10 @@ module _ (m : Module) (input : Input) (whole : Sections) (f : Frame m input whol
       let c = shapes_cons (shape_of (type_of e)) (shapes_of es) shapes is in
       let rest = are_shaped es c.1 all.1 c.3 in
       (subst (AreShaped p (low e ∷ map low es)) (sym c.4) ((own_sound e all.0, ap shape_of all.0.typed ∙ c.2), rest.0), (shaped_real (type_of e) c.0 c.2, rest.1))
+
+  none_whole : (es : List Expr) (shapes : List Shape) → shapes_of es ≡ Some shapes → AllWhole es
+  none_whole [] shapes is = tt
+  none_whole (e ∷ es) shapes is = let c = shapes_cons (shape_of (type_of e)) (shapes_of es) shapes is in (no_whole e c.0 c.2, none_whole es c.1 c.3)
 
   -- ---- names
 
@@ -280,7 +303,7 @@ module _ (m : Module) (input : Input) (whole : Sections) (f : Frame m input whol
 
   pub unary_is : (op : UnaryOp) (a : Expr) (t : Ty) → Is a → IsUnary op (type_of a) t → Gives (low a).traits.splits t ((low_form (ExprKind-F.Unary op a) t).value) ((means_form setting (ExprKind-F.Unary op a) t).value)
   unary_is op a t x is =
-      unary_gives m input whole f p around op (low a) t (part a).value (own_real a x (shaped_real (type_of a) is.0 is.2)) (λ v. unary_typed p.structs op (low a).ty t v (subst (λ u. IsUnary op u t) (sym x.typed) is)) (own a x (shaped_read (type_of a) is.0 is.2))
+      unary_gives m input whole f p around op (low a) t (part a).value (own_real a x (shaped_real (type_of a) is.0 is.2)) (λ v. unary_typed p.structs op (low a).ty t v (subst (λ u. IsUnary op u t) (sym x.typed) is)) (own_shaped a x is.0 is.2)
 
   -- operands of an operator have values, which are no runtime arrays
   record AreRead (a b : Ty) : Type 0 where
@@ -303,9 +326,9 @@ module _ (m : Module) (input : Input) (whole : Sections) (f : Frame m input whol
     read_right = shaped_read b y second;
   }
 
-  pub binary_is : (op : BinaryOp) (a b : Expr) (t : Ty) → Is a → Is b → IsBinary around op (type_of a) (type_of b) t
+  pub binary_is : (op : BinaryOp) (a b : Expr) (t : Ty) → Is a → Is b → IsBinary around op (type_of a) (type_of b) t → AllWhole (a ∷ b ∷ [])
       → Gives ((low a).traits.splits || (low b).traits.splits) t ((low_form (ExprKind-F.Binary op a b) t).value) ((means_form setting (ExprKind-F.Binary op a b) t).value)
-  binary_is op a b t x y is =
+  binary_is op a b t x y is wholes =
       let read = operands_read op (type_of a) (type_of b) t is in
       let here : IsBinary around op (low a).ty (low b).ty t = subst (λ u. IsBinary around op u (low b).ty t) (sym x.typed) (subst (λ u. IsBinary around op (type_of a) u t) (sym y.typed) is) in
       subst (λ u. Gives ((low a).traits.splits || (low b).traits.splits) t ((low_form (ExprKind-F.Binary op a b) t).value) (meaning.binary t (part a).value (part b).value (binary_value op (is_signed u)))) (x.typed ∙ sym x.meant)
@@ -319,10 +342,10 @@ module _ (m : Module) (input : Input) (whole : Sections) (f : Frame m input whol
         operands = here;
         gives = λ v w choices words left right. binary_typed around op (is_signed (low a).ty) (low a).ty (low b).ty t v w choices (own_sound a x) (own_sound b y) here left right words;
       })
-      (own a x read.read_left) (own b y read.read_right))
+      (own a x read.read_left wholes.0) (own b y read.read_right wholes.1.0))
 
-  boolean_read : (t : Ty) → t ≡ boolean → is_runtime_layer (out-Ty t) ≡ false
-  boolean_read t e = shaped_read t (Boolean, 1) (ap shape_of e ∙ scalar_shape Boolean)
+  own_boolean : (e : Expr) → Is e → type_of e ≡ boolean → Gives (low e).traits.splits (low e).ty (low e).value (part e).value
+  own_boolean e is same = own_shaped e is (Boolean, 1) (ap shape_of same ∙ scalar_shape Boolean)
 
   abbrev Quiet : Ty → Expr → Type 0
   Quiet t e = IsQuiet (AreTyped m input whole f p around) (is_value_of p.structs t) (part e).value
@@ -353,23 +376,23 @@ module _ (m : Module) (input : Input) (whole : Sections) (f : Frame m input whol
       by : (short : Bool) → is_short op (low b).traits ≡ short → Gives (either a b || short) boolean (if short then Parts.short op (low a) (low b) else Parts.both op (low a) (low b)) (logic_means op (part a).value (part b).value)
       by true e =
           subst (λ splits. Gives splits boolean (Parts.short op (low a) (low b)) (logic_means op (part a).value (part b).value)) (sym (or_true (either a b)))
-          (short_gives m input whole f p around op (low a) (low b) (part a).value (part b).value (short_of op (low b).traits e) (x.typed ∙ first) (y.typed ∙ second) (own a x (boolean_read (type_of a) first)) (own b y (boolean_read (type_of b) second)))
+          (short_gives m input whole f p around op (low a) (low b) (part a).value (part b).value (short_of op (low b).traits e) (x.typed ∙ first) (y.typed ∙ second) (own_boolean a x first) (own_boolean b y second))
       by false e =
           subst (λ splits. Gives splits boolean (Parts.both op (low a) (low b)) (logic_means op (part a).value (part b).value)) (sym (or_false (either a b)))
-          (both_give m input whole f p around op (low a) (low b) (part a).value (part b).value (x.typed ∙ first) (y.typed ∙ second) (λ word. decides_or op word e quiet) (own a x (boolean_read (type_of a) first)) (own b y (boolean_read (type_of b) second)))
+          (both_give m input whole f p around op (low a) (low b) (part a).value (part b).value (x.typed ∙ first) (y.typed ∙ second) (λ word. decides_or op word e quiet) (own_boolean a x first) (own_boolean b y second))
 
-  pub choice_is : (t : Ty) (test a b : Expr) → IsSound count t → Is test → Is a → Is b → type_of test ≡ boolean → type_of a ≡ t → type_of b ≡ t → IsTrue (tree.is_value_type t) → (is_selected t (low a).traits (low b).traits ≡ true → Quiet t a × Quiet t b)
+  pub choice_is : (t : Ty) (test a b : Expr) → IsSound count t → Is test → Is a → Is b → type_of test ≡ boolean → type_of a ≡ t → type_of b ≡ t → IsTrue (tree.is_value_type t) → AllWhole (a ∷ b ∷ []) → (is_selected t (low a).traits (low b).traits ≡ true → Quiet t a × Quiet t b)
       → Gives (traits.chosen t (low test).traits (low a).traits (low b).traits).splits t (chosen t (low test) (low a) (low b)) (choice_means (part test).value (part a).value (part b).value)
-  choice_is t test a b sound w x y on first second real quiet = by (is_selected t (low a).traits (low b).traits) refl
+  choice_is t test a b sound w x y on first second real wholes quiet = by (is_selected t (low a).traits (low b).traits) refl
     where
       test_gives : Gives (low test).traits.splits (low test).ty (low test).value (part test).value
-      test_gives = own test w (boolean_read (type_of test) on)
+      test_gives = own_boolean test w on
 
       a_gives : Gives (low a).traits.splits (low a).ty (low a).value (part a).value
-      a_gives = own a x (ap (λ u. is_runtime_layer (out-Ty u)) first ∙ value_read t real)
+      a_gives = own a x (ap (λ u. is_runtime_layer (out-Ty u)) first ∙ value_read t real) wholes.0
 
       b_gives : Gives (low b).traits.splits (low b).ty (low b).value (part b).value
-      b_gives = own b y (ap (λ u. is_runtime_layer (out-Ty u)) second ∙ value_read t real)
+      b_gives = own b y (ap (λ u. is_runtime_layer (out-Ty u)) second ∙ value_read t real) wholes.1.0
 
       selected_here : (scalar : Scalar) → t ≡ ty.One scalar → (low a).traits.splits ≡ false → (low b).traits.splits ≡ false → Quiet t a → Quiet t b → Gives (low test).traits.splits t (Parts.picked_one t (low test) (low a) (low b)) (choice_run test a b)
       selected_here scalar e whole_a whole_b quiet_a quiet_b =
@@ -395,20 +418,26 @@ module _ (m : Module) (input : Input) (whole : Sections) (f : Frame m input whol
       let c = conversion_of (type_of a) t is differ in
       let to : is_integer (shape_or t).0 ≡ true = ap (λ (shape : Shape). is_integer shape.0) (shape_or_is t c.to c.gives) ∙ c.integer in
       conversion_gives m input whole f p around (shape_or t).0 c.from (low a) t (part a).value are (own_sound a x) (own_real a x (shaped_real (type_of a) c.from c.of)) (ap shape_of x.typed ∙ c.of) to
-      (λ v. subst (λ u. is_value_of p.structs u v ≡ true → is_value_of p.structs t v ≡ true) (sym x.typed) (λ fits. sym (converted_same p.structs (type_of a) t v is) ∙ fits)) (own a x (shaped_read (type_of a) c.from c.of))
+      (λ v. subst (λ u. is_value_of p.structs u v ≡ true → is_value_of p.structs t v ≡ true) (sym x.typed) (λ fits. sym (converted_same p.structs (type_of a) t v is) ∙ fits)) (own_shaped a x c.from c.of)
 
   -- ---- what is stored
 
-  -- outside blocks
-  place_of : (a : Expr) (x : Is a) → type_of a ≢ ty.Void → IsTrue (is_writable around a) → in_block a ≡ false → GivesPlace m input whole f p around (low a).traits.splits x.start true (low a).ty (low a).reach (part a).access
-  place_of a x real may apart = own_leads a x real true (λ e. ap (λ c. is_writable around a && not c) apart ∙ ap (λ c. c && true) may)
+  place_of : (a : Expr) (x : Is a) → type_of a ≢ ty.Void → IsTrue (is_writable around a) → GivesPlace m input whole f p around (low a).traits.splits x.start true (low a).ty (low a).reach (part a).access
+  place_of a x real may = own_leads a x real true (λ e. may)
 
-  pub assign_is : (a b : Expr) (t : Ty) → Is a → Is b → type_of a ≡ t → type_of b ≡ t → IsTrue (tree.is_value_type t) → IsTrue (is_writable around a) → in_block a ≡ false → (v : Value) × (is_value_of p.structs (type_of a) v ≡ true)
+  -- in a block its buffers are known
+  abbrev Knows : Expr → Type 0
+  Knows a = in_block a ≡ true → KnowsBuffers m input whole f p
+
+  knows_of : (a : Expr) (x : Is a) → Knows a → x.start ≡ OfBlock → KnowsBuffers m input whole f p
+  knows_of a x knows e = knows (x.start_blocked e)
+
+  pub assign_is : (a b : Expr) (t : Ty) → Is a → Is b → type_of a ≡ t → type_of b ≡ t → IsTrue (tree.is_value_type t) → IsTrue (is_writable around a) → Knows a → IsWhole b → (v : Value) × (is_value_of p.structs (type_of a) v ≡ true)
       → Gives ((low a).traits.splits || (low b).traits.splits) t (Parts.assigned p.structs (low a) (low b)) (assign_means (part a).access (part b).value)
-  assign_is a b t x y first second real may apart some =
+  assign_is a b t x y first second real may knows wholes some =
       let real_a : type_of a ≢ ty.Void = (λ void. value_real t real (sym first ∙ void)) in
       subst (λ u. Gives ((low a).traits.splits || (low b).traits.splits) u (Parts.assigned p.structs (low a) (low b)) (assign_means (part a).access (part b).value)) (x.typed ∙ first)
-      (place_assigned m input whole f p around x.start (low a) (low b) (part b).value
+      (place_assigned m input whole f p around x.start (knows_of a x knows) (low a) (low b) (part b).value
       (record {
         are = are;
         sound = own_sound a x;
@@ -417,17 +446,17 @@ module _ (m : Module) (input : Input) (whole : Sections) (f : Frame m input whol
         same = y.typed ∙ second ∙ sym first ∙ sym x.typed;
         comes = λ none. (y.tells.comes none).1;
       })
-      (own b y (ap (λ u. is_runtime_layer (out-Ty u)) second ∙ value_read t real)) (low a).traits.splits (part a).access (place_of a x real_a may apart))
+      (own b y (ap (λ u. is_runtime_layer (out-Ty u)) second ∙ value_read t real) wholes) (low a).traits.splits (part a).access (place_of a x real_a may))
 
-  pub update_is : (op : BinaryOp) (a b : Expr) (t : Ty) → Is a → Is b → type_of a ≡ t → tree.IsOperation op t (type_of b) t → IsTrue (is_writable around a) → in_block a ≡ false
+  pub update_is : (op : BinaryOp) (a b : Expr) (t : Ty) → Is a → Is b → type_of a ≡ t → tree.IsOperation op t (type_of b) t → IsTrue (is_writable around a) → Knows a
       → Gives ((low a).traits.splits || (low b).traits.splits) t (Parts.updated p.structs op (low a) (low b)) (meaning.updating p.structs (part a) (part b) (binary_value op (is_signed (part a).ty)))
-  update_is op a b t x y first is may apart =
+  update_is op a b t x y first is may knows =
       let read = operands_read op t (type_of b) t (inr is) in
       let here : IsBinary around op (low a).ty (low b).ty (low a).ty = subst (λ u. IsBinary around op u (low b).ty u) (sym (x.typed ∙ first)) (subst (λ u. IsBinary around op t u t) (sym y.typed) (inr is)) in
       let real_a : type_of a ≢ ty.Void = (λ void. read.real_left (sym first ∙ void)) in
       subst (λ u. Gives ((low a).traits.splits || (low b).traits.splits) u (Parts.updated p.structs op (low a) (low b)) (meaning.updating p.structs (part a) (part b) (binary_value op (is_signed (part a).ty)))) (x.typed ∙ first)
       (subst (λ u. Gives ((low a).traits.splits || (low b).traits.splits) (low a).ty (Parts.updated p.structs op (low a) (low b)) (update_means p.structs u (part a).access (part b).value (binary_value op (is_signed u)))) (x.typed ∙ sym x.meant)
-      (place_updated m input whole f p around x.start (low a).traits.splits op (low a) (low b)
+      (place_updated m input whole f p around x.start (knows_of a x knows) (low a).traits.splits op (low a) (low b)
       (record {
         operates = record {
           are = are;
@@ -441,18 +470,18 @@ module _ (m : Module) (input : Input) (whole : Sections) (f : Frame m input whol
         shape = is.0;
         shaped = ap shape_of (x.typed ∙ first) ∙ is.3;
       })
-      (part a).access (part b).value (place_of a x real_a may apart) (own b y read.read_right)))
+      (part a).access (part b).value (place_of a x real_a may) (own_shaped b y is.1 is.4)))
 
-  pub step_is : (op : StepOp) (a : Expr) (t : Ty) → Is a → type_of a ≡ t → (shape : Shape) × (shape_of t ≡ Some shape) × IsTrue (is_integer shape.0) → IsTrue (is_writable around a) → in_block a ≡ false
+  pub step_is : (op : StepOp) (a : Expr) (t : Ty) → Is a → type_of a ≡ t → (shape : Shape) × (shape_of t ≡ Some shape) × IsTrue (is_integer shape.0) → IsTrue (is_writable around a) → Knows a
       → Gives (low a).traits.splits t (Parts.stepped p.structs op (low a)) (meaning.stepping p.structs (part a) (step_value op) (is_postfix op))
-  step_is op a t x first is may apart =
+  step_is op a t x first is may knows =
       let shaped : shape_of (low a).ty ≡ Some is.0 = ap shape_of (x.typed ∙ first) ∙ is.1 in
       let real_a : type_of a ≢ ty.Void = (λ void. shaped_real t is.0 is.1 (sym first ∙ void)) in
       subst (λ u. Gives (low a).traits.splits u (Parts.stepped p.structs op (low a)) (meaning.stepping p.structs (part a) (step_value op) (is_postfix op))) (x.typed ∙ first)
       (subst (λ u. Gives (low a).traits.splits (low a).ty (Parts.stepped p.structs op (low a)) (step_means p.structs u (part a).access (step_value op) (is_postfix op))) (x.typed ∙ sym x.meant)
-      (place_stepped m input whole f p around x.start (low a) op
+      (place_stepped m input whole f p around x.start (knows_of a x knows) (low a) op
       (record { are = are; sound = own_sound a x; real = own_real a x real_a; shape = is.0; shaped = shaped; gives = λ v fits. step_typed p.structs op (low a).ty is.0 v (own_sound a x) shaped is.2 fits })
-      (low a).traits.splits (part a).access (place_of a x real_a may apart)))
+      (low a).traits.splits (part a).access (place_of a x real_a may)))
 
   -- ---- several arguments
 
@@ -473,18 +502,18 @@ module _ (m : Module) (input : Input) (whole : Sections) (f : Frame m input whol
         takes = is.3;
         gives = λ vs choices words fits. builtin_typed p.structs which (built.first_signed (map low args)) args t vs choices is (passed args vs all fits) words;
       })
-      (same_types args all) (all_give args all shaped.1 reads))
+      (same_types args all) (all_give args all shaped.1 reads (none_whole args is.0 is.2)))
 
   abbrev BuildGoal : List Expr → Ty → Type 0
   BuildGoal args t = Gives (any_splits (map low args)) t (constructed t (map low args)) (built.constructed_means t (map part args))
 
-  pub build_is : (args : List Expr) (t : Ty) → IsSound count t → AllAre args → AllByRecursion (MayBeRead around) args → AllByRecursion (λ (e : Expr). type_of e ≢ ty.Void) args → IsBuild around args t
+  pub build_is : (args : List Expr) (t : Ty) → IsSound count t → AllAre args → AllByRecursion (MayBeRead around) args → AllByRecursion (λ (e : Expr). type_of e ≢ ty.Void) args → AllWhole args → IsBuild around args t
       → Gives (together (map known_of (map low args))).splits t (constructed t (map low args)) (built.constructed_means t (map part args))
-  build_is args t sound all reads real is =
+  build_is args t sound all reads real wholes is =
       row_gives args t (constructed t (map low args)) (built.constructed_means t (map part args)) (by (out-Ty t) refl (roll-out-Ty t) is.0)
     where
       each : AllGive Gives (map low args) (map part args)
-      each = all_give args all real reads
+      each = all_give args all real reads wholes
 
       shape_built : (shape : Shape) (shapes : List Shape) → shape_of t ≡ Some shape → shapes_of args ≡ Some shapes → (shape.1 ≤ built.components shapes) ⊎ (built.components shapes ≡ 1) → BuildGoal args t
       shape_built shape shapes of given enough =
@@ -515,28 +544,39 @@ module _ (m : Module) (input : Input) (whole : Sections) (f : Frame m input whol
       by Ty-F.Void e rolls of = absurd of
       by (Ty-F.Runtime element) e rolls of = absurd of
 
-  pub comma_is : (items : List Expr) (t : Ty) → AllAre items → AllByRecursion (MayBeRead around) items → tree.last_type items ≡ Some t
+  pub comma_is : (items : List Expr) (t : Ty) → AllAre items → AllByRecursion (MayBeRead around) items → AllWhole items → tree.last_type items ≡ Some t
       → Gives (together (map known_of (map low items))).splits t (sequence 0 (map low items)) (built.sequence_means (map part items))
-  comma_is items t all reads last =
-      row_gives items t (sequence 0 (map low items)) (built.sequence_means (map part items)) (sequence_gives m input whole f p around t (map low items) (map part items) (each_gives items all reads) (last_is items all ∙ last))
+  comma_is items t all reads wholes last =
+      row_gives items t (sequence 0 (map low items)) (built.sequence_means (map part items)) (sequence_gives m input whole f p around t (map low items) (map part items) (each_gives items all reads wholes) (last_is items all ∙ last))
 
   -- ---- what leads to a part
 
-  pub block_leads : (writable : Bool) (block number : ℕ) (t : Ty) → KnowsMember m input whole f p around block number t → (writes : Bool) → (writes ≡ true → (writable && not true) ≡ true) → GivesPlace m input whole f p around false OfBlock writes t (Parts.in_block block number) (shader_run.given (meaning.member_root block number))
-  block_leads writable block number t known false may = block_place m input whole f p around block number t known
-  block_leads true block number t known true may = absurd (let z : false ≡ true = may refl in cc)
-  block_leads false block number t known true may = absurd (let z : false ≡ true = may refl in cc)
+  -- a member that may be written is one of a buffer block
+  may_store : (block number : ℕ) → may_write_member around block number ≡ true → MayStore p.blocks (access.Block block)
+  may_store block number may one there = by one.kind (kept (member_in (Some one) number) (subst (λ o. writes_member o (member_in o number) ≡ true) there may))
+    where
+      kept : (o : Option BlockMember) → writes_member (Some one) o ≡ true → is_buffer one.kind ≡ true
+      kept None e = absurd (let z : false ≡ true = e in cc)
+      kept (Some member) e = (and_parts (is_buffer one.kind) (not member.readonly) e).0
+
+      by : (kind : BlockKind) → is_buffer kind ≡ true → is_push kind ≡ false
+      by Uniform e = refl
+      by Buffer e = refl
+      by Push e = absurd (let z : false ≡ true = e in cc)
+
+  pub block_leads : (block number : ℕ) (t : Ty) → KnowsMember m input whole f p around block number t → (writes : Bool) → (writes ≡ true → may_write_member around block number ≡ true) → GivesPlace m input whole f p around false OfBlock writes t (Parts.in_block block number) (shader_run.given (meaning.member_root block number))
+  block_leads block number t known writes may = block_place m input whole f p around block number writes t known (λ e. may_store block number (may e))
 
   pub swizzle_shape : (a : Expr) (lanes : Lanes) (t : Ty) (is : IsSwizzle (type_of a) lanes t) → shape_of t ≡ Some (is.0.0, lanes.count)
   swizzle_shape a lanes t is = ap shape_of (sym is.4) ∙ shape_back (is.0.0, lanes.count)
 
-  pub member_leads : (a : Expr) (number : ℕ) (t : Ty) → IsSound count t → (x : Is a) → tree.HasPartType p.structs (type_of a) number t → (writes : Bool) → (writes ≡ true → (is_writable around a && not (in_block a)) ≡ true)
+  pub member_leads : (a : Expr) (number : ℕ) (t : Ty) → IsSound count t → (x : Is a) → tree.HasPartType p.structs (type_of a) number t → (writes : Bool) → (writes ≡ true → is_writable around a ≡ true)
       → GivesPlace m input whole f p around (low a).traits.splits x.start writes t (member (low a) number) (shader_run.◌>>=◌ (part a).access (λ x. shader_run.given (access.member_of x number)))
   member_leads a number t sound x is writes may =
       member_place m input whole f p around (low a).traits.splits x.start writes t number (low a) (part a).access are (subst (λ u. tree.HasPartType p.structs u number t) (sym x.typed) is) sound
       (own_leads a x (struct_real (type_of a) is.0 is.3) writes may)
 
-  pub swizzle_leads : (a : Expr) (lanes : Lanes) (t : Ty) (x : Is a) → IsSwizzle (type_of a) lanes t → (writes : Bool) → (writes ≡ true → (is_writable around a && not (repeats (picked lanes)) && not (in_block a)) ≡ true)
+  pub swizzle_leads : (a : Expr) (lanes : Lanes) (t : Ty) (x : Is a) → IsSwizzle (type_of a) lanes t → (writes : Bool) → (writes ≡ true → (is_writable around a && not (repeats (picked lanes))) ≡ true)
       → GivesPlace m input whole f p around (low a).traits.splits x.start writes t (swizzled_by (low a) lanes) (shader_run.◌>>=◌ (part a).access (λ x. shader_run.given (access.swizzle_of x (picked lanes))))
   swizzle_leads a lanes t x is writes may =
       swizzle_place m input whole f p around (low a).traits.splits x.start writes writes t is.0 lanes (low a) (part a).access
@@ -546,12 +586,9 @@ module _ (m : Module) (input : Input) (whole : Sections) (f : Frame m input whol
         some = subst (λ n. 1 ≤ n) (sym long) is.2.0;
         below = all_below is.0.1 (picked lanes) is.3;
       })
-      (λ e. (e, is_false (repeats (picked lanes)) (and_parts (is_writable around a) (not (repeats (picked lanes))) (firsts e).0).1))
-      (own_leads a x (shaped_real (type_of a) is.0 is.1) writes (λ e. ap (λ c. c && not (in_block a)) (and_parts (is_writable around a) (not (repeats (picked lanes))) (firsts e).0).0 ∙ (firsts e).1))
+      (λ e. (e, is_false (repeats (picked lanes)) (and_parts (is_writable around a) (not (repeats (picked lanes))) (may e)).1))
+      (own_leads a x (shaped_real (type_of a) is.0 is.1) writes (λ e. (and_parts (is_writable around a) (not (repeats (picked lanes))) (may e)).0))
     where
-      firsts : writes ≡ true → ((is_writable around a && not (repeats (picked lanes))) ≡ true) × (not (in_block a) ≡ true)
-      firsts e = and_parts (is_writable around a && not (repeats (picked lanes))) (not (in_block a)) (may e)
-
       long : length (picked lanes) ≡ lanes.count
       long = length-take-le lanes.count lanes.words is.2.2
 
@@ -611,7 +648,7 @@ module _ (m : Module) (input : Input) (whole : Sections) (f : Frame m input whol
   can_test a x (inr one) = inr (member_there a one)
 
   pub index_leads : (a i : Expr) (t : Ty) → IsSound count t → (x : Is a) → Is i → element_of (type_of a) ≡ Some t → IsIndex (type_of i) → is_in_range around a i ≡ true → ((low i).traits.calls ≡ true → MayTest a) → IsLiteralForm i
-      → (writes : Bool) → (writes ≡ true → (is_writable around a && not (in_block a)) ≡ true) → Leads a i x t writes
+      → (writes : Bool) → (writes ≡ true → is_writable around a ≡ true) → Leads a i x t writes
   index_leads a i t sound x y element integer range tests form writes may = by (low i).traits.literal refl
     where
       base : GivesPlace m input whole f p around (low a).traits.splits x.start writes (low a).ty (low a).reach (part a).access
@@ -627,7 +664,7 @@ module _ (m : Module) (input : Input) (whole : Sections) (f : Frame m input whol
       by None e =
           let shape = index_shape (type_of i) integer in
           index_place m input whole f p around are (low a).traits.splits writes x.start t (low a) (low i) (part a).access (part i).value x.start_loose (indexes a t sound x element) (own_real a x (element_real (type_of a) t element)) (own_real i y (shaped_real (type_of i) shape.0 shape.1))
-          (record { computed = e; number = subst IsIndex (sym y.typed) integer; comes = λ alone. (y.tells.comes alone).1 }) (λ calls. can_test a x (tests calls)) (own i y (shaped_read (type_of i) shape.0 shape.1)) base
+          (record { computed = e; number = subst IsIndex (sym y.typed) integer; comes = λ alone. (y.tells.comes alone).1 }) (λ calls. can_test a x (tests calls)) (own_shaped i y shape.0 shape.1) base
       by (Some number) e =
           let told = y.tells.literal number e in
           let const = form number e in

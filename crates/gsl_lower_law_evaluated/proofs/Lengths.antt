@@ -45,7 +45,7 @@ use Rattle.gsl_lower_follows.specs.Frames.{Frame}
 use Rattle.gsl_lower_follows.specs.Giving.{GivesValue}
 use Rattle.gsl_lower_law_expr.proofs.Constant.{constant_gives}
 use Rattle.gsl_lower_law_expr.proofs.Shapes.{value_shape}
-use Rattle.gsl_lower_elements.proofs.Lengths.{length_gives}
+use Rattle.gsl_lower_assigns.proofs.OfElements.{length_gives}
 use Rattle.gsl_lower_law_evaluated.specs.Evaluating.{AsksLengthOf, IsTyped, NoVectors, lowered_in, meant_in}
 use Rattle.gsl_lower_law_evaluated.proofs.Evaluated.{lacks}
 use Rattle.gsl_lower_law_evaluated.proofs.Facts.{length_small, scalar_shape}

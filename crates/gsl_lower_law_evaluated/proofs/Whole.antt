@@ -1,5 +1,5 @@
 -- Whole expressions, kind by kind, and the expressions in them.
-use Rattle.std.proofs.Common.{◌≡◌, refl, sym, ap, ◌∙◌, subst, ℕ, Bool, true, false, not, ◌||◌, ◌&&◌, slice_get, List, [], ◌∷◌, length, map, Some, None}
+use Rattle.std.proofs.Common.{◌≡◌, refl, sym, ap, ◌∙◌, subst, ℕ, Bool, true, false, ◌||◌, slice_get, List, [], ◌∷◌, length, map, Some}
 use Rattle.std.specs.List.{AllByRecursion}
 use Rattle.gsl_base.specs.declared.input.Input.{Input}
 use Rattle.gsl_types.specs.Known.{AreStructs, IsSound}
@@ -12,7 +12,6 @@ use Rattle.gsl_values.specs.declared.value.Value.{Value}
 use Rattle.gsl_tree.specs.Around.{Around}
 use Rattle.gsl_tree.specs.Expressions.{HasType, IsExpr, IsNode, MayBeRead, is_runtime_layer}
 use Rattle.gsl_tree.specs.Paths.{in_block, in_block_by, is_writable, kind_in, read_parts, writable_by}
-use Rattle.gsl_tree.specs.Shapes.{shape_of}
 use Rattle.gsl_tree.specs.Trees.{Throughout, ThroughoutAll, form_of, parts_of, type_of}
 use Rattle.gsl_tree.specs.Values.{word_in}
 use Rattle.gsl_tree.specs.WellTyped.{around_body, program_lists}
@@ -41,16 +40,17 @@ use Rattle.gsl_lower_expr.specs.Parts.{Lower, any_splits, chosen, constant_by, c
 use Rattle.gsl_lower_follows.specs.Frames.{Frame}
 use Rattle.gsl_lower_follows.specs.Giving.{GivesValue}
 use Rattle.gsl_lower_law_expr.specs.Known.{choice_means, logic_means}
-use Rattle.gsl_lower_elements.specs.Indexes.{indexed_means}
-use Rattle.gsl_lower_elements.proofs.Lengths.{length_gives}
+use Rattle.gsl_lower_assigns.specs.OfElements.{indexed_means}
+use Rattle.gsl_lower_assigns.proofs.OfElements.{length_gives}
 use Rattle.gsl_lower_reaching.specs.Reaching.Start.{OfBlock, OfVariable}
 use Rattle.gsl_lower_reaching.proofs.Places.{global_place, interface_place, local_place, param_place}
 use Rattle.gsl_lower_used.specs.Lowered.{ThroughoutAllLowered, ThroughoutLowered, lowered_parts}
 use Rattle.gsl_lower_used.proofs.Within.{call_passed, parts_throughout, tops}
-use Rattle.gsl_lower_law_evaluated.specs.Evaluating.{AllEvaluated, Asks, Evaluates, HasValue, IsEvaluated, IsReadWhole, IsTyped, NoVectors, lowered_in, meant_in}
+use Rattle.gsl_lower_law_evaluated.specs.Evaluating.{AllEvaluated, AreReadWhole, Asks, Evaluates, HasValue, IsEvaluated, IsReadWhole, IsTyped, NoVectors, lowered_in, meant_in}
 use Rattle.gsl_lower_law_evaluated.proofs.Evaluated.{place_evaluates, value_evaluates}
 use Rattle.gsl_lower_law_evaluated.proofs.Forms as forms
 use Rattle.gsl_lower_law_evaluated.proofs.Lengths as lengths
+use Rattle.gsl_lower_law_evaluated.proofs.Facts.{is_false}
 use Rattle.gsl_lower_law_evaluated.proofs.Lists.{or_false}
 use Rattle.gsl_lower_law_evaluated.proofs.Building.{parts_real}
 use Rattle.gsl_lower_law_evaluated.proofs.Quiet as quiet
@@ -120,14 +120,12 @@ module _ (m : Module) (input : Input) (whole : Sections) (f : Frame m input whol
   -- ---- every form
 
   abbrev Here : ExprKind-F ExprKind Expr → Ty → Type 0
-  Here form t = Evaluates m input whole f p around (may_write form && not (is_blocked form)) (is_blocked form) t (low_form form t) (means_form setting form t)
+  Here form t = Evaluates m input whole f p around (may_write form) (is_blocked form) t (low_form form t) (means_form setting form t)
 
-  -- what is asked of an expression as a whole
+  -- an expression by its form, as it is lowered and as it is meant
   record Whole (e : Expr) (form : ExprKind-F ExprKind Expr) : Type 0 where
     lowered : low e ≡ low_form form (type_of e)
     meant : part e ≡ means_form setting form (type_of e)
-    writes : is_writable around e ≡ may_write form
-    blocked : in_block e ≡ is_blocked form
 
   value_here : (e : Expr) (form : ExprKind-F ExprKind Expr) → Whole e form → HasValue m input whole f p params locals call stage calls e
       → GivesValue m input whole f p around (low_form form (type_of e)).traits.splits (type_of e) (low_form form (type_of e)).value (means_form setting form (type_of e)).value
@@ -136,31 +134,20 @@ module _ (m : Module) (input : Input) (whole : Sections) (f : Frame m input whol
       subst (λ (l : Lower). GivesValue m input whole f p around l.traits.splits (type_of e) l.value (means_form setting form (type_of e)).value) w.lowered
       (subst (λ (x : Meant). GivesValue m input whole f p around (low e).traits.splits (type_of e) (low e).value x.value) w.meant has)
 
-  all_here : (e : Expr) (form : ExprKind-F ExprKind Expr) → Whole e form → Is e → Here form (type_of e)
-  all_here e form w is =
-      subst (λ (b : Bool). Evaluates m input whole f p around (b && not (is_blocked form)) (is_blocked form) (type_of e) (low_form form (type_of e)) (means_form setting form (type_of e))) w.writes
-      (subst (λ (b : Bool). Evaluates m input whole f p around (is_writable around e && not b) b (type_of e) (low_form form (type_of e)) (means_form setting form (type_of e))) w.blocked
-      (subst (λ (l : Lower). Evaluates m input whole f p around (is_writable around e && not (in_block e)) (in_block e) (type_of e) l (means_form setting form (type_of e))) w.lowered
-      (subst (λ (x : Meant). Evaluates m input whole f p around (is_writable around e && not (in_block e)) (in_block e) (type_of e) (low e) x) w.meant is)))
+  abbrev IsWhole : Expr → Type 0
+  IsWhole = forms.IsWhole m input whole f p params locals call stage calls types vectors
 
-  abbrev GivesHere : (e : Expr) → ExprKind-F ExprKind Expr → Type 0
-  GivesHere e form = GivesValue m input whole f p around (low_form form (type_of e)).traits.splits (type_of e) (low_form form (type_of e)).value (means_form setting form (type_of e)).value
+  abbrev AllWhole : List Expr → Type 0
+  AllWhole = forms.AllWhole m input whole f p params locals call stage calls types vectors
 
-  -- a struct or an array of a block that is read whole
-  read_whole : (e : Expr) (form : ExprKind-F ExprKind Expr) → Whole e form → IsReadWhole m input whole f p params locals call stage calls e → is_blocked form ≡ true → shape_of (type_of e) ≡ None → is_runtime_layer (out-Ty (type_of e)) ≡ false → GivesHere e form
-  read_whole e form w asks is none read = value_here e form w (asks (w.blocked ∙ is) none read)
+  -- structs and arrays of blocks that are read
+  whole_of : (e : Expr) → is_runtime_layer (out-Ty (type_of e)) ≡ false → IsReadWhole m input whole f p params locals call stage calls e → IsWhole e
+  unfolding lowers means
+  whole_of e read asks in_one none = asks in_one none read
 
-  -- what is stored in a block, or elsewhere
-  stored_or : (e : Expr) (form : ExprKind-F ExprKind Expr) (a : Expr) → Whole e form → (in_block a ≡ true → HasValue m input whole f p params locals call stage calls e) → (in_block a ≡ false → GivesHere e form) → GivesHere e form
-  stored_or e form a w asks elsewhere = by (in_block a) refl
-    where
-      by : (b : Bool) → in_block a ≡ b → GivesHere e form
-      by true is = value_here e form w (asks is)
-      by false is = elsewhere is
-
-  -- outside blocks nothing is asked
-  apart : {A : Type 0} → false ≡ true → A
-  apart e = absurd (let z : false ≡ true = e in cc)
+  wholes_of : (es : List Expr) → AllByRecursion (MayBeRead around) es → AreReadWhole m input whole f p params locals call stage calls es → AllWhole es
+  wholes_of [] reads asks = tt
+  wholes_of (e ∷ es) reads asks = (whole_of e (is_false (is_runtime_layer (out-Ty (type_of e))) reads.0.1) asks.0, wholes_of es reads.1 asks.1)
 
   not_here : {A : Type 0} → OfVariable ≡ OfBlock → A
   not_here e = absurd (let z : OfVariable ≡ OfBlock = e in cc)
@@ -182,35 +169,35 @@ module _ (m : Module) (input : Input) (whole : Sections) (f : Frame m input whol
   by_kind e (ExprKind-F.Const v) w sound sounds all is reads asks =
       value_evaluates m input whole f p around (type_of e) _ (lift (constant_by (shape_or (type_of e)) v)) (shader_run.given v) sound refl (forms.const_gives m input whole f p params locals call stage calls types vectors v (type_of e) sound is) (tell (ExprKind-F.Const v) (type_of e) all)
   by_kind e (ExprKind-F.Local n) w sound sounds all is reads asks =
-      place_evaluates m input whole f p around true false OfVariable (type_of e) (traits.in_variable (type_of e)) (named (λ place. place.locals) storage_class.FUNCTION n) (shader_run.given (access.whole (access.Local n))) are sound refl not_here apart
+      place_evaluates m input whole f p around true false OfVariable (type_of e) (traits.in_variable (type_of e)) (named (λ place. place.locals) storage_class.FUNCTION n) (shader_run.given (access.whole (access.Local n))) are sound refl not_here
       (λ writes may. local_place m input whole f p around n writes (type_of e) (forms.named_local m input whole f p params locals call stage calls types vectors n (type_of e) is)) (tell (ExprKind-F.Local n) (type_of e) all)
   by_kind e (ExprKind-F.Global n) w sound sounds all is reads asks =
-      place_evaluates m input whole f p around (may_write (ExprKind-F.Global n) && not false) false OfVariable (type_of e) (traits.in_variable (type_of e)) (named (λ place. place.globals) storage_class.PRIVATE n) (shader_run.given (access.whole (access.Global n))) are sound refl not_here apart
+      place_evaluates m input whole f p around (may_write (ExprKind-F.Global n)) false OfVariable (type_of e) (traits.in_variable (type_of e)) (named (λ place. place.globals) storage_class.PRIVATE n) (shader_run.given (access.whole (access.Global n))) are sound refl not_here
       (λ writes may. global_place m input whole f p around n writes (type_of e) (forms.named_global m input whole f p params locals call stage calls types vectors n (type_of e) is)) (tell (ExprKind-F.Global n) (type_of e) all)
   by_kind e (ExprKind-F.Param n) w sound sounds all is reads asks =
-      place_evaluates m input whole f p around true false OfVariable (type_of e) (traits.in_variable (type_of e)) (named (λ place. place.params) storage_class.FUNCTION n) (shader_run.given (access.whole (access.Param n))) are sound refl not_here apart
+      place_evaluates m input whole f p around true false OfVariable (type_of e) (traits.in_variable (type_of e)) (named (λ place. place.params) storage_class.FUNCTION n) (shader_run.given (access.whole (access.Param n))) are sound refl not_here
       (λ writes may. param_place m input whole f p around n writes (type_of e) (forms.named_param m input whole f p params locals call stage calls types vectors n (type_of e) is)) (tell (ExprKind-F.Param n) (type_of e) all)
   by_kind e (ExprKind-F.Interface n) w sound sounds all is reads asks =
-      place_evaluates m input whole f p around (may_write (ExprKind-F.Interface n) && not false) false OfVariable (type_of e) (traits.in_variable (type_of e)) (named (λ place. place.interfaces) (interface_class (slice_get p.interfaces n)) n) (shader_run.given (access.whole (access.Interface n))) are sound refl not_here apart
+      place_evaluates m input whole f p around (may_write (ExprKind-F.Interface n)) false OfVariable (type_of e) (traits.in_variable (type_of e)) (named (λ place. place.interfaces) (interface_class (slice_get p.interfaces n)) n) (shader_run.given (access.whole (access.Interface n))) are sound refl not_here
       (λ writes may. interface_place m input whole f p around n (slice_get p.interfaces n) writes (type_of e) (forms.named_interface m input whole f p params locals call stage calls types vectors n (type_of e) is)) (tell (ExprKind-F.Interface n) (type_of e) all)
   by_kind e (ExprKind-F.BlockMember block n) w sound sounds all is reads asks =
       let told = tell (ExprKind-F.BlockMember block n) (type_of e) all in
-      let here = place_evaluates m input whole f p around (may_write (ExprKind-F.BlockMember block n) && not true) true OfBlock (type_of e) (traits.in_variable (type_of e)) (in_block_code block n) (shader_run.given (meaning.member_root block n)) are sound refl (λ e. refl)
-      (read_whole e (ExprKind-F.BlockMember block n) w asks.0) (forms.block_leads m input whole f p params locals call stage calls types vectors (may_write (ExprKind-F.BlockMember block n)) block n (type_of e) asks.1)
+      let here = place_evaluates m input whole f p around (may_write (ExprKind-F.BlockMember block n)) true OfBlock (type_of e) (traits.in_variable (type_of e)) (in_block_code block n) (shader_run.given (meaning.member_root block n)) are sound refl (λ e. refl)
+      (forms.block_leads m input whole f p params locals call stage calls types vectors block n (type_of e) asks)
       (record { comes = told.comes; literal = told.literal; quiet = told.quiet; still = told.still }) in
-      record { typed = refl; meant = refl; sound = sound; gives = here.gives; lengths = λ runtime. length_gives m input whole f p around are block n (type_of e) asks.1 runtime; start = here.start; start_loose = here.start_loose; start_blocked = here.start_blocked; leads = here.leads; tells = told }
+      record { typed = refl; meant = refl; sound = sound; gives = here.gives; lengths = λ runtime. length_gives m input whole f p around are block n (type_of e) asks runtime; start = here.start; start_loose = here.start_loose; start_blocked = here.start_blocked; leads = here.leads; tells = told }
   by_kind e (ExprKind-F.Stage var) w sound sounds all is reads asks =
       value_evaluates m input whole f p around (type_of e) (traits.valued false false true) (stage_value var (type_of e)) (shader_run.given (stage var)) sound refl
       (subst (λ t. GivesValue m input whole f p around false t (stage_value var t) (shader_run.given (stage var))) is.1 (stage_gives m input whole f p around var (stage var) are (subst (IsSound count) (sym is.1) sound) asks.told asks.real)) (tell (ExprKind-F.Stage var) (type_of e) all)
   by_kind e (ExprKind-F.Member a n) w sound sounds all is reads asks =
-      place_evaluates m input whole f p around (is_writable around a && not (in_block a)) (in_block a) all.0.start (type_of e) (traits.part_of (type_of e) (low a).traits) (member (low a) n) (shader_run.◌>>=◌ (part a).access (λ x. shader_run.given (access.member_of x n))) are sound all.0.start_loose all.0.start_blocked (read_whole e (ExprKind-F.Member a n) w asks)
+      place_evaluates m input whole f p around (is_writable around a) (in_block a) all.0.start (type_of e) (traits.part_of (type_of e) (low a).traits) (member (low a) n) (shader_run.◌>>=◌ (part a).access (λ x. shader_run.given (access.member_of x n))) are sound all.0.start_loose all.0.start_blocked
       (forms.member_leads m input whole f p params locals call stage calls types vectors a n (type_of e) sound all.0 is) (tell (ExprKind-F.Member a n) (type_of e) all)
-  by_kind e (ExprKind-F.Index a i) w sound sounds all is reads (whole_asks, tests) =
-      place_evaluates m input whole f p around (is_writable around a && not (in_block a)) (in_block a) (forms.index_start m input whole f p params locals call stage calls types vectors a i all.0) (type_of e) (traits.indexed (type_of e) (known_of (low a)) (low i).traits) (indexed p.structs (low a) (low i)) (indexed_means (part a).access (part i).value) are sound
-      (forms.index_loose m input whole f p params locals call stage calls types vectors a i (type_of e) all.0) (forms.index_blocked m input whole f p params locals call stage calls types vectors a i all.0) (read_whole e (ExprKind-F.Index a i) w whole_asks)
+  by_kind e (ExprKind-F.Index a i) w sound sounds all is reads tests =
+      place_evaluates m input whole f p around (is_writable around a) (in_block a) (forms.index_start m input whole f p params locals call stage calls types vectors a i all.0) (type_of e) (traits.indexed (type_of e) (known_of (low a)) (low i).traits) (indexed p.structs (low a) (low i)) (indexed_means (part a).access (part i).value) are sound
+      (forms.index_loose m input whole f p params locals call stage calls types vectors a i (type_of e) all.0) (forms.index_blocked m input whole f p params locals call stage calls types vectors a i all.0)
       (forms.index_leads m input whole f p params locals call stage calls types vectors a i (type_of e) sound all.0 all.1.0 is.0 is.1 is.2 tests (literal_form i)) (tell (ExprKind-F.Index a i) (type_of e) all)
   by_kind e (ExprKind-F.Swizzle a lanes) w sound sounds all is reads asks =
-      place_evaluates m input whole f p around (may_write (ExprKind-F.Swizzle a lanes) && not (in_block a)) (in_block a) all.0.start (type_of e) (traits.part_of (type_of e) (low a).traits) (swizzled_by (low a) lanes) (shader_run.◌>>=◌ (part a).access (λ x. shader_run.given (access.swizzle_of x (picked lanes)))) are sound all.0.start_loose all.0.start_blocked (λ in_one none. absurd (let z : None ≡ Some (is.0.0, lanes.count) = sym none ∙ forms.swizzle_shape m input whole f p params locals call stage calls types vectors a lanes (type_of e) is in cc))
+      place_evaluates m input whole f p around (may_write (ExprKind-F.Swizzle a lanes)) (in_block a) all.0.start (type_of e) (traits.part_of (type_of e) (low a).traits) (swizzled_by (low a) lanes) (shader_run.◌>>=◌ (part a).access (λ x. shader_run.given (access.swizzle_of x (picked lanes)))) are sound all.0.start_loose all.0.start_blocked
       (forms.swizzle_leads m input whole f p params locals call stage calls types vectors a lanes (type_of e) all.0 is) (tell (ExprKind-F.Swizzle a lanes) (type_of e) all)
   by_kind e (ExprKind-F.Length a) w sound sounds all is reads asks =
       value_evaluates m input whole f p around (type_of e) (traits.valued false false true) (counted (low a)) (shader_run.told_by (meaning.counted (part a))) sound refl
@@ -220,25 +207,25 @@ module _ (m : Module) (input : Input) (whole : Sections) (f : Frame m input whol
   by_kind e (ExprKind-F.Binary op a b) w sound sounds all is reads asks =
       value_evaluates m input whole f p around (type_of e) (traits.of_two false (traits.is_sure op) (low a).traits (low b).traits) _ _ sound refl
       (subst (λ c. GivesValue m input whole f p around c (type_of e) (low_form (ExprKind-F.Binary op a b) (type_of e)).value (means_form setting (ExprKind-F.Binary op a b) (type_of e)).value) (sym (or_false ((low a).traits.splits || (low b).traits.splits)))
-      (forms.binary_is m input whole f p params locals call stage calls types vectors op a b (type_of e) all.0 all.1.0 is)) (tell (ExprKind-F.Binary op a b) (type_of e) all)
+      (forms.binary_is m input whole f p params locals call stage calls types vectors op a b (type_of e) all.0 all.1.0 is (wholes_of (a ∷ b ∷ []) reads asks))) (tell (ExprKind-F.Binary op a b) (type_of e) all)
   by_kind e (ExprKind-F.Logic op a b) w sound sounds all is reads asks =
       value_evaluates m input whole f p around (type_of e) (traits.of_two (is_short op (low b).traits) true (low a).traits (low b).traits) (logical op (low a) (low b)) (logic_means op (part a).value (part b).value) sound refl
       (subst (λ u. GivesValue m input whole f p around ((low a).traits.splits || (low b).traits.splits || is_short op (low b).traits) u (logical op (low a) (low b)) (logic_means op (part a).value (part b).value)) (sym is.2)
       (forms.logic_is m input whole f p params locals call stage calls types vectors op a b all.0 all.1.0 is.0 is.1 asks)) (tell (ExprKind-F.Logic op a b) (type_of e) all)
   by_kind e (ExprKind-F.Choose test a b) w sound sounds all is reads asks =
       value_evaluates m input whole f p around (type_of e) (traits.chosen (type_of e) (low test).traits (low a).traits (low b).traits) (chosen (type_of e) (low test) (low a) (low b)) (choice_means (part test).value (part a).value (part b).value) sound refl
-      (forms.choice_is m input whole f p params locals call stage calls types vectors (type_of e) test a b sound all.0 all.1.0 all.1.1.0 is.0 is.1 is.2 is.3 asks) (tell (ExprKind-F.Choose test a b) (type_of e) all)
+      (forms.choice_is m input whole f p params locals call stage calls types vectors (type_of e) test a b sound all.0 all.1.0 all.1.1.0 is.0 is.1 is.2 is.3 (wholes_of (a ∷ b ∷ []) reads.1 asks.0) asks.1) (tell (ExprKind-F.Choose test a b) (type_of e) all)
   by_kind e (ExprKind-F.Assign a b) w sound sounds all is reads asks =
       value_evaluates m input whole f p around (type_of e) (traits.of_two false false (low a).traits (low b).traits) _ _ sound refl
-      (stored_or e (ExprKind-F.Assign a b) a w asks.1 (λ elsewhere. subst (λ c. GivesValue m input whole f p around c (type_of e) (low_form (ExprKind-F.Assign a b) (type_of e)).value (means_form setting (ExprKind-F.Assign a b) (type_of e)).value) (sym (or_false ((low a).traits.splits || (low b).traits.splits)))
-      (forms.assign_is m input whole f p params locals call stage calls types vectors a b (type_of e) all.0 all.1.0 is.0 is.1 is.2 is.3 elsewhere asks.0))) (tell (ExprKind-F.Assign a b) (type_of e) all)
+      (subst (λ c. GivesValue m input whole f p around c (type_of e) (low_form (ExprKind-F.Assign a b) (type_of e)).value (means_form setting (ExprKind-F.Assign a b) (type_of e)).value) (sym (or_false ((low a).traits.splits || (low b).traits.splits)))
+      (forms.assign_is m input whole f p params locals call stage calls types vectors a b (type_of e) all.0 all.1.0 is.0 is.1 is.2 is.3 asks.1 (wholes_of (b ∷ []) reads (asks.2, tt)).0 asks.0)) (tell (ExprKind-F.Assign a b) (type_of e) all)
   by_kind e (ExprKind-F.Update op a b) w sound sounds all is reads asks =
       value_evaluates m input whole f p around (type_of e) (traits.of_two false false (low a).traits (low b).traits) _ _ sound refl
-      (stored_or e (ExprKind-F.Update op a b) a w asks (λ elsewhere. subst (λ c. GivesValue m input whole f p around c (type_of e) (low_form (ExprKind-F.Update op a b) (type_of e)).value (means_form setting (ExprKind-F.Update op a b) (type_of e)).value) (sym (or_false ((low a).traits.splits || (low b).traits.splits)))
-      (forms.update_is m input whole f p params locals call stage calls types vectors op a b (type_of e) all.0 all.1.0 is.0 is.2 is.3 elsewhere))) (tell (ExprKind-F.Update op a b) (type_of e) all)
+      (subst (λ c. GivesValue m input whole f p around c (type_of e) (low_form (ExprKind-F.Update op a b) (type_of e)).value (means_form setting (ExprKind-F.Update op a b) (type_of e)).value) (sym (or_false ((low a).traits.splits || (low b).traits.splits)))
+      (forms.update_is m input whole f p params locals call stage calls types vectors op a b (type_of e) all.0 all.1.0 is.0 is.2 is.3 asks)) (tell (ExprKind-F.Update op a b) (type_of e) all)
   by_kind e (ExprKind-F.Step op a) w sound sounds all is reads asks =
       value_evaluates m input whole f p around (type_of e) (traits.loud (low a).traits) _ _ sound refl
-      (stored_or e (ExprKind-F.Step op a) a w asks (λ elsewhere. forms.step_is m input whole f p params locals call stage calls types vectors op a (type_of e) all.0 is.0 is.1 is.2 elsewhere)) (tell (ExprKind-F.Step op a) (type_of e) all)
+      (forms.step_is m input whole f p params locals call stage calls types vectors op a (type_of e) all.0 is.0 is.1 is.2 asks) (tell (ExprKind-F.Step op a) (type_of e) all)
   by_kind e (ExprKind-F.Call n args) w sound sounds all is reads asks =
       let every : AllAre args = subst AllAre (call_passed around n args (type_of e) is) all in
       value_evaluates m input whole f p around (type_of e) (traits.called (traits.together (map known_of (map low args)))) (call n (map low args) (type_of e)) (meaning.calling setting n (map part args)) sound refl (value_here e (ExprKind-F.Call n args) w (asks (same_all args every)))
@@ -247,21 +234,21 @@ module _ (m : Module) (input : Input) (whole : Sections) (f : Frame m input whol
       value_evaluates m input whole f p around (type_of e) (traits.loud (traits.together (map known_of (map low args)))) _ _ sound refl (forms.built_is m input whole f p params locals call stage calls types vectors which args (type_of e) all reads is)
       (row_told args traits.loud (means_form setting (ExprKind-F.Built which args) (type_of e)) (tell (ExprKind-F.Built which args) (type_of e) all))
   by_kind e (ExprKind-F.Build args) w sound sounds all is reads asks =
-      value_evaluates m input whole f p around (type_of e) (traits.built (type_of e) (traits.together (map known_of (map low args)))) _ _ sound refl (forms.build_is m input whole f p params locals call stage calls types vectors args (type_of e) sound all reads (parts_real p types.program params locals args (type_of e) is) is)
+      value_evaluates m input whole f p around (type_of e) (traits.built (type_of e) (traits.together (map known_of (map low args)))) _ _ sound refl (forms.build_is m input whole f p params locals call stage calls types vectors args (type_of e) sound all reads (parts_real p types.program params locals args (type_of e) is) (wholes_of args reads asks) is)
       (row_told args (traits.built (type_of e)) (means_form setting (ExprKind-F.Build args) (type_of e)) (tell (ExprKind-F.Build args) (type_of e) all))
   by_kind e (ExprKind-F.Convert a) w sound sounds all is reads asks =
       value_evaluates m input whole f p around (type_of e) (traits.of_one (low a).traits) _ _ sound refl (forms.convert_is m input whole f p params locals call stage calls types vectors a (type_of e) all.0 is.0 is.1) (tell (ExprKind-F.Convert a) (type_of e) all)
   by_kind e (ExprKind-F.Comma items) w sound sounds all is reads asks =
-      value_evaluates m input whole f p around (type_of e) (traits.loud (traits.together (map known_of (map low items)))) _ _ sound refl (forms.comma_is m input whole f p params locals call stage calls types vectors items (type_of e) all reads is.1)
+      value_evaluates m input whole f p around (type_of e) (traits.loud (traits.together (map known_of (map low items)))) _ _ sound refl (forms.comma_is m input whole f p params locals call stage calls types vectors items (type_of e) all reads (wholes_of items reads asks) is.1)
       (row_told items traits.loud (means_form setting (ExprKind-F.Comma items) (type_of e)) (tell (ExprKind-F.Comma items) (type_of e) all))
 
   one_is : (e : Expr) → IsNode around e → IsSound count (type_of e) → AllByRecursion Sound (parts_of (form_of e)) → quiet.AsksHere m input whole f p params locals call stage calls types vectors e (form_of e) → AllAre (lowered_parts p.prototypes (form_of e)) → Is e
   one_is e node sound sounds asks all =
-      subst (λ (b : Bool). Evaluates m input whole f p around (b && not (in_block e)) (in_block e) (type_of e) (low e) (part e)) (sym (write_is e))
-      (subst (λ (b : Bool). Evaluates m input whole f p around (may_write (form_of e) && not b) b (type_of e) (low e) (part e)) (sym (blocked_is e))
-      (subst (λ (l : Lower). Evaluates m input whole f p around (may_write (form_of e) && not (is_blocked (form_of e))) (is_blocked (form_of e)) (type_of e) l (part e)) (sym (low_is e))
-      (subst (λ (x : Meant). Evaluates m input whole f p around (may_write (form_of e) && not (is_blocked (form_of e))) (is_blocked (form_of e)) (type_of e) (low_form (form_of e) (type_of e)) x) (sym (part_is setting e))
-      (by_kind e (form_of e) (record { lowered = low_is e; meant = part_is setting e; writes = write_is e; blocked = blocked_is e }) sound sounds all node.type node.reads asks))))
+      subst (λ (b : Bool). Evaluates m input whole f p around b (in_block e) (type_of e) (low e) (part e)) (sym (write_is e))
+      (subst (λ (b : Bool). Evaluates m input whole f p around (may_write (form_of e)) b (type_of e) (low e) (part e)) (sym (blocked_is e))
+      (subst (λ (l : Lower). Evaluates m input whole f p around (may_write (form_of e)) (is_blocked (form_of e)) (type_of e) l (part e)) (sym (low_is e))
+      (subst (λ (x : Meant). Evaluates m input whole f p around (may_write (form_of e)) (is_blocked (form_of e)) (type_of e) (low_form (form_of e) (type_of e)) x) (sym (part_is setting e))
+      (by_kind e (form_of e) (record { lowered = low_is e; meant = part_is setting e }) sound sounds all node.type node.reads asks))))
 
   mutual
     evaluated : (e : Expr) → ThroughoutLowered p.prototypes (Asks m input whole f p params locals call stage calls) e → Throughout (IsNode around) e → Throughout Sound e → Is e

@@ -1,5 +1,5 @@
 -- What it is for a whole expression, as it is lowered, to do what it does, and what is asked of expressions for it (GLSL 4.50, chapter 5).
-use Rattle.std.specs.Prelude.{◌≡◌, ◌≢◌, ℕ, Bool, true, false, not, ◌&&◌, List, [], ◌∷◌, length, slice_get, Some, None}
+use Rattle.std.specs.Prelude.{◌≡◌, ◌≢◌, ℕ, Bool, true, false, List, [], ◌∷◌, length, slice_get, Some, None}
 use Rattle.std.specs.List.{AllByRecursion}
 use Rattle.gsl_base.specs.declared.input.Input.{Input}
 use Rattle.gsl_types.specs.Known.{IsSound}
@@ -35,9 +35,12 @@ use Rattle.gsl_lower_expr.specs.Lowering as lowering
 use Rattle.gsl_lower_expr.specs.Parts.{Lower, stage_number}
 use Rattle.gsl_lower_follows.specs.Frames.{Frame}
 use Rattle.gsl_lower_follows.specs.Giving.{GivesValue}
+use Rattle.gsl_lower_follows.specs.Sizes.{IsShort as IsShortInput}
 use Rattle.gsl_lower_law_built.specs.Places.{NoVector}
 use Rattle.gsl_lower_law_expr.specs.Known.{IsShort}
-use Rattle.gsl_lower_reaching.specs.Reaching.{GivesPlace, KnowsMember, Start, is_of_value}
+pub use Rattle.gsl_lower_law_stored.specs.Buffers.{KnowsBuffers}
+use Rattle.gsl_lower_reaching.specs.Reaching.{GivesPlace, Start, is_of_value}
+pub use Rattle.gsl_lower_reaching.specs.Reaching.{KnowsMember}
 use Rattle.gsl_lower_reaching.specs.Reaching.Start.{OfBlock}
 
 -- what expressions of a program are lowered in, by what calls are lowered to
@@ -55,13 +58,13 @@ pub record IsTyped (p : Program) (params : List (Direction × Ty)) (locals : Lis
   pub of_locals : AllByRecursion (IsVariableType p.structs) locals
 
 module _ (m : Module) (input : Input) (whole : Sections) (f : Frame m input whole) (p : Program) (around : Around) where
-  -- What an expression of a type is lowered to gives its value, or its length where it is a runtime array, and leads where it does: to a variable, where it may be
-  -- written, or into a block, where it is a part of one. What is known of it before is so.
+  -- What an expression of a type is lowered to gives its value, or its length where it is a runtime array, and leads where it does, into a block where it is a part of one. A struct or an array in a block is not said to
+  -- give its value: where it is read whole, that is asked. What is known of the expression before is so.
   pub record Evaluates (may_write blocked : Bool) (t : Ty) (l : Lower) (x : Meant) : Type 0 where
     pub typed : l.ty ≡ t
     pub meant : x.ty ≡ t
     pub sound : IsSound (length p.structs) t
-    pub gives : is_runtime_layer (out-Ty t) ≡ false → GivesValue m input whole f p around l.traits.splits t l.value x.value
+    pub gives : is_runtime_layer (out-Ty t) ≡ false → (blocked ≡ true → shape_of t ≡ None → GivesValue m input whole f p around l.traits.splits t l.value x.value) → GivesValue m input whole f p around l.traits.splits t l.value x.value
     pub lengths : is_runtime_layer (out-Ty t) ≡ true → GivesValue m input whole f p around false (ty.One Int) l.length (told_by (λ state. Word (x.parts state)))
     pub start : Start
     pub start_loose : is_of_value start ≡ l.traits.is_loose
@@ -84,9 +87,9 @@ module _ (m : Module) (input : Input) (whole : Sections) (f : Frame m input whol
   abbrev means : Expr → Meant
   means = meaning.means (meant_in p stage calls)
 
-  -- Lowered, an expression does what it does. What is in a block is not written here.
+  -- Lowered, an expression does what it does.
   abbrev pub IsEvaluated : Expr → Type 0
-  IsEvaluated e = Evaluates m input whole f p around (is_writable around e && not (in_block e)) (in_block e) (type_of e) (low e) (means e)
+  IsEvaluated e = Evaluates m input whole f p around (is_writable around e) (in_block e) (type_of e) (low e) (means e)
 
   abbrev pub AllEvaluated : List Expr → Type 0
   AllEvaluated [] = Unit {0}
@@ -96,33 +99,41 @@ module _ (m : Module) (input : Input) (whole : Sections) (f : Frame m input whol
   abbrev pub HasValue : Expr → Type 0
   HasValue e = GivesValue m input whole f p around (low e).traits.splits (type_of e) (low e).value (means e).value
 
-  -- In an operand that may be evaluated where it does not count, the lengths of runtime arrays are there.
+  -- In an operand that may be evaluated where it does not count, the lengths of runtime arrays are there: where the counts of the bytes that are given are words they are so.
   abbrev pub AllThere : Expr → Type 0
-  AllThere = Throughout (MayBeThere around (meant_in p stage calls))
+  AllThere e = (few : Bool) × (few ≡ true → IsShortInput input) × Throughout (MayBeThere few around (meant_in p stage calls)) e
 
   -- A struct or an array in a block gives its value, where it is read whole.
   abbrev pub IsReadWhole : Expr → Type 0
   IsReadWhole e = in_block e ≡ true → shape_of (type_of e) ≡ None → is_runtime_layer (out-Ty (type_of e)) ≡ false → HasValue e
+
+  abbrev pub AreReadWhole : List Expr → Type 0
+  AreReadWhole = AllByRecursion IsReadWhole
+
+  -- the buffers of blocks are known where something is stored in one
+  abbrev pub KnowsWhereStored : Expr → Type 0
+  KnowsWhereStored a = in_block a ≡ true → KnowsBuffers m input whole f p
 
   -- a runtime array that has its length taken is a member of a block that the module and the function know
   abbrev pub AsksLengthOf : Expr → ExprKind-F ExprKind Expr → Type 0
   AsksLengthOf a (ExprKind-F.BlockMember block number) = is_runtime_layer (out-Ty (type_of a)) ≡ true → KnowsMember m input whole f p around block number (type_of a)
   AsksLengthOf a _ = Unit {0}
 
-  -- What is asked of an expression by its form: of names of members of blocks, that the module and the function know the block, and of their lengths, too; of structs and arrays in blocks, that they are read whole; of
-  -- what is stored in blocks, and of calls, that they do what they do where their parts do; of lengths of runtime arrays in operands that may be evaluated where they do not
+  -- What is asked of an expression by its form: of names of members of blocks, that the module and the function know the block, and of their lengths, too; of structs and arrays in blocks whose values it takes, that they
+  -- are read whole; of what is stored in blocks, that their buffers are known; of calls, that they do what they do where their parts do; of lengths of runtime arrays in operands that may be evaluated where they do not
   -- count, that they are there; of built-in variables, that the module has them; and of the type of what is assigned to, that it has a value.
   abbrev pub AsksFor : Expr → ExprKind-F ExprKind Expr → Type 0
-  AsksFor e (ExprKind-F.BlockMember block number) = IsReadWhole e × KnowsMember m input whole f p around block number (type_of e)
+  AsksFor e (ExprKind-F.BlockMember block number) = KnowsMember m input whole f p around block number (type_of e)
   AsksFor e (ExprKind-F.Stage var) = KnowsStage m input whole f stage var
-  AsksFor e (ExprKind-F.Member a number) = IsReadWhole e
-  AsksFor e (ExprKind-F.Index a i) = IsReadWhole e
   AsksFor e (ExprKind-F.Length a) = AsksLengthOf a (form_of a)
   AsksFor e (ExprKind-F.Logic op a b) = IsShort op → is_short op (low b).traits ≡ false → AllThere b
-  AsksFor e (ExprKind-F.Choose test a b) = is_selected (type_of e) (low a).traits (low b).traits ≡ true → AllThere a × AllThere b
-  AsksFor e (ExprKind-F.Assign a b) = ((v : Value) × (is_value_of p.structs (type_of a) v ≡ true)) × (in_block a ≡ true → HasValue e)
-  AsksFor e (ExprKind-F.Update op a b) = in_block a ≡ true → HasValue e
-  AsksFor e (ExprKind-F.Step op a) = in_block a ≡ true → HasValue e
+  AsksFor e (ExprKind-F.Binary op a b) = AreReadWhole (a ∷ b ∷ [])
+  AsksFor e (ExprKind-F.Choose test a b) = AreReadWhole (a ∷ b ∷ []) × (is_selected (type_of e) (low a).traits (low b).traits ≡ true → AllThere a × AllThere b)
+  AsksFor e (ExprKind-F.Assign a b) = ((v : Value) × (is_value_of p.structs (type_of a) v ≡ true)) × KnowsWhereStored a × IsReadWhole b
+  AsksFor e (ExprKind-F.Update op a b) = KnowsWhereStored a
+  AsksFor e (ExprKind-F.Step op a) = KnowsWhereStored a
+  AsksFor e (ExprKind-F.Build args) = AreReadWhole args
+  AsksFor e (ExprKind-F.Comma items) = AreReadWhole items
   AsksFor e (ExprKind-F.Call number args) = AllEvaluated args → HasValue e
   AsksFor e _ = Unit {0}
 

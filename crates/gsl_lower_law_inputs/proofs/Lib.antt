@@ -12,3 +12,4 @@ pub mod Declared
 pub mod Begun
 pub mod Given
 pub mod Typed
+pub mod OfLawOutside

@@ -1,6 +1,7 @@
 -- What is put into buffers leaves them as long as they were.
-use Rattle.std.proofs.Common.{◌≡◌, refl, sym, ◌∙◌, subst, ℕ, Bool, true, false, not, ◌&&◌, List, [], ◌∷◌, length, map, Option, Some, None, if◌then◌else◌}
-use Rattle.std.specs.Prelude.{unwrap_or}
+use Rattle.std.proofs.Common.{◌≡◌, refl, sym, ◌∙◌, subst, ℕ, ◌<◌, arith, Bool, true, false, not, ◌&&◌, List, [], ◌∷◌, length, map, Option, Some, None, if◌then◌else◌}
+use Rattle.std.specs.Prelude.{◌^◌, unwrap_or}
+use Rattle.std.specs.List.{AllByRecursion}
 use Rattle.gsl_base.specs.declared.input.Buffer.{Buffer}
 use Rattle.gsl_base.specs.declared.input.Input.{Input}
 use Rattle.gsl_instr.specs.declared.enumerant.decoration.TheConstants as decoration
@@ -19,6 +20,15 @@ use Rattle.gsl_lower_law_bytes.proofs.Sized.{value_length}
 use Rattle.gsl_lower_law_members.specs.Sizes.{size_of}
 
 -- ---- buffers
+
+-- what a word counts in each buffer it counts in the one at a place
+pub few_at : (buffers : List Buffer) (set binding : ℕ) → AllByRecursion (λ (buffer : Buffer). length buffer.bytes < 2 ^ 32) buffers → length (unwrap_or (bytes_at buffers set binding) []) < 2 ^ 32
+few_at [] set binding all = omega arith
+few_at (buffer ∷ buffers) set binding all = by (is_at set binding buffer) (few_at buffers set binding all.1)
+  where
+    by : (b : Bool) → length (unwrap_or (bytes_at buffers set binding) []) < 2 ^ 32 → length (unwrap_or (if b then Some buffer.bytes else bytes_at buffers set binding) []) < 2 ^ 32
+    by true later = all.0
+    by false later = later
 
 -- Both are there or not, and are as long.
 abbrev AsLong : Option (List ℕ) → Option (List ℕ) → Type 0

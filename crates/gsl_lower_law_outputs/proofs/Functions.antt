@@ -37,7 +37,7 @@ use Rattle.gsl_lower_law_inner.proofs.Calls.{calls_inner, puts_result, puts_zero
 use Rattle.gsl_lower_law_inner.proofs.Flows.{puts_fresh, puts_given, puts_here, puts_lacking, puts_lift, puts_opening, puts_then, puts_told, puts_type}
 use Rattle.gsl_lower_law_inner.proofs.Statements.{row_inner}
 use Rattle.gsl_lower_law_inner.proofs.Steps.{builds_constant, builds_function, builds_plain}
-use Rattle.gsl_lower_law_outside.specs.Beginning.{HaveOutside}
+use Rattle.gsl_lower_law_inputs.specs.OfLawOutside.{HaveOutside}
 use Rattle.gsl_lower_law_outputs.specs.Outputs.{BeginsNone, DeclaresNoOutput, Grows, out_if, output_in, outputs_in}
 use Rattle.gsl_lower_law_outputs.proofs.Outputs.{filter_both, grows_same, grows_then}
 use Rattle.gsl_lower_law_outputs.proofs.Quiet.{begins_none, declares_none}

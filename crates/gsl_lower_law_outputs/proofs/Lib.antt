@@ -4,3 +4,4 @@ pub mod Outputs
 pub mod Ordered
 pub mod Outs
 pub mod Functions
+pub mod OfLawInputs

@@ -29,7 +29,7 @@ use Rattle.gsl_lower_types.specs.Known.{Known, all, aside, each}
 use Rattle.gsl_lower_types.specs.Values.{program_types, value_type}
 use Rattle.gsl_lower_types.proofs.Finding.{came}
 use Rattle.gsl_lower_flow.specs.Programs.{built_type, built_types, compute_stages, declared, nothing_laid, place, stage_if, stages, uses, vertex_stages}
-use Rattle.gsl_lower_law_outside.proofs.Keeping.{made_by, same_after, same_made}
+use Rattle.gsl_lower_law_inputs.proofs.OfLawOutside.{made_by, same_after, same_made}
 use Rattle.gsl_lower_law_outputs.proofs.Outputs.{Puts, puts_same, puts_then, quiet_walks, variable_put}
 use Rattle.gsl_lower_law_outputs.proofs.Walking as walk
 use Rattle.gsl_lower_law_outputs.proofs.Walking.{Walks}

@@ -40,7 +40,7 @@ use Rattle.gsl_lower_frames.proofs.Numbers.{outer_position, value_points}
 use Rattle.gsl_lower_law_entered.specs.Modules.{IsFrame}
 use Rattle.gsl_lower_law_entered.proofs.Given.{among_at}
 use Rattle.gsl_lower_law_main.specs.Ending.{AreOuts, HasOutputs, out_at, outs_from}
-use Rattle.gsl_lower_law_outside.specs.Beginning.{HaveOutside}
+use Rattle.gsl_lower_law_inputs.specs.OfLawOutside.{HaveOutside}
 use Rattle.gsl_lower_law_inner.specs.Inner.{IsInner}
 use Rattle.gsl_lower_law_outputs.specs.Outputs.{BeginsNone, DeclaresNoOutput, Grows, out_if, out_of, output_in, outputs_in}
 use Rattle.gsl_lower_law_inputs.proofs.Begun.{decorations_said, stand}

@@ -4,7 +4,7 @@ ghost use Rattle.gsl_base.specs.declared.input.Input.{Input};
 ghost use Rattle.gsl_lower_flow.specs.Programs.{lowered};
 ghost use Rattle.gsl_lower_follows.specs.Frames.{Frame};
 ghost use Rattle.gsl_lower_holders.specs.Flow.{Flow, Gives};
-ghost use Rattle.gsl_lower_law_outside.specs.Beginning.{HaveOutside};
+ghost use Rattle.gsl_lower_law_inputs.specs.OfLawOutside.{HaveOutside};
 ghost use Rattle.gsl_lower_law_outputs.specs.Outputs.{DeclaresNoOutput};
 ghost use Rattle.gsl_lower_law_entered.specs.Modules.{IsFrame};
 ghost use Rattle.gsl_lower_law_main.specs.Ending.{HasOutputs};

@@ -40,11 +40,11 @@ use Rattle.gsl_lower_law_expr.proofs.Shapes.{value_shape}
 use Rattle.gsl_lower_law_expr.proofs.Short.{behind_assoc}
 use Rattle.gsl_lower_law_expr.proofs.Steps.{always_converted}
 use Rattle.gsl_lower_law_functions.proofs.Passing.{Passed}
-use Rattle.gsl_lower_reads.specs.Waiting.{IsKept}
-use Rattle.gsl_lower_reads.proofs.Holds.{adds_fetched, is_fetched}
-use Rattle.gsl_lower_writes.specs.Written.{IsWritten}
-use Rattle.gsl_lower_writes.proofs.Adding.{adds_stores}
-use Rattle.gsl_lower_writes.proofs.Stored.{trail_stored}
+use Rattle.gsl_lower_stores.specs.OfReads.{IsKept}
+use Rattle.gsl_lower_stores.proofs.OfReads.{adds_fetched, is_fetched}
+use Rattle.gsl_lower_stores.specs.OfWrites.{IsWritten}
+use Rattle.gsl_lower_stores.proofs.OfWrites.{adds_stores}
+use Rattle.gsl_lower_stores.proofs.Stored.{place_stored}
 use Rattle.gsl_lower_law_passed.specs.Arguments.{ComesBack}
 use Rattle.gsl_lower_law_passed.proofs.Items.{IsBack, IsBackIf, Item, back_after, meant_of, way_by, way_of, ways_of}
 
@@ -115,7 +115,7 @@ module _ (m : Module) (input : Input) (whole : Sections) (f : Frame m input whol
           (λ r between one u left mid within grown k less.
           does_so m input whole f p around 0 left mid (IsWritten m input whole f p around between mid) (IsWritten m input whole f p around b state) (Got tt (stored a w u) left) (stores p.structs e.ty r word between)
           (λ done later z t2 last h. after_then m input whole f p around false false b between later state mid last u t2 grown k.after h)
-          (trail_stored m input whole f p around are is.start e.ty c.sound_place word w typed_w a is.trail is.inside between u left mid r k.after.good k.is ((k.after.ids refl).same word _ stands)))
+          (place_stored m input whole f p around are is.start e.ty c.sound_place word w typed_w is.knows a is.trail is.inside between u left mid r k.after.good k.is ((k.after.ids refl).same word _ stands)))
           (λ r between u left mid within grown none less. absurd none)
 
       does_to : (low high h : ℕ) (kept : Reached) (b : Flow) (s : shader.State) (units : ℕ) (state : State) → Good m input whole f p around b s state → IsBack m input whole f p around waits e low high b state kept a → Waits m input whole f b.place.used h v state

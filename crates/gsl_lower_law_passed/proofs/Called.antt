@@ -1,5 +1,5 @@
 -- Arguments that were passed, behind the call.
-use Rattle.std.proofs.Common.{◌≡◌, ◌≢◌, refl, sym, ap, ◌∙◌, subst, ℕ, zero, suc, ◌+◌, ◌<◌, ◌≤◌, Bool, true, false, List, [], ◌∷◌, length, Option, Some, None, arith}
+use Rattle.std.proofs.Common.{◌≡◌, ◌≢◌, refl, sym, ap, ◌∙◌, subst, ℕ, zero, suc, ◌+◌, ◌<◌, ◌≤◌, Bool, true, false, List, [], ◌∷◌, ◌++◌, length, Option, Some, None, arith}
 use Rattle.std.specs.Prelude.{slice_get}
 use Rattle.std.specs.List.{AllByRecursion}
 use Rattle.gsl_base.specs.declared.input.Input.{Input}
@@ -26,7 +26,7 @@ use Rattle.gsl_lower_law_entered.specs.Entering.{Argument, AreHeld, IsHeld, valu
 use Rattle.gsl_lower_reaching.specs.Reaching.{At, Begins, ChoosesBy, IsTrail, NumberBy, NumberEachBy, PicksBy}
 use Rattle.gsl_lower_reaching.specs.Reaching.IsTrail.{own, in_block}
 use Rattle.gsl_lower_reaching.specs.Reaching.Begins.{variable, value, holder}
-use Rattle.gsl_lower_reaching.specs.Trails.{Chosen, IsOfVariable}
+use Rattle.gsl_lower_reaching.specs.Trails.{Chosen, MayStore}
 use Rattle.gsl_lower_law_passed.proofs.Backs.{AreEnds}
 use Rattle.gsl_lower_law_passed.proofs.Fresh.{FreshBy, IdWithin, PartIf, PartIs, PickedIf}
 use Rattle.gsl_lower_law_passed.proofs.Items.{AreItems, IsBackIf, Item, arguments_of}
@@ -151,16 +151,16 @@ module _ (m : Module) (input : Input) (whole : Sections) (f : Frame m input whol
     back_still waits e low high none None None is = tt
     back_still waits e low high none None (Some a) is = is
     back_still waits e low high none (Some kept) None is = is
-    back_still waits e low high none (Some kept) (Some a) is = record { trail = is.trail; start = is.start; is = by is.is; inside = is.inside; fresh = is.fresh }
+    back_still waits e low high none (Some kept) (Some a) is = record { trail = is.trail; start = is.start; knows = is.knows; is = by is.is; inside = is.inside; fresh = is.fresh }
       where
-        named : IsOfVariable is.trail.root
+        named : MayStore p.blocks is.trail.root
         named = is.inside.named refl
 
         begins : Begins m input whole f p around (λ id v. HeldAs m input whole f waits id v b state) b.place.used state is.start kept.base kept.path is.trail
             → Begins m input whole f p around (λ id v. HeldAs m input whole f waits id v later last) later.place.used last is.start kept.base kept.path is.trail
         begins (variable x) = variable (record { name = x.name; id = x.id; class = x.class; number = x.number; is = x.is; marked = x.marked; outside = x.outside; begins = x.begins; none = x.none; seat = x.seat; points = x.points; typed = x.typed })
-        begins (value x) = absurd (subst IsOfVariable x.begins named)
-        begins (holder x) = absurd (subst IsOfVariable x.begins named)
+        begins (value x) = absurd (subst (MayStore p.blocks) x.begins named)
+        begins (holder x) = absurd (subst (MayStore p.blocks) x.begins named)
 
         by : IsTrail m input whole f p around waits is.start b state kept is.trail → IsTrail m input whole f p around waits is.start later last kept is.trail
         by (own y) = own (record {
@@ -168,7 +168,11 @@ module _ (m : Module) (input : Input) (whole : Sections) (f : Frame m input whol
           numbers = numbers_stay (λ id v. HeldAs m input whole f waits id v b state) (λ id v. HeldAs m input whole f waits id v later last) (FreshBy waits f.place.holders low high) (held_still waits low high none) kept.path is.trail.words is.fresh.parts y.numbers;
           picks = picks_stay (λ id v. HeldAs m input whole f waits id v b state) (λ id v. HeldAs m input whole f waits id v later last) (FreshBy waits f.place.holders low high) (held_still waits low high none) kept.picked is.trail.picks is.fresh.picked y.picks;
         })
-        by (in_block y) = absurd (subst IsOfVariable y.begins.begins named)
+        by (in_block y) = in_block (record {
+          begins = y.begins;
+          numbers = numbers_stay (λ id v. HeldAs m input whole f waits id v b state) (λ id v. HeldAs m input whole f waits id v later last) (FreshBy waits f.place.holders low high) (held_still waits low high none) kept.path (is.trail.front ++ is.trail.words) is.fresh.parts y.numbers;
+          picks = picks_stay (λ id v. HeldAs m input whole f waits id v b state) (λ id v. HeldAs m input whole f waits id v later last) (FreshBy waits f.place.holders low high) (held_still waits low high none) kept.picked is.trail.picks is.fresh.picked y.picks;
+        })
 
     pub ends : (first : ℕ) (params : List (Direction × Ty)) (es : List Lower) (xs : List Meant) (items : List Item) (vs : List Value) → AreItems m input whole f p around first params es xs b state items
         → ((h : ℕ) → first ≤ h → ((j : ℕ) (a : Argument) → slice_get (arguments_of items) j ≡ Some a → a.holder ≢ h) → NotArgument h)

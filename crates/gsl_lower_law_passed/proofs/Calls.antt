@@ -39,7 +39,7 @@ use Rattle.gsl_lower_law_entered.specs.Entering.{Argument, ids_of, values_of}
 use Rattle.gsl_lower_law_functions.specs.Functions.{FunctionDoes, HasReturned}
 use Rattle.gsl_lower_law_functions.proofs.Calling.{adds_result, does_result}
 use Rattle.gsl_lower_law_functions.proofs.Passing.{Passed}
-use Rattle.gsl_lower_writes.specs.Written.{IsWritten}
+use Rattle.gsl_lower_stores.specs.OfWrites.{IsWritten}
 use Rattle.gsl_lower_law_passed.specs.Arguments.{AllServe}
 use Rattle.gsl_lower_law_passed.proofs.Backs.{adds_all, does_all}
 use Rattle.gsl_lower_law_passed.proofs.Called.{ends, item_at, items_held, items_many, items_typed}

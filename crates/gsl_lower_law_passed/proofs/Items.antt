@@ -22,7 +22,9 @@ use Rattle.gsl_lower_follows.specs.Giving.{After, Grown}
 use Rattle.gsl_lower_law_entered.specs.Entering.{Argument, IsHeld, ids_of, values_of}
 use Rattle.gsl_lower_law_functions.proofs.Passing.{Passed}
 use Rattle.gsl_lower_law_passed.specs.Arguments.{ComesBack}
+use Rattle.gsl_lower_law_stored.specs.Buffers.{KnowsBuffers}
 use Rattle.gsl_lower_reaching.specs.Reaching.{IsTrail, Start}
+use Rattle.gsl_lower_reaching.specs.Reaching.Start.{OfBlock}
 use Rattle.gsl_lower_reaching.specs.Trails.{IsInside, Trail}
 use Rattle.gsl_lower_reaching.proofs.Moving.{trail_after}
 use Rattle.gsl_lower_law_passed.proofs.Fresh.{AreIds, FreshBy}
@@ -70,8 +72,9 @@ module _ (m : Module) (input : Input) (whole : Sections) (f : Frame m input whol
   pub record IsBack (waits : Bool) (e : Lower) (low high : ℕ) (b : Flow) (state : State) (kept : Reached) (a : Access) : Type 0 where
     pub trail : Trail
     pub start : Start
+    pub knows : start ≡ OfBlock → KnowsBuffers m input whole f p
     pub is : IsTrail m input whole f p around waits start b state kept trail
-    pub inside : IsInside p.structs true e.ty a trail
+    pub inside : IsInside p.structs p.blocks true e.ty a trail
     pub fresh : AreIds (FreshBy waits f.place.holders low high) kept
 
   abbrev pub IsBackIf : Bool → Lower → ℕ → ℕ → Flow → State → Option Reached → Option Access → Type 0
@@ -86,7 +89,7 @@ module _ (m : Module) (input : Input) (whole : Sections) (f : Frame m input whol
   back_after waits e low high b later state last s None (Some a) grown after is = is
   back_after waits e low high b later state last s (Some kept) None grown after is = is
   back_after waits e low high b later state last s (Some kept) (Some a) grown after is =
-      record { trail = is.trail; start = is.start; is = trail_after m input whole f p around waits is.start b later state last s kept is.trail grown after is.is; inside = is.inside; fresh = is.fresh }
+      record { trail = is.trail; start = is.start; knows = is.knows; is = trail_after m input whole f p around waits is.start b later state last s kept is.trail grown after is.is; inside = is.inside; fresh = is.fresh }
 
   -- one argument, behind so many holders that were in use
   pub record IsItem (first : ℕ) (waits : Bool) (t : Ty) (e : Lower) (x : Meant) (b : Flow) (state : State) (i : Item) : Type 0 where

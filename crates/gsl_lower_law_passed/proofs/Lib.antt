@@ -4,3 +4,4 @@ pub mod Passing
 pub mod Backs
 pub mod Called
 pub mod Calls
+pub mod OfLawFunctions

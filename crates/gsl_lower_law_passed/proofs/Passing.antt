@@ -10,6 +10,7 @@ use Rattle.gsl_types.specs.declared.ty.Ty.{Ty}
 use Rattle.gsl_words.specs.declared.module.Module.{Module}
 use Rattle.gsl_values.specs.declared.value.Value.{Value}
 use Rattle.gsl_tree.specs.Around.{Around}
+use Rattle.gsl_tree.specs.Shapes.{shape_of}
 use Rattle.gsl_tree.specs.Values.{is_value_of, zero_value}
 use Rattle.gsl_tree.specs.declared.program.Program.{Program}
 use Rattle.gsl_meaning.specs.Accesses.{Access, read as means_read}
@@ -40,16 +41,16 @@ use Rattle.gsl_lower_follows.proofs.Holding.{NowWaits, after_any, after_same, af
 use Rattle.gsl_lower_law_expr.proofs.Operands.{after_less, given_value}
 use Rattle.gsl_lower_law_functions.proofs.Passing.{Passed, still_held}
 use Rattle.gsl_lower_reaching.specs.Reaching.{HasReached, HasStrayed, IsTrail}
+use Rattle.gsl_lower_reaching.specs.Reaching.Start.{OfBlock}
 use Rattle.gsl_lower_reaching.specs.Trails.{IsInside, IsOutside, Trail}
 use Rattle.gsl_lower_reaching.proofs.Moving.{trail_after}
-use Rattle.gsl_lower_reads.specs.Testing.{IsTested}
-use Rattle.gsl_lower_reads.specs.Waiting.{IsKept}
-use Rattle.gsl_lower_reads.proofs.Holds.{adds_held, is_held}
-use Rattle.gsl_lower_reads.proofs.Adding.{adds_reads}
-use Rattle.gsl_lower_reads.proofs.Probing.{adds_probe, probe_in, probe_out}
-use Rattle.gsl_lower_reads.proofs.Straying.{own_strays_all}
-use Rattle.gsl_lower_reads.proofs.Taking.{own_read}
-use Rattle.gsl_lower_writes.proofs.Stored.{own_named}
+use Rattle.gsl_lower_stores.specs.OfReads.{IsTested}
+use Rattle.gsl_lower_stores.specs.OfReads.{IsKept}
+use Rattle.gsl_lower_stores.proofs.OfReads.{adds_held, is_held}
+use Rattle.gsl_lower_stores.proofs.OfReads.{adds_reads}
+use Rattle.gsl_lower_stores.proofs.OfReads.{adds_probe, probe_in, probe_out}
+use Rattle.gsl_lower_stores.proofs.OfReads.{read_strays}
+use Rattle.gsl_lower_stores.proofs.OfReads.{taken}
 use Rattle.gsl_lower_law_passed.specs.Arguments.{AllServe, ComesBack, GoesIn, HasZeros, Serves}
 use Rattle.gsl_lower_law_passed.proofs.Fresh.{AreIds, FreshBy, PartIf, PartIs, PickedIf, does_with, held_fresh}
 use Rattle.gsl_lower_law_passed.proofs.Items.{AreItems, IsItem, Item, back_after, meant_of, way_of, ways_of}
@@ -109,7 +110,7 @@ module _ (m : Module) (input : Input) (whole : Sections) (f : Frame m input whol
       kept_is : IsKept m input whole f p around waits c.start l s b state kept later one u last
       fresh : AreIds (FreshBy waits b.place.holders b.place.used later.place.used) kept
 
-    done : (l : Trail) → IsInside p.structs true e.ty a l → (v : Value) → is_value_of p.structs t v ≡ true → (b between later : Flow) (s u w : shader.State) (state mid last : State) → Good m input whole f p around b s state → first ≤ b.place.used → Grown b between → Grown between later → (kept : Reached) → HeldFresh l s b state kept between tt u mid
+    done : (l : Trail) → IsInside p.structs p.blocks true e.ty a l → (v : Value) → is_value_of p.structs t v ≡ true → (b between later : Flow) (s u w : shader.State) (state mid last : State) → Good m input whole f p around b s state → first ≤ b.place.used → Grown b between → Grown between later → (kept : Reached) → HeldFresh l s b state kept between tt u mid
         → (h : ℕ) → NowWaits m input whole f p around v between mid h later tt w last → IsPassed false first waits t e x b state (passed h waits (Some kept)) later (record { value = v; back = Some a }) w last
     done l inside v typed b between later s u w state mid last good enough grown more kept k h now = record {
       item = record { argument = record { id = h; holder = now.1.0.holder; seat = now.1.0.number; value = v }; back = Some kept; access = Some a };
@@ -123,6 +124,7 @@ module _ (m : Module) (input : Input) (whole : Sections) (f : Frame m input whol
         back = record {
           trail = l;
           start = c.start;
+          knows = c.knows;
           is = trail_after m input whole f p around waits c.start between later mid last w kept l more (after_any m input whole f p around waits between later mid last w now.0) k.kept_is.is;
           inside = inside;
           fresh = ids_so (FreshBy waits b.place.holders b.place.used between.place.used) (FreshBy waits f.place.holders first now.1.0.holder)
@@ -132,7 +134,7 @@ module _ (m : Module) (input : Input) (whole : Sections) (f : Frame m input whol
       after = after_then m input whole f p around false false b between later state mid last u w grown k.kept_is.after now.0;
     }
 
-    does_coming : (l : Trail) → IsInside p.structs true e.ty a l → (r : Reached) (id : ℕ) (v : Value) (b : Flow) (s : shader.State) (units : ℕ) (state : State) → Good m input whole f p around b s state → first ≤ b.place.used → IsTrail m input whole f p around false c.start b state r l → is_value_of p.structs t v ≡ true
+    does_coming : (l : Trail) → IsInside p.structs p.blocks true e.ty a l → (r : Reached) (id : ℕ) (v : Value) (b : Flow) (s : shader.State) (units : ℕ) (state : State) → Good m input whole f p around b s state → first ≤ b.place.used → IsTrail m input whole f p around false c.start b state r l → is_value_of p.structs t v ≡ true
         → Stands state.ids id v → Does m input whole f p 0 units state (IsPassed false first waits t e x b state) none_waits (Got (record { value = v; back = Some a }) s units) (coming_back waits r id b)
     unfolding coming_back
     does_coming l inside r id v b s units state good enough is typed stands =
@@ -187,9 +189,9 @@ module _ (m : Module) (input : Input) (whole : Sections) (f : Frame m input whol
     module _ (c : ComesBack m input whole f p around t e x) where
       -- what it leads to, and what goes on with that
       module _ (next : Reached → Emit Passed) (adds : (r : Reached) → Adds (next r)) (go : Access → Run ShaderPassed)
-          (inside_does : (a : Access) (l : Trail) → IsInside p.structs true e.ty a l → (r : Reached) (b : Flow) (s : shader.State) (units : ℕ) (state : State) → Good m input whole f p around b s state → first ≤ b.place.used → IsTrail m input whole f p around false c.start b state r l
+          (inside_does : (a : Access) (l : Trail) → IsInside p.structs p.blocks true e.ty a l → (r : Reached) (b : Flow) (s : shader.State) (units : ℕ) (state : State) → Good m input whole f p around b s state → first ≤ b.place.used → IsTrail m input whole f p around false c.start b state r l
           → Does m input whole f p 0 units state (IsPassed false first waits t e x b state) none_waits (go a s units) (next r b))
-          (outside_does : (l : Trail) → IsOutside p.structs true e.ty l → (r : Reached) (b : Flow) (s : shader.State) (units : ℕ) (state : State) → Good m input whole f p around b s state → IsTrail m input whole f p around false c.start b state r l
+          (outside_does : (l : Trail) → IsOutside p.structs p.blocks true e.ty l → (r : Reached) (b : Flow) (s : shader.State) (units : ℕ) (state : State) → Good m input whole f p around b s state → IsTrail m input whole f p around false c.start b state r l
           → Does m input whole f p 0 units state (λ pass later (q : ShaderPassed) u last. ⊥) none_waits Strays (next r b)) where
         led : (b : Flow) (s : shader.State) (units : ℕ) (state : State) → Good m input whole f p around b s state → first ≤ b.place.used → Does m input whole f p 0 units state (IsPassed e.traits.splits first waits t e x b state) none_waits (shader_run.◌>>=◌ x.access go s units) ((e.reach >>= next) b)
         led b s units state good enough =
@@ -217,7 +219,7 @@ module _ (m : Module) (input : Input) (whole : Sections) (f : Frame m input whol
         abbrev begins : Access → Run ShaderPassed
         begins a = shader_run.given {A = ShaderPassed} (record { value = zero_value p.structs t; back = Some a })
 
-        out_in : (a : Access) (l : Trail) → IsInside p.structs true e.ty a l → (r : Reached) (b : Flow) (s : shader.State) (units : ℕ) (state : State) → Good m input whole f p around b s state → first ≤ b.place.used → IsTrail m input whole f p around false c.start b state r l
+        out_in : (a : Access) (l : Trail) → IsInside p.structs p.blocks true e.ty a l → (r : Reached) (b : Flow) (s : shader.State) (units : ℕ) (state : State) → Good m input whole f p around b s state → first ≤ b.place.used → IsTrail m input whole f p around false c.start b state r l
             → Does m input whole f p 0 units state (IsPassed false first waits t e x b state) none_waits (begins a s units) (passed_out p.structs waits t e.ty r b)
         unfolding passed_out
         out_in a l inside r b s units state good enough is =
@@ -238,7 +240,7 @@ module _ (m : Module) (input : Input) (whole : Sections) (f : Frame m input whol
             (λ id b2 w rest mid2 within2 more none less2. absurd none))
             (λ done b1 u left mid within grown none less. absurd none)
 
-        out_out : (l : Trail) → IsOutside p.structs true e.ty l → (r : Reached) (b : Flow) (s : shader.State) (units : ℕ) (state : State) → Good m input whole f p around b s state → IsTrail m input whole f p around false c.start b state r l
+        out_out : (l : Trail) → IsOutside p.structs p.blocks true e.ty l → (r : Reached) (b : Flow) (s : shader.State) (units : ℕ) (state : State) → Good m input whole f p around b s state → IsTrail m input whole f p around false c.start b state r l
             → Does m input whole f p 0 units state (λ pass later (q : ShaderPassed) u last. ⊥) none_waits Strays (passed_out p.structs waits t e.ty r b)
         unfolding passed_out
         out_out l outside r b s units state good is =
@@ -260,15 +262,15 @@ module _ (m : Module) (input : Input) (whole : Sections) (f : Frame m input whol
       abbrev holds : Access → Run ShaderPassed
       holds a = shader_run.told_by {A = ShaderPassed} (λ u. record { value = means_read p.structs x.ty a u; back = Some a })
 
-      module _ (same : e.ty ≡ t) where
-        both_in : (a : Access) (l : Trail) → IsInside p.structs true e.ty a l → (r : Reached) (b : Flow) (s : shader.State) (units : ℕ) (state : State) → Good m input whole f p around b s state → first ≤ b.place.used → IsTrail m input whole f p around false c.start b state r l
+      module _ (same : e.ty ≡ t) (apart : shape_of e.ty ≡ None → c.start ≡ OfBlock → ⊥) where
+        both_in : (a : Access) (l : Trail) → IsInside p.structs p.blocks true e.ty a l → (r : Reached) (b : Flow) (s : shader.State) (units : ℕ) (state : State) → Good m input whole f p around b s state → first ≤ b.place.used → IsTrail m input whole f p around false c.start b state r l
             → Does m input whole f p 0 units state (IsPassed false first waits t e x b state) none_waits (holds a s units) (passed_both p.structs waits e.ty r b)
         unfolding passed_both
         both_in a l inside r b s units state good enough is =
             subst (λ ty. Does m input whole f p 0 units state (IsPassed false first waits t e x b state) none_waits (Got (record { value = means_read p.structs ty a s; back = Some a }) s units) ((reads p.structs e.ty r >>= coming_back waits r) b)) (sym c.meant)
             (does_then m input whole f p 0 units b state (HasGiven m input whole f p around false e.ty b state) none_waits (IsPassed false first waits t e x b state) none_waits (Got (means_read p.structs e.ty a s) s units) (λ v. shader_run.given {A = ShaderPassed} (record { value = v; back = Some a })) (reads p.structs e.ty r b) (coming_back waits r) good.inside
             (adds_reads m input whole p.structs e.ty r b) (adds_coming waits r)
-            (own_read m input whole f p around are c.start true e.ty c.sound_place b s state r a l good (own_named m input whole f p around b state c.start r l is (inside.named refl)) inside units)
+            (taken m input whole f p around are c.start true e.ty c.sound_place b s state r a l good is inside units apart)
             (λ id b2 v w rest mid2 within2 more has less2.
             let got = given_value m input whole f p around mid2.ids id e.ty v c.real_place has.given in
             does_so m input whole f p around 0 rest mid2 (IsPassed false first waits t e x b2 mid2) (IsPassed false first waits t e x b state) (Got (record { value = v; back = Some a }) w rest) (coming_back waits r id b2)
@@ -277,13 +279,13 @@ module _ (m : Module) (input : Input) (whole : Sections) (f : Frame m input whol
             (trail_after m input whole f p around false c.start b b2 state mid2 w r l more has.after is) (subst (λ ty. is_value_of p.structs ty v ≡ true) same got.0) got.1))
             (λ id b2 w rest mid2 within2 more none less2. absurd none))
 
-        both_out : (l : Trail) → IsOutside p.structs true e.ty l → (r : Reached) (b : Flow) (s : shader.State) (units : ℕ) (state : State) → Good m input whole f p around b s state → IsTrail m input whole f p around false c.start b state r l
+        both_out : (l : Trail) → IsOutside p.structs p.blocks true e.ty l → (r : Reached) (b : Flow) (s : shader.State) (units : ℕ) (state : State) → Good m input whole f p around b s state → IsTrail m input whole f p around false c.start b state r l
             → Does m input whole f p 0 units state (λ pass later (q : ShaderPassed) u last. ⊥) none_waits Strays (passed_both p.structs waits e.ty r b)
         unfolding passed_both
         both_out l outside r b s units state good is =
             does_then m input whole f p 0 units b state (λ id later (one : Unit {0}) u last. ⊥) none_waits (λ pass later (q : ShaderPassed) u last. ⊥) none_waits Strays (λ (one : Unit {0}) u left. Strays) (reads p.structs e.ty r b) (coming_back waits r) good.inside
             (adds_reads m input whole p.structs e.ty r b) (adds_coming waits r)
-            (own_strays_all m input whole f p around are c.start true e.ty b s state r l good (own_named m input whole f p around b state c.start r l is (outside.named refl)) outside units (λ id later (one : Unit {0}) u last. ⊥))
+            (read_strays m input whole f p around are c.start true e.ty b s state r l good is outside units (λ id later (one : Unit {0}) u last. ⊥) apart)
             (λ id b1 one u left mid within grown none less. absurd none)
             (λ id b1 u left mid within grown none less. absurd none)
 
@@ -295,12 +297,12 @@ module _ (m : Module) (input : Input) (whole : Sections) (f : Frame m input whol
     pub adds_one : (way : Direction) → Serves m input whole f p around way t e x → Adds (passing p.structs waits way t e)
     adds_one In g = adds_in g
     adds_one Out (c, z) = adds_then e.reach (passed_out p.structs waits t e.ty) c.leads.adds (adds_out c z)
-    adds_one InOut (c, same) = adds_then e.reach (passed_both p.structs waits e.ty) c.leads.adds (adds_both c)
+    adds_one InOut (c, same, apart) = adds_then e.reach (passed_both p.structs waits e.ty) c.leads.adds (adds_both c)
 
     passes_one : (way : Direction) → Serves m input whole f p around way t e x → Passes way
     passes_one In g = passes_in g
     passes_one Out (c, z) = passes_out c z
-    passes_one InOut (c, same) = passes_both c same
+    passes_one InOut (c, same, apart) = passes_both c same apart
 
   -- ---- later on
 

@@ -1,5 +1,5 @@
 -- Arguments of functions, by the way in which they are passed (GLSL 4.50, 6.1.1).
-use Rattle.std.specs.Prelude.{◌≡◌, ◌≢◌, true, false, List, [], ◌∷◌, length, Some}
+use Rattle.std.specs.Prelude.{◌≡◌, ◌≢◌, true, false, List, [], ◌∷◌, length, Some, None}
 use Rattle.gsl_base.specs.declared.input.Input.{Input}
 use Rattle.gsl_types.specs.Known.{IsSound}
 use Rattle.gsl_types.specs.declared.ty.Direction.{Direction}
@@ -20,7 +20,9 @@ use Rattle.gsl_lower_expr.specs.Calls.{zeros}
 use Rattle.gsl_lower_expr.specs.Parts.{Lower, scalar_of}
 use Rattle.gsl_lower_follows.specs.Frames.{Frame}
 use Rattle.gsl_lower_follows.specs.Giving.{GivesValue}
+use Rattle.gsl_lower_law_stored.specs.Buffers.{KnowsBuffers}
 use Rattle.gsl_lower_reaching.specs.Reaching.{GivesPlace, Start}
+use Rattle.gsl_lower_reaching.specs.Reaching.Start.{OfBlock}
 
 module _ (m : Module) (input : Input) (whole : Sections) (f : Frame m input whole) (p : Program) (around : Around) where
   -- An argument gives the value with which a parameter of a type begins.
@@ -28,7 +30,7 @@ module _ (m : Module) (input : Input) (whole : Sections) (f : Frame m input whol
     pub real : t ≢ Void
     pub gives : GivesValue m input whole f p around e.traits.splits t e.value x.value
 
-  -- An argument leads to a place that may be written, to which the value that a parameter of a type has at the end comes back as one of the place's own type: with the same words.
+  -- An argument leads to a place that may be written, in a variable or in a block whose buffers are known, to which the value that a parameter of a type has at the end comes back as one of the place's own type: with the same words.
   pub record ComesBack (t : Ty) (e : Lower) (x : Meant) : Type 0 where
     pub real : t ≢ Void
     pub sound : IsSound (length p.structs) t
@@ -36,6 +38,7 @@ module _ (m : Module) (input : Input) (whole : Sections) (f : Frame m input whol
     pub real_place : e.ty ≢ Void
     pub meant : x.ty ≡ e.ty
     pub start : Start
+    pub knows : start ≡ OfBlock → KnowsBuffers m input whole f p
     pub leads : GivesPlace m input whole f p around e.traits.splits start true e.ty e.reach x.access
     pub some : (v : Value) × (is_value_of p.structs e.ty v ≡ true)
     pub fits : (v : Value) → is_value_of p.structs t v ≡ true → is_value_of p.structs e.ty v ≡ true
@@ -46,11 +49,11 @@ module _ (m : Module) (input : Input) (whole : Sections) (f : Frame m input whol
     pub typed : is_value_of p.structs t (zero_value p.structs t) ≡ true
     pub gives : GivesValue m input whole f p around false t (zeros t) (given (zero_value p.structs t))
 
-  -- An argument serves a parameter that is passed so.
+  -- An argument serves a parameter that is passed so. A struct or an array that is read where it leads is in no block.
   abbrev pub Serves : Direction → Ty → Lower → Meant → Type 0
   Serves In t e x = GoesIn t e x
   Serves Out t e x = ComesBack t e x × HasZeros t
-  Serves InOut t e x = ComesBack t e x × (e.ty ≡ t)
+  Serves InOut t e x = (c : ComesBack t e x) × (e.ty ≡ t) × (shape_of e.ty ≡ None → c.start ≡ OfBlock → ⊥)
 
   -- Arguments serve parameters, in their order.
   abbrev pub AllServe : List (Direction × Ty) → List Lower → List Meant → Type 0

@@ -9,3 +9,4 @@ pub mod Asking
 pub mod Standing
 pub mod Entry
 pub mod Main
+pub mod OfLawEvaluated

@@ -1,5 +1,5 @@
 -- Arguments of well typed calls, and what these give.
-use Rattle.std.proofs.Common.{◌≡◌, ◌≢◌, refl, sym, ap, ◌∙◌, subst, inl, inr, ◌⊎◌, ℕ, Bool, true, false, not, ◌&&◌, IsTrue, List, [], ◌∷◌, length, map, slice_get, Option, Some}
+use Rattle.std.proofs.Common.{◌≡◌, ◌≢◌, refl, sym, ap, ◌∙◌, subst, inl, inr, ◌⊎◌, ℕ, Bool, true, false, IsTrue, List, [], ◌∷◌, length, map, slice_get, Option, Some}
 use Rattle.std.specs.Prelude.{unwrap_or}
 use Rattle.std.specs.List.{AllByRecursion}
 use Rattle.gsl_base.specs.declared.input.Input.{Input}
@@ -18,7 +18,7 @@ use Rattle.gsl_words.specs.declared.module.Module.{Module}
 use Rattle.gsl_values.specs.declared.value.Value.{Value}
 use Rattle.gsl_tree.specs.Around.{Around}
 use Rattle.gsl_tree.specs.Expressions.{AreArguments, HasType, IsArgument, IsCall, IsNode, is_runtime_layer}
-use Rattle.gsl_tree.specs.Paths.{coming_out, if_out, is_writable}
+use Rattle.gsl_tree.specs.Paths.{is_writable}
 use Rattle.gsl_tree.specs.Shapes.{Shape, shape_kind, shape_of}
 use Rattle.gsl_tree.specs.Trees.{form_of, type_of}
 use Rattle.gsl_tree.specs.Values.{is_value_of, zero_value}
@@ -46,15 +46,15 @@ use Rattle.gsl_lower_law_expr.proofs.Shapes.{value_shape}
 use Rattle.gsl_lower_law_names.proofs.Reading.{value_as_it_is}
 use Rattle.gsl_lower_law_returns.specs.Calling.{AreAlike}
 use Rattle.gsl_lower_law_entered.specs.Modules.{IsFrame}
-use Rattle.gsl_lower_law_functions.specs.Functions.{FunctionDoes}
+use Rattle.gsl_lower_law_passed.specs.OfLawFunctions.{FunctionDoes}
 use Rattle.gsl_lower_law_passed.specs.Arguments.{AllServe, ComesBack, GoesIn, HasZeros, Serves}
 use Rattle.gsl_lower_law_passed.proofs.Calls.{call_passes}
 use Rattle.gsl_lower_law_zeros.proofs.Given.{zeros_given}
 use Rattle.gsl_lower_reaching.specs.Reaching.{GivesPlace}
-use Rattle.gsl_lower_law_evaluated.specs.Evaluating.{AllEvaluated, HasValue, IsEvaluated, IsTyped, lowered_in, meant_in}
+use Rattle.gsl_lower_law_evaluated.specs.Evaluating.{AllEvaluated, HasValue, IsEvaluated, IsReadWhole, IsTyped, KnowsWhereStored, lowered_in, meant_in}
 use Rattle.gsl_lower_law_evaluated.proofs.Facts.{at_place, plain_real, shaped_real}
 use Rattle.gsl_lower_law_evaluated.proofs.Whole.{call_has_value}
-use Rattle.gsl_lower_law_shader.specs.Depths.{IsApart}
+use Rattle.gsl_lower_law_shader.specs.Depths.{ArePassed, IsPassedBy}
 use Rattle.gsl_lower_law_shader.specs.Typed.{KnowsTypes}
 
 -- ---- types
@@ -129,21 +129,25 @@ module _ (m : Module) (input : Input) (whole : Sections) (f : Frame m input whol
 
   -- ---- one argument
 
-  goes_in : (t : Ty) (e : Expr) → IsVariableType p.structs t → type_of e ≡ t → Is e → GoesIn m input whole f p around t (low e) (means e)
-  goes_in t e is same x = record {
+  goes_in : (t : Ty) (e : Expr) → IsVariableType p.structs t → type_of e ≡ t → Is e → IsReadWhole m input whole f p params locals call stage calls e → GoesIn m input whole f p around t (low e) (means e)
+  goes_in t e is same x wholes = record {
     real = plain_real t is.plain;
-    gives = subst (λ u. GivesValue m input whole f p around (low e).traits.splits u (low e).value (means e).value) same (x.gives (ap (λ u. is_runtime_layer (out-Ty u)) same ∙ plain_read t is.plain));
+    gives = subst (λ u. GivesValue m input whole f p around (low e).traits.splits u (low e).value (means e).value) same (x.gives read (λ in_one none. wholes in_one none read));
   }
+    where
+      read : is_runtime_layer (out-Ty (type_of e)) ≡ false
+      read = ap (λ u. is_runtime_layer (out-Ty u)) same ∙ plain_read t is.plain
 
-  comes_back : (t : Ty) (e : Expr) → IsVariableType p.structs t → Back p t (type_of e) → is_writable around e ≡ true → IsApart e → Is e → ComesBack m input whole f p around t (low e) (means e)
-  comes_back t e is back may apart x = record {
+  comes_back : (t : Ty) (e : Expr) → IsVariableType p.structs t → Back p t (type_of e) → is_writable around e ≡ true → KnowsWhereStored m input whole f p params locals call stage calls e → Is e → ComesBack m input whole f p around t (low e) (means e)
+  comes_back t e is back may known x = record {
     real = plain_real t is.plain;
     sound = is.known;
     sound_place = subst (IsSound (length p.structs)) (sym x.typed) x.sound;
     real_place = λ none. back.real (sym x.typed ∙ none);
     meant = x.meant ∙ sym x.typed;
     start = x.start;
-    leads = subst (λ u. GivesPlace m input whole f p around (low e).traits.splits x.start true u (low e).reach (means e).access) (sym x.typed) (x.leads back.real true (λ so. ap (λ c. is_writable around e && not c) apart ∙ ap (λ c. c && true) may));
+    knows = λ so. known (x.start_blocked so);
+    leads = subst (λ u. GivesPlace m input whole f p around (low e).traits.splits x.start true u (low e).reach (means e).access) (sym x.typed) (x.leads back.real true (λ so. may));
     some = (zero_value p.structs t, fits (zero_value p.structs t) (zero_is t is));
     fits = fits;
     words = λ shape v has typed.
@@ -157,35 +161,31 @@ module _ (m : Module) (input : Input) (whole : Sections) (f : Frame m input whol
   zeros_serve : (t : Ty) → IsVariableType p.structs t → HasZeros m input whole f p around t
   zeros_serve t is = record { typed = zero_is t is; gives = zeros_given m input whole f p around t knows.nulls (λ composite. knows.zeros t composite is) is.known (zero_is t is) }
 
-  serves_one : (way : Direction) (t : Ty) (e : Expr) (rest : List Expr) → IsVariableType p.structs t → IsArgument around way t e → AllByRecursion IsApart (if_out way e rest) → Is e → Serves m input whole f p around way t (low e) (means e)
-  serves_one In t e rest is fits apart x = goes_in t e is fits x
-  serves_one Out t e rest is fits apart x = (comes_back t e is (back_of p t (type_of e) is fits.0) fits.1 apart.0 x, zeros_serve t is)
-  serves_one InOut t e rest is fits apart x = (comes_back t e is (back_of p t (type_of e) is (inl fits.0)) fits.1 apart.0 x, x.typed ∙ fits.0)
-
-  rest_apart : (way : Direction) (e : Expr) (rest : List Expr) → AllByRecursion IsApart (if_out way e rest) → AllByRecursion IsApart rest
-  rest_apart In e rest apart = apart
-  rest_apart Out e rest apart = apart.1
-  rest_apart InOut e rest apart = apart.1
+  serves_one : (way : Direction) (t : Ty) (e : Expr) → IsVariableType p.structs t → IsArgument around way t e → IsPassedBy m input whole f p params locals call stage calls way e → Is e → Serves m input whole f p around way t (low e) (means e)
+  unfolding comes_back
+  serves_one In t e is fits passed x = goes_in t e is fits x passed
+  serves_one Out t e is fits passed x = (comes_back t e is (back_of p t (type_of e) is fits.0) fits.1 passed x, zeros_serve t is)
+  serves_one InOut t e is fits passed x = (comes_back t e is (back_of p t (type_of e) is (inl fits.0)) fits.1 passed.0 x, x.typed ∙ fits.0, λ none so. passed.1 (x.start_blocked so) (sym (ap shape_of x.typed) ∙ none))
 
   -- ---- all of them
 
-  all_serve : (ps : List (Direction × Ty)) (es : List Expr) → AllByRecursion (λ (param : Direction × Ty). IsVariableType p.structs param.1) ps → AreArguments around ps es → AllByRecursion IsApart (coming_out ps es) → AllEvaluated m input whole f p params locals call stage calls es
+  all_serve : (ps : List (Direction × Ty)) (es : List Expr) → AllByRecursion (λ (param : Direction × Ty). IsVariableType p.structs param.1) ps → AreArguments around ps es → ArePassed m input whole f p params locals call stage calls ps es → AllEvaluated m input whole f p params locals call stage calls es
       → AllServe m input whole f p around ps (map low es) (map means es)
-  all_serve [] [] are fit apart xs = tt
-  all_serve [] (e ∷ es) are fit apart xs = absurd fit
-  all_serve (param ∷ ps) [] are fit apart xs = absurd fit
-  all_serve (param ∷ ps) (e ∷ es) are fit apart xs = (serves_one param.0 param.1 e (coming_out ps es) are.0 fit.0 apart xs.0, all_serve ps es are.1 fit.1 (rest_apart param.0 e (coming_out ps es) apart) xs.1)
+  all_serve [] [] are fit passed xs = tt
+  all_serve [] (e ∷ es) are fit passed xs = absurd fit
+  all_serve (param ∷ ps) [] are fit passed xs = absurd fit
+  all_serve (param ∷ ps) (e ∷ es) are fit passed xs = (serves_one param.0 param.1 e are.0 fit.0 passed.0 xs.0, all_serve ps es are.1 fit.1 passed.1 xs.1)
 
   -- ---- a call
 
   pub call_evaluates : (place : FlowPlace) (stages : List (Option Value)) (globals : Around) (e : Expr) (number function : ℕ) (args : List Expr) → form_of e ≡ ExprKind-F.Call number args → IsNode around e → IsFrame m input whole place stages f → AreAlike around globals → slice_get place.functions number ≡ Some function
-      → AllByRecursion IsApart (coming_out (params_of (slice_get p.prototypes number)) args) → ((head : Prototype) → slice_get p.prototypes number ≡ Some head → FunctionDoes m input whole p place stages globals function head.params head.result (calls number)) → AllEvaluated m input whole f p params locals call stage calls args → HasValue m input whole f p params locals call stage calls e
-  call_evaluates place stages globals e number function args form node frame alike there apart does xs =
+      → ArePassed m input whole f p params locals call stage calls (params_of (slice_get p.prototypes number)) args → ((head : Prototype) → slice_get p.prototypes number ≡ Some head → FunctionDoes m input whole p place stages globals function head.params head.result (calls number)) → AllEvaluated m input whole f p params locals call stage calls args → HasValue m input whole f p params locals call stage calls e
+  call_evaluates place stages globals e number function args form node frame alike there passed does xs =
       let is : IsCall around number args (type_of e) = subst (λ x. HasType around x (type_of e)) form node.type in
       let head = is.0 in
       let params_are : params_of (slice_get p.prototypes number) ≡ head.params = ap params_of is.1 in
       let served : AllServe m input whole f p around (params_of (slice_get p.prototypes number)) (map low args) (map means args) =
-      subst (λ ps. AllServe m input whole f p around ps (map low args) (map means args)) (sym params_are) (all_serve head.params args (at_place (IsPrototype p.structs) p.prototypes number head types.program.prototypes is.1).params is.3 (subst (λ ps. AllByRecursion IsApart (coming_out ps args)) params_are apart) xs) in
+      subst (λ ps. AllServe m input whole f p around ps (map low args) (map means args)) (sym params_are) (all_serve head.params args (at_place (IsPrototype p.structs) p.prototypes number head types.program.prototypes is.1).params is.3 (subst (λ ps. ArePassed m input whole f p params locals call stage calls ps args) params_are passed) xs) in
       call_has_value m input whole f p params locals call stage calls e number args types knows.vectors form
       (call_passes m input whole f p around globals place stages setting number function (map low args) (map means args) (type_of e) types.program.structs refl frame there alike served
       (subst (λ ps. FunctionDoes m input whole p place stages globals function ps (type_of e) (calls number)) (sym params_are) (subst (λ t. FunctionDoes m input whole p place stages globals function head.params t (calls number)) is.2 (does head is.1))))

@@ -69,7 +69,9 @@ module _ (m : Module) (input : Input) (whole : Sections) (f : Frame m input whol
 
   -- a well typed expression gives its value
   value_gives : (e : Expr) → IsExpr around e → MayBeRead around e → Ask e → GivesValue m input whole f p around (lowering.lowers lower e).traits.splits (type_of e) (value_of lower e) (evaluating means e)
-  value_gives e is read ask = (expr_evaluates m input whole f p params locals call stage calls e types knows.vectors is ask.sound ask.asks).gives (is_false (is_runtime_layer (out-Ty (type_of e))) read.1)
+  value_gives e is read ask =
+      let here = is_false (is_runtime_layer (out-Ty (type_of e))) read.1 in
+      (expr_evaluates m input whole f p params locals call stage calls e types knows.vectors is ask.sound ask.asks).gives here (λ in_one none. ask.read in_one none here)
 
   computes : (e : Expr) → IsExpr around e → MayBeRead around e → Ask e → asking.Computes m input whole f p around lower means locals e
   computes e is read ask = record { splits = (lowering.lowers lower e).traits.splits; ty = type_of e; gives = value_gives e is read ask }

@@ -58,7 +58,7 @@ module _ (m : Module) (input : Input) (whole : Sections) (p : Program) (place : 
   exprs_asked : (es : List Expr) → AllByRecursion (IsExpr around) es → AllByRecursion (AreAsked m input whole p place stages rank below depth f params locals) es
       → AllByRecursion (AsksThroughout m input whole f p params locals (call_of p) (stage_of p input) (calls p input depth)) es
   exprs_asked [] are asks = tt
-  exprs_asked (e ∷ es) are asks = (record { sound = asks.0.sound; asks = asked e asks.0.asks are.0 }, exprs_asked es are.1 asks.1)
+  exprs_asked (e ∷ es) are asks = (record { sound = asks.0.sound; read = asks.0.read; asks = asked e asks.0.asks are.0 }, exprs_asked es are.1 asks.1)
 
   module _ (result : Ty) where
     abbrev Wants : Exits → Stmt → Type 0

@@ -25,8 +25,8 @@ use Rattle.gsl_lower_follows.specs.Giving.{Does, none_waits}
 use Rattle.gsl_lower_follows.proofs.Stretches.{stretch_then}
 use Rattle.gsl_lower_law_stmt.specs.Doing.{DoesStatement}
 use Rattle.gsl_lower_law_main.proofs.Ends.{ends}
-use Rattle.gsl_lower_law_functions.specs.Bodies.{AtResult, DoesBody}
-use Rattle.gsl_lower_law_functions.proofs.Ended.{void_body_does}
+use Rattle.gsl_lower_law_passed.specs.OfLawFunctions.{AtResult, DoesBody}
+use Rattle.gsl_lower_law_passed.proofs.OfLawFunctions.{void_body_does}
 use Rattle.gsl_lower_law_shader.proofs.Bodies.{typed_body_does}
 use Rattle.gsl_lower_law_shader.proofs.Called.{body_asked}
 use Rattle.gsl_lower_law_shader.specs.Depths.{AllStand, body_of, call_of, stage_of, statements_of}

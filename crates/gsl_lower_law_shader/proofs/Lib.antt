@@ -3,3 +3,4 @@ mod Arguments
 mod Called
 pub mod Ranked
 pub mod Ended
+pub mod OfLawEvaluated

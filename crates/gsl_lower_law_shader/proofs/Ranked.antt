@@ -27,11 +27,11 @@ use Rattle.gsl_lower_stmt.specs.Parts.{LowerStmt, in_turn}
 use Rattle.gsl_lower_follows.specs.Frames.{Frame}
 use Rattle.gsl_lower_law_stmt.specs.Doing.{DoesStatement}
 use Rattle.gsl_lower_law_entered.specs.Modules.{IsFrame}
-use Rattle.gsl_lower_law_functions.specs.Bodies.{DoesBody, GivesZeros}
-use Rattle.gsl_lower_law_functions.specs.Functions.{FunctionDoes, running_body}
-use Rattle.gsl_lower_law_functions.proofs.Depths.{call_does}
-use Rattle.gsl_lower_law_functions.proofs.Done.{function_does}
-use Rattle.gsl_lower_law_functions.proofs.Ended.{body_does, void_body_does}
+use Rattle.gsl_lower_law_passed.specs.OfLawFunctions.{DoesBody, GivesZeros}
+use Rattle.gsl_lower_law_passed.specs.OfLawFunctions.{FunctionDoes, running_body}
+use Rattle.gsl_lower_law_passed.proofs.OfLawFunctions.{call_does}
+use Rattle.gsl_lower_law_passed.proofs.OfLawFunctions.{function_does}
+use Rattle.gsl_lower_law_passed.proofs.OfLawFunctions.{body_does, void_body_does}
 use Rattle.gsl_lower_law_zeros.proofs.Given.{zeros_given}
 use Rattle.gsl_lower_law_evaluated.proofs.Facts.{plain_real}
 use Rattle.gsl_lower_law_shader.proofs.Bodies.{typed_body_does}

@@ -1,14 +1,16 @@
 -- The functions of a program where they stand in a module, and what their calls do at a depth (GLSL 4.50, 6.1).
-use Rattle.std.specs.Prelude.{◌≡◌, ℕ, ◌<◌, false, List, [], map, length, slice_get, Option, Some}
+use Rattle.std.specs.Prelude.{◌≡◌, ◌≢◌, ℕ, ◌<◌, true, List, [], ◌∷◌, map, length, slice_get, Option, Some, None}
 use Rattle.std.specs.List.{AllByRecursion}
 use Rattle.gsl_base.specs.declared.input.Input.{Input}
 use Rattle.gsl_types.specs.Known.{IsSound}
 use Rattle.gsl_types.specs.declared.ty.Direction.{Direction}
+use Rattle.gsl_types.specs.declared.ty.Direction.TheVariants.{In, Out, InOut}
 use Rattle.gsl_types.specs.declared.ty.Ty.{Ty}
 use Rattle.gsl_words.specs.declared.module.Module.{Module}
 use Rattle.gsl_values.specs.declared.value.Value.{Value}
 use Rattle.gsl_tree.specs.Around.{Around}
-use Rattle.gsl_tree.specs.Paths.{coming_out, in_block}
+use Rattle.gsl_tree.specs.Paths.{in_block}
+use Rattle.gsl_tree.specs.Shapes.{shape_of}
 use Rattle.gsl_tree.specs.Statements.{IsBody}
 use Rattle.gsl_tree.specs.Trees.{Exits, Throughout, exprs_of, form_of, outside, type_of, with_exits}
 use Rattle.gsl_tree.specs.Weights.{params_of}
@@ -21,6 +23,7 @@ use Rattle.gsl_tree.specs.declared.program.Program.{Program}
 use Rattle.gsl_tree.specs.declared.stmt.Stmt.{Stmt, out-Stmt}
 use Rattle.gsl_tree.specs.declared.unit.Function.{Function}
 use Rattle.gsl_tree.specs.declared.unit.Prototype.{Prototype}
+use Rattle.gsl_meaning.specs.Expressions.{Calls}
 use Rattle.gsl_meaning.specs.Shader.{calls, function_of}
 use Rattle.gsl_meaning.specs.Stages.{stage_value}
 use Rattle.gsl_spv.specs.Sections.{Sections}
@@ -34,9 +37,9 @@ use Rattle.gsl_lower_stmt.specs.Parts.{LowerStmt, in_turn}
 use Rattle.gsl_lower_used.specs.Lowered.{AlongAllLowered, ThroughoutLowered, up_to_jump}
 use Rattle.gsl_lower_follows.specs.Frames.{Frame}
 use Rattle.gsl_lower_law_entered.specs.Modules.{IsFrame, IsFunction}
-use Rattle.gsl_lower_law_functions.specs.Bodies.{bodied}
-use Rattle.gsl_lower_law_functions.specs.Functions.{FunctionDoes, IsLowered}
-use Rattle.gsl_lower_law_evaluated.specs.Evaluating.{AsksFor, IsTyped, lowered_in}
+use Rattle.gsl_lower_law_passed.specs.OfLawFunctions.{bodied}
+use Rattle.gsl_lower_law_passed.specs.OfLawFunctions.{FunctionDoes, IsLowered}
+use Rattle.gsl_lower_law_evaluated.specs.Evaluating.{AsksFor, IsReadWhole, IsTyped, KnowsWhereStored, lowered_in}
 use Rattle.gsl_lower_law_shader.specs.Typed.{KnowsTypes}
 
 -- what calls are lowered to in a program
@@ -59,9 +62,22 @@ body_of p f result = bodied (in_turn (statements_of p f)) (any_leaves (map (λ (
 abbrev pub globals_of : Program → Around
 globals_of p = around_body (program_lists p) [] []
 
--- An expression stands for no part of a block.
-abbrev pub IsApart : Expr → Type 0
-IsApart e = in_block e ≡ false
+-- An expression stands for no struct and no array in a block.
+abbrev pub IsNoWhole : Expr → Type 0
+IsNoWhole e = in_block e ≡ true → shape_of (type_of e) ≢ None
+
+module _ (m : Module) (input : Input) (whole : Sections) (f : Frame m input whole) (p : Program) (params : List (Direction × Ty)) (locals : List Ty) (call : ℕ → List Lower → Ty → Emit ℕ) (stage : StageVar → Value) (calls : Calls) where
+  -- What is asked of an argument by the way in which it is passed: a struct or an array in a block gives its value where that goes in; where one comes back into a block its buffers are known; and none does both.
+  abbrev pub IsPassedBy : Direction → Expr → Type 0
+  IsPassedBy In e = IsReadWhole m input whole f p params locals call stage calls e
+  IsPassedBy Out e = KnowsWhereStored m input whole f p params locals call stage calls e
+  IsPassedBy InOut e = KnowsWhereStored m input whole f p params locals call stage calls e × IsNoWhole e
+
+  -- so of the arguments of a call, in their order
+  abbrev pub ArePassed : List (Direction × Ty) → List Expr → Type 0
+  ArePassed [] es = Unit {0}
+  ArePassed (param ∷ params) [] = Unit {0}
+  ArePassed (param ∷ params) (e ∷ es) = IsPassedBy param.0 e × ArePassed params es
 
 module _ (m : Module) (input : Input) (whole : Sections) (p : Program) (place : FlowPlace) (stages : List (Option Value)) where
   -- A function of the module does what that of a head means, where calls nest at most so deep.
@@ -79,16 +95,17 @@ module _ (m : Module) (input : Input) (whole : Sections) (p : Program) (place : 
     pub known : slice_get place.functions number ≡ Some function
 
   module _ (rank : ℕ → ℕ) (below depth : ℕ) (f : Frame m input whole) (params : List (Direction × Ty)) (locals : List Ty) where
-    -- What is asked of an expression: of a call that the module has its function, which ranks lower, and that no value comes back to a part of a block; of all others what is asked of them anywhere.
+    -- What is asked of an expression: of a call that the module has its function, which ranks lower, and of its arguments as they are passed; of all others what is asked of them anywhere.
     abbrev pub AsksBelowFor : Expr → ExprKind-F ExprKind Expr → Type 0
-    AsksBelowFor e (ExprKind-F.Call number args) = MayCall rank below number × AllByRecursion IsApart (coming_out (params_of (slice_get p.prototypes number)) args)
+    AsksBelowFor e (ExprKind-F.Call number args) = MayCall rank below number × ArePassed m input whole f p params locals (call_of p) (stage_of p input) (calls p input depth) (params_of (slice_get p.prototypes number)) args
     AsksBelowFor e form = AsksFor m input whole f p params locals (call_of p) (stage_of p input) (calls p input depth) e form
 
     abbrev pub AsksBelow : Expr → Type 0
     AsksBelow e = AsksBelowFor e (form_of e)
 
-    -- In an expression all types are those of the program, and what is asked of its parts that are lowered is so.
+    -- In an expression all types are those of the program, what is asked of its parts that are lowered is so, and where it is a struct or an array in a block it gives its value.
     pub record AreAsked (e : Expr) : Type 0 where
+      pub read : IsReadWhole m input whole f p params locals (call_of p) (stage_of p input) (calls p input depth) e
       pub sound : Throughout (λ (part : Expr). IsSound (length p.structs) (type_of part)) e
       pub asks : ThroughoutLowered p.prototypes AsksBelow e
 

@@ -2,3 +2,4 @@ pub mod Typed
 pub mod Depths
 pub mod Asked
 pub mod Alike
+pub mod OfLawEvaluated

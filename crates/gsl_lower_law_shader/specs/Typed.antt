@@ -20,12 +20,13 @@ use Rattle.gsl_lower_holders.specs.Flow.{Emit}
 use Rattle.gsl_lower_expr.specs.Parts.{Lower}
 use Rattle.gsl_lower_used.specs.Lowered.{ThroughoutLowered}
 use Rattle.gsl_lower_follows.specs.Frames.{Frame}
-use Rattle.gsl_lower_law_evaluated.specs.Evaluating.{Asks, NoVectors}
+use Rattle.gsl_lower_law_evaluated.specs.Evaluating.{Asks, IsReadWhole, NoVectors}
 use Rattle.gsl_lower_law_zeros.specs.Nulls.{KnowsZeros, Nulls}
 
 module _ (m : Module) (input : Input) (whole : Sections) (f : Frame m input whole) (p : Program) (params : List (Direction × Ty)) (locals : List Ty) (call : ℕ → List Lower → Ty → Emit ℕ) (stage : StageVar → Value) (calls : Calls) where
-  -- In an expression all types are those of the program, and what is asked of its parts that are lowered is so.
+  -- In an expression all types are those of the program, what is asked of its parts that are lowered is so, and where it is a struct or an array in a block it gives its value.
   pub record AsksThroughout (e : Expr) : Type 0 where
+    pub read : IsReadWhole m input whole f p params locals call stage calls e
     pub sound : Throughout (λ (part : Expr). IsSound (length p.structs) (type_of part)) e
     pub asks : ThroughoutLowered p.prototypes (Asks m input whole f p params locals call stage calls) e
 

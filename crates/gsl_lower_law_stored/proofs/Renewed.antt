@@ -1,6 +1,6 @@
 -- The state of the module is that of the shader where a block has other bytes.
-use Rattle.std.proofs.Common.{◌≡◌, ◌≢◌, refl, sym, ap, ◌∙◌, subst, ℕ, Bool, true, false, List, Option, Some, arith, if◌then◌else◌}
-use Rattle.std.specs.Prelude.{nat_eq, slice_get}
+use Rattle.std.proofs.Common.{◌≡◌, ◌≢◌, refl, sym, ap, ◌∙◌, subst, ℕ, ◌<◌, Bool, true, false, List, [], length, Option, Some, arith, if◌then◌else◌}
+use Rattle.std.specs.Prelude.{◌^◌, nat_eq, slice_get, unwrap_or}
 use Rattle.std.proofs.lemmas.Bool.{eqb-true, true≢false}
 use Rattle.std.proofs.lemmas.Option.{slice_get_within}
 use Rattle.gsl_base.specs.declared.input.Input.{Input}
@@ -22,7 +22,10 @@ use Rattle.gsl_spv.specs.Sections.{Sections}
 use Rattle.gsl_lower_holders.specs.Flow.{Flow}
 use Rattle.gsl_lower_follows.specs.Frames.{AreBytes, Frame, Global, Good, HasType, Holder, Interface, IsSeen, Local, Name, Param, Stage, type_named, value_of}
 use Rattle.gsl_lower_follows.proofs.Holding.{set_elsewhere, set_there}
+use Rattle.gsl_lower_follows.specs.Sizes.{IsShort}
 use Rattle.gsl_lower_law_bytes.proofs.Buffers.{value_set}
+use Rattle.gsl_lower_law_bytes.proofs.Sized.{value_length}
+use Rattle.gsl_lower_law_members.proofs.Sized.{few_at}
 use Rattle.gsl_lower_law_places.specs.Storing.{buffers_with}
 use Rattle.gsl_lower_law_stored.specs.Buffers.{HasBuffer, IsBound, KnowsBuffers, with_bytes_of, with_value}
 use Rattle.gsl_lower_law_stored.proofs.Bytes.{alone_apart, elsewhere, here_again}
@@ -118,11 +121,16 @@ module _ (m : Module) (input : Input) (whole : Sections) (f : Frame m input whol
             apart_of : nat_eq k number ≡ false → k ≢ number
             apart_of e same = true≢false (sym (let z : nat_eq k k ≡ true = grind arith in z) ∙ ap (nat_eq k) same ∙ e)
 
+    -- there are as many as were given
+    few_then : IsShort input → length fresh < 2 ^ 32
+    few_then few =
+        subst (λ n. n < 2 ^ 32) (ap (λ o. length (unwrap_or o [])) has ∙ sym (value_length (layout_of p.structs block) 0 value given) ∙ ap length told) (few_at input.buffers block.set block.binding few.buffers)
+
     seen_then : (k : ℕ) (one : Block) → slice_get p.blocks k ≡ Some one → IsSeen m input whole f p around one (slice_get then_s.blocks k)
     seen_then k one at = by (nat_eq k number) refl
       where
         by : (c : Bool) → nat_eq k number ≡ c → IsSeen m input whole f p around one (slice_get then_s.blocks k)
-        by true e = (fresh, value_there k one (eqb-true k number e) at, small)
+        by true e = (fresh, value_there k one (eqb-true k number e) at, small, few_then)
         by false e = subst (IsSeen m input whole f p around one) (sym (set_elsewhere s.blocks number k value (apart_of e))) (good.typed.blocks k one at)
           where
             apart_of : nat_eq k number ≡ false → k ≢ number

@@ -5,7 +5,7 @@ ghost use Rattle.gsl_lower_expr.specs.Parts.{Lower};
 ghost use Rattle.gsl_lower_follows.specs.Frames.{Frame};
 ghost use Rattle.gsl_lower_holders.specs.Flow.{Emit};
 ghost use Rattle.gsl_lower_law_body.specs.Asking.{AsksAt};
-ghost use Rattle.gsl_lower_law_evaluated.specs.Evaluating.{Asks, IsEvaluated, IsTyped, NoVectors, lowered_in, meant_in};
+ghost use Rattle.gsl_lower_law_shader.specs.OfLawEvaluated.{Asks, IsEvaluated, IsTyped, NoVectors, lowered_in, meant_in};
 ghost use Rattle.gsl_lower_law_shader.specs.Typed.{AsksOf, KnowsTypes};
 ghost use Rattle.gsl_lower_law_stmt.specs.Doing.{DoesStatement};
 ghost use Rattle.gsl_lower_needs.specs.Bodies.{any_leaves};

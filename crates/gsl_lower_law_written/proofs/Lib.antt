@@ -4,3 +4,8 @@ pub mod Parts
 pub mod One
 pub mod Outside
 pub mod Written
+pub mod OfElements
+pub mod OfLawStored
+pub mod OfReaching
+pub mod OfReads
+pub mod OfWrites

@@ -48,10 +48,10 @@ use Rattle.gsl_lower_follows.specs.Giving.{After, Does, none_waits}
 use Rattle.gsl_lower_follows.proofs.Doing.{does_lift}
 use Rattle.gsl_lower_law_stored.specs.Buffers.{KnowsBuffers, with_bytes_of, with_value}
 use Rattle.gsl_lower_law_stored.proofs.Put.{words_stored}
-use Rattle.gsl_lower_reaching.specs.Reaching.{IsBlockTrail, PicksBy, Start}
-use Rattle.gsl_lower_reaching.specs.Trails.{Chosen, IsChosen, IsInside, IsPicked, Trail}
-use Rattle.gsl_lower_reaching.proofs.Seen.{index_is}
-use Rattle.gsl_lower_elements.proofs.Standing.{bytes, from, held, leads, number_each, numbers_are, pointee, points, run, run_stored, run_there, run_value, to, value_there, whole_is}
+use Rattle.gsl_lower_writes.specs.OfReaching.{IsBlockTrail, PicksBy, Start}
+use Rattle.gsl_lower_writes.specs.OfReaching.{Chosen, IsChosen, IsInside, IsPicked, Trail}
+use Rattle.gsl_lower_writes.proofs.OfReaching.{index_is}
+use Rattle.gsl_lower_writes.proofs.OfElements.{bytes, from, held, leads, number_each, numbers_are, pointee, points, run, run_stored, run_there, run_value, to, value_there, whole_is}
 use Rattle.gsl_lower_traits_law.proofs.Shapes.{shape_back}
 use Rattle.gsl_lower_writes.proofs.Once.{are_few, goes_below}
 use Rattle.gsl_lower_writes.proofs.Picked.{picked_stored}
@@ -75,7 +75,7 @@ one_set (zero ∷ []) (w ∷ []) [] below one single whole_one = absurd (let z :
 one_set (zero ∷ []) (w ∷ []) (o ∷ next ∷ old) below one single whole_one = absurd (let z : suc (suc (length old)) ≡ 1 = whole_one in omega (arith, z))
 
 module _ (m : Module) (input : Input) (sections : Sections) (f : Frame m input sections) (p : Program) (around : Around) (are : AreStructs p.structs) (knows : KnowsBuffers m input sections f p) (start : Start) (b : Flow) (s : shader.State) (state : State) (r : Reached) (l : Trail)
-    (good : Good m input sections f p around b s state) (x : IsBlockTrail m input sections f p around false start b state r l) (own : is_push_kind x.begins.block.kind ≡ false) (t : Ty) (a : Access) (sound_t : IsSound (length p.structs) t) (writes : Bool) (inside : IsInside p.structs writes t a l)
+    (good : Good m input sections f p around b s state) (x : IsBlockTrail m input sections f p around false start b state r l) (own : is_push_kind x.begins.block.kind ≡ false) (t : Ty) (a : Access) (sound_t : IsSound (length p.structs) t) (writes : Bool) (inside : IsInside p.structs p.blocks writes t a l)
     (c : Chosen) (chosen_is : l.picks ≡ Some c) (once : repeats c.positions ≡ false) (alone : c.shape.1 ≡ 1) (value : ℕ) (v : Value) (typed : is_value_of p.structs t v ≡ true) (stands : Stands state.ids value v) where
   abbrev it : List ℕ
   it = bytes m input sections f p around are start b s state r l good x
@@ -102,7 +102,7 @@ module _ (m : Module) (input : Input) (sections : Sections) (f : Frame m input s
   new_shape : Shape
   new_shape = (c.shape.0, length c.positions)
 
-  of : IsOf (c.shape.0, length c.positions) v
+  pub of : IsOf (c.shape.0, length c.positions) v
   of = (value_shape p.structs t (c.shape.0, length c.positions) v are sound_t y.gives typed).1
 
   abbrev words : List ℕ
@@ -206,11 +206,13 @@ module _ (m : Module) (input : Input) (sections : Sections) (f : Frame m input s
   then_good = words_stored m input sections f p around knows x.begins.number x.begins.id x.begins.block x.begins.knows.known x.begins.knows.seat own b s state good it (held m input sections f p around are start b s state r l good x).1 c.shape.1 x.begins.offset l.front leads_run (let z = alone in omega (arith, z)) words
       (lying_many x.begins.class x.begins.inside (c.shape.0, length c.positions) v of ∙ one_position ∙ sym alone) (lying_below x.begins.class x.begins.inside (c.shape.0, length c.positions) v of)
 
-  pub one_written : (units : ℕ) → Does m input sections f p 0 units state (λ done later one u last. After m input sections f p around false b state later u last) none_waits (Got (tt {0}) (means_stored a v s) units) (stores p.structs t r value b)
+  -- what leaves these bytes there stores it, by whatever pointer
+  pub one_left : (to : Reached) → Acts m input sections Nothing (stored_left m input sections state state.variables later_buffers) state b.sections (stored (c.shape.0, length c.positions) to value)
+      → (units : ℕ) → Does m input sections f p 0 units state (λ done later one u last. After m input sections f p around false b state later u last) none_waits (Got (tt {0}) (means_stored a v s) units) (stores p.structs t to value b)
   unfolding stores
-  one_written units =
-      subst (λ o. Does m input sections f p 0 units state (λ done later one u last. After m input sections f p around false b state later u last) none_waits (Got (tt {0}) (means_stored a v s) units) (store_by p.structs t r value o b)) (sym y.gives)
-      (does_lift m input sections f p around units b s state Nothing (stored_left m input sections state state.variables later_buffers) (λ done later one u last. After m input sections f p around false b state later u last) none_waits (tt {0}) (means_stored a v s) (stored (c.shape.0, length c.positions) r value) good acts
+  one_left to storing units =
+      subst (λ o. Does m input sections f p 0 units state (λ done later one u last. After m input sections f p around false b state later u last) none_waits (Got (tt {0}) (means_stored a v s) units) (store_by p.structs t to value o b)) (sym y.gives)
+      (does_lift m input sections f p around units b s state Nothing (stored_left m input sections state state.variables later_buffers) (λ done later one u last. After m input sections f p around false b state later u last) none_waits (tt {0}) (means_stored a v s) (stored (c.shape.0, length c.positions) to value) good storing
       (λ done later q inside_later extends.
       subst (λ u. After m input sections f p around false b state (record { sections = later; place = b.place }) u (record (leaving state (stored_left m input sections state state.variables later_buffers) q.ids) { rest = coming m input sections f later })) (sym means)
       (record {
@@ -228,3 +230,6 @@ module _ (m : Module) (input : Input) (sections : Sections) (f : Frame m input s
         held = record { same = λ holder n less at. refl };
         ids = λ e. q.keeps;
       })))
+
+  pub one_written : (units : ℕ) → Does m input sections f p 0 units state (λ done later one u last. After m input sections f p around false b state later u last) none_waits (Got (tt {0}) (means_stored a v s) units) (stores p.structs t r value b)
+  one_written = one_left r acts

@@ -35,15 +35,15 @@ use Rattle.gsl_lower_expr.specs.Parts.{store_by, stores}
 use Rattle.gsl_lower_follows.specs.Frames.{Frame, Good, HeldAs}
 use Rattle.gsl_lower_follows.specs.Giving.{Does, none_waits}
 use Rattle.gsl_lower_follows.proofs.Doing.{strays_lift}
-use Rattle.gsl_lower_elements.proofs.Standing.{from, points, to}
-use Rattle.gsl_lower_elements.proofs.Strayed.{all_numbers, can, component_in, component_out, path_strays, picks_out}
-use Rattle.gsl_lower_reaching.specs.Reaching.{IsBlockTrail, PicksBy, Start}
-use Rattle.gsl_lower_reaching.specs.Trails.{ArePositions, Chosen, IsOut, IsOutside, LacksComponent, LeadsOut, MayWrite, Trail}
-use Rattle.gsl_lower_reaching.proofs.Moving.{chooses_stand}
+use Rattle.gsl_lower_writes.proofs.OfElements.{from, points, to}
+use Rattle.gsl_lower_writes.proofs.OfElements.{all_numbers, can, component_in, component_out, path_strays, picks_out}
+use Rattle.gsl_lower_writes.specs.OfReaching.{IsBlockTrail, PicksBy, Start}
+use Rattle.gsl_lower_writes.specs.OfReaching.{ArePositions, Chosen, IsOut, IsOutside, LacksComponent, LeadsOut, MayWrite, Trail}
+use Rattle.gsl_lower_writes.proofs.OfReaching.{chooses_stand}
 use Rattle.gsl_lower_writes.proofs.Once.{few, single}
 
 module _ (m : Module) (input : Input) (sections : Sections) (f : Frame m input sections) (p : Program) (around : Around) (are : AreStructs p.structs) (start : Start) (b : Flow) (s : shader.State) (state : State) (r : Reached) (l : Trail) (good : Good m input sections f p around b s state)
-    (x : IsBlockTrail m input sections f p around false start b state r l) (writes : Bool) (t : Ty) (outside : IsOutside p.structs writes t l) (may : MayWrite true l.picks) (sound_t : IsSound (length p.structs) t) (value : ℕ) (v : Value) (typed : is_value_of p.structs t v ≡ true) (stands : Stands state.ids value v) where
+    (x : IsBlockTrail m input sections f p around false start b state r l) (writes : Bool) (t : Ty) (outside : IsOutside p.structs p.blocks writes t l) (may : MayWrite true l.picks) (sound_t : IsSound (length p.structs) t) (value : ℕ) (v : Value) (typed : is_value_of p.structs t v ≡ true) (stands : Stands state.ids value v) where
   abbrev id : ℕ
   id = x.begins.id
 

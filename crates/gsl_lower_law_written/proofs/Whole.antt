@@ -43,15 +43,15 @@ use Rattle.gsl_lower_follows.specs.Giving.{After, Does, none_waits}
 use Rattle.gsl_lower_follows.proofs.Doing.{does_lift}
 use Rattle.gsl_lower_law_stored.specs.Buffers.{KnowsBuffers, with_bytes_of, with_value}
 use Rattle.gsl_lower_law_stored.proofs.Put.{words_stored}
-use Rattle.gsl_lower_reaching.specs.Reaching.{IsBlockTrail, PicksBy, Start}
-use Rattle.gsl_lower_reaching.specs.Trails.{IsInside, IsPicked, Trail}
-use Rattle.gsl_lower_reaching.proofs.Seen.{index_is}
-use Rattle.gsl_lower_elements.proofs.Standing.{bytes, from, held, leads, number_each, numbers_are, pointee, points, run, to, whole_is}
+use Rattle.gsl_lower_writes.specs.OfReaching.{IsBlockTrail, PicksBy, Start}
+use Rattle.gsl_lower_writes.specs.OfReaching.{IsInside, IsPicked, Trail}
+use Rattle.gsl_lower_writes.proofs.OfReaching.{index_is}
+use Rattle.gsl_lower_writes.proofs.OfElements.{bytes, from, held, leads, number_each, numbers_are, pointee, points, run, to, whole_is}
 use Rattle.gsl_lower_law_written.proofs.Words.{lying, lying_below, lying_many, lying_value}
 
 module _ (m : Module) (input : Input) (sections : Sections) (f : Frame m input sections) (p : Program) (around : Around) (are : AreStructs p.structs) (knows : KnowsBuffers m input sections f p) (start : Start) (b : Flow) (s : shader.State) (state : State) (r : Reached) (l : Trail)
     (good : Good m input sections f p around b s state) (x : IsBlockTrail m input sections f p around false start b state r l) (own : is_push x.begins.block.kind ≡ false) (t : Ty) (a : Access) (shape : Shape) (sound_t : IsSound (length p.structs) t) (shaped : shape_of t ≡ Some shape) (writes : Bool)
-    (inside : IsInside p.structs writes t a l) (none : l.picks ≡ None) (value : ℕ) (v : Value) (typed : is_value_of p.structs t v ≡ true) (stands : Stands state.ids value v) where
+    (inside : IsInside p.structs p.blocks writes t a l) (none : l.picks ≡ None) (value : ℕ) (v : Value) (typed : is_value_of p.structs t v ≡ true) (stands : Stands state.ids value v) where
   abbrev it : List ℕ
   it = bytes m input sections f p around are start b s state r l good x
 
@@ -69,7 +69,7 @@ module _ (m : Module) (input : Input) (sections : Sections) (f : Frame m input s
   of_type : shape_of l.ty ≡ Some shape
   of_type = ap shape_of (whole_is m input sections f p around are start b s state r l good x writes t a inside ∙ picked.0) ∙ shaped
 
-  of : IsOf shape v
+  pub of : IsOf shape v
   of = (value_shape p.structs t shape v are sound_t shaped typed).1
 
   some : 1 ≤ shape.1
@@ -114,11 +114,13 @@ module _ (m : Module) (input : Input) (sections : Sections) (f : Frame m input s
   then_good = words_stored m input sections f p around knows x.begins.number x.begins.id x.begins.block x.begins.knows.known x.begins.knows.seat own b s state good it (held m input sections f p around are start b s state r l good x).1 shape.1 x.begins.offset l.front leads_run some words
       (lying_many x.begins.class x.begins.inside shape v of) (lying_below x.begins.class x.begins.inside shape v of)
 
-  pub whole_written : (units : ℕ) → Does m input sections f p 0 units state (λ done later one u last. After m input sections f p around false b state later u last) none_waits (Got (tt {0}) (means_stored a v s) units) (stores p.structs t r value b)
+  -- what leaves these bytes there stores it, by whatever pointer
+  pub whole_left : (to : Reached) → Acts m input sections Nothing (stored_left m input sections state state.variables later_buffers) state b.sections (stored shape to value)
+      → (units : ℕ) → Does m input sections f p 0 units state (λ done later one u last. After m input sections f p around false b state later u last) none_waits (Got (tt {0}) (means_stored a v s) units) (stores p.structs t to value b)
   unfolding stores
-  whole_written units =
-      subst (λ o. Does m input sections f p 0 units state (λ done later one u last. After m input sections f p around false b state later u last) none_waits (Got (tt {0}) (means_stored a v s) units) (store_by p.structs t r value o b)) (sym shaped)
-      (does_lift m input sections f p around units b s state Nothing (stored_left m input sections state state.variables later_buffers) (λ done later one u last. After m input sections f p around false b state later u last) none_waits (tt {0}) (means_stored a v s) (stored shape r value) good acts
+  whole_left to storing units =
+      subst (λ o. Does m input sections f p 0 units state (λ done later one u last. After m input sections f p around false b state later u last) none_waits (Got (tt {0}) (means_stored a v s) units) (store_by p.structs t to value o b)) (sym shaped)
+      (does_lift m input sections f p around units b s state Nothing (stored_left m input sections state state.variables later_buffers) (λ done later one u last. After m input sections f p around false b state later u last) none_waits (tt {0}) (means_stored a v s) (stored shape to value) good storing
       (λ done later q inside_later extends.
       subst (λ u. After m input sections f p around false b state (record { sections = later; place = b.place }) u (record (leaving state (stored_left m input sections state state.variables later_buffers) q.ids) { rest = coming m input sections f later })) (sym means)
       (record {
@@ -136,3 +138,6 @@ module _ (m : Module) (input : Input) (sections : Sections) (f : Frame m input s
         held = record { same = λ holder n less at. refl };
         ids = λ e. q.keeps;
       })))
+
+  pub whole_written : (units : ℕ) → Does m input sections f p 0 units state (λ done later one u last. After m input sections f p around false b state later u last) none_waits (Got (tt {0}) (means_stored a v s) units) (stores p.structs t r value b)
+  whole_written = whole_left r acts

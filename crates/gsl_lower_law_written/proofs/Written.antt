@@ -22,8 +22,8 @@ use Rattle.gsl_lower_law.specs.Values.{Stands}
 use Rattle.gsl_lower_follows.specs.Frames.{Frame, Good}
 use Rattle.gsl_lower_follows.specs.Giving.{After, Does, none_waits}
 use Rattle.gsl_lower_law_stored.specs.Buffers.{KnowsBuffers}
-use Rattle.gsl_lower_reaching.specs.Reaching.{IsBlockTrail, Start}
-use Rattle.gsl_lower_reaching.specs.Trails.{Chosen, IsChosen, IsInside, IsPicked, MayWrite, Trail}
+use Rattle.gsl_lower_writes.specs.OfReaching.{IsBlockTrail, Start}
+use Rattle.gsl_lower_writes.specs.OfReaching.{Chosen, IsChosen, IsInside, IsPicked, MayWrite, Trail}
 use Rattle.gsl_lower_writes.proofs.Once.{are_few}
 use Rattle.gsl_lower_law_written.proofs.One.{one_written}
 use Rattle.gsl_lower_law_written.proofs.Parts.{parts_written}
@@ -31,7 +31,7 @@ use Rattle.gsl_lower_law_written.proofs.Whole.{whole_written}
 
 module _ (m : Module) (input : Input) (sections : Sections) (f : Frame m input sections) (p : Program) (around : Around) (are : AreStructs p.structs) (knows : KnowsBuffers m input sections f p) (start : Start) (b : Flow) (s : shader.State) (state : State) (r : Reached) (l : Trail)
     (good : Good m input sections f p around b s state) (x : IsBlockTrail m input sections f p around false start b state r l) (own : is_push x.begins.block.kind ≡ false) (t : Ty) (a : Access) (shape : Shape) (sound_t : IsSound (length p.structs) t) (shaped : shape_of t ≡ Some shape) (writes : Bool)
-    (inside : IsInside p.structs writes t a l) (may : MayWrite true l.picks) (value : ℕ) (v : Value) (typed : is_value_of p.structs t v ≡ true) (stands : Stands state.ids value v) (units : ℕ) where
+    (inside : IsInside p.structs p.blocks writes t a l) (may : MayWrite true l.picks) (value : ℕ) (v : Value) (typed : is_value_of p.structs t v ≡ true) (stands : Stands state.ids value v) (units : ℕ) where
   abbrev Written : Type 0
   Written = Does m input sections f p 0 units state (λ done later one u last. After m input sections f p around false b state later u last) none_waits (Got (tt {0}) (stored a v s) units) (stores p.structs t r value b)
 

@@ -11,6 +11,7 @@ use Rattle.gsl_tree.specs.Expressions.{HasPartType}
 use Rattle.gsl_tree.specs.Laying.{layout_of}
 use Rattle.gsl_tree.specs.Shapes.{Shape, shape_of}
 use Rattle.gsl_tree.specs.declared.program.Program.{Program}
+use Rattle.gsl_tree.specs.declared.unit.Block.{Block as Declared}
 use Rattle.gsl_typed_law.specs.Parts.{LeadsTo}
 use Rattle.gsl_views.specs.Paths.{Leads}
 use Rattle.gsl_meaning.specs.Accesses.{Access, member_of}
@@ -43,9 +44,9 @@ pub behind_beyond : (size : ℕ) (l : Layout) (offset : ℕ) (words : List ℕ) 
 behind_beyond size l offset [] k structs ty out beyond = absurd out
 behind_beyond size l offset (number ∷ more) k structs ty out beyond = beyond
 
-pub inside_further : (structs : List StructType) (writes : Bool) (base t : Ty) (k : ℕ) (a : Access) (l : Trail) → l.words ≡ [] → a.path ≡ l.front ++ l.words → a.picked ≡ None → IsSound (length structs) t → IsInside structs writes base a l
-    → IsInside structs writes t (member_of a k) (further l k t)
-inside_further structs writes base t k a l none path unpicked sound is = record {
+pub inside_further : (structs : List StructType) (blocks : List Declared) (writes : Bool) (base t : Ty) (k : ℕ) (a : Access) (l : Trail) → l.words ≡ [] → a.path ≡ l.front ++ l.words → a.picked ≡ None → IsSound (length structs) t → IsInside structs blocks writes base a l
+    → IsInside structs blocks writes t (member_of a k) (further l k t)
+inside_further structs blocks writes base t k a l none path unpicked sound is = record {
   begins = is.begins;
   whole = t;
   sound = sound;
@@ -84,7 +85,7 @@ module _ (m : Module) (input : Input) (sections : Sections) (f : Frame m input s
         by [] e leads beyond = e
         by (number ∷ more) e leads beyond = absurd (not_beyond p.structs (size_of m input x.begins.id) x.begins.block.std140 l.ty leads.0 x.begins.offset number are leads.1 beyond.0 beyond.1)
 
-    pub no_words : IsInside p.structs writes base a l → IsBlockTrail m input sections f p around false lies b state r l → l.words ≡ []
+    pub no_words : IsInside p.structs p.blocks writes base a l → IsBlockTrail m input sections f p around false lies b state r l → l.words ≡ []
     no_words inside x = no_words_to inside.whole inside.leads x
 
     -- It leads to what is of the type, by the numbers in front.
@@ -95,7 +96,7 @@ module _ (m : Module) (input : Input) (sections : Sections) (f : Frame m input s
       pub unpicked : a.picked ≡ None
       pub no_picks : l.picks ≡ None
 
-    pub block_here : ((shape : Shape) → shape_of base ≡ Some shape → ⊥) → IsInside p.structs writes base a l → IsBlockTrail m input sections f p around false lies b state r l → IsHere
+    pub block_here : ((shape : Shape) → shape_of base ≡ Some shape → ⊥) → IsInside p.structs p.blocks writes base a l → IsBlockTrail m input sections f p around false lies b state r l → IsHere
     block_here shapeless inside x =
         let w = whole_picked inside.whole base (l.front ++ l.words) l.picks a.path a.picked shapeless inside.picks in
         let none = no_words inside x in

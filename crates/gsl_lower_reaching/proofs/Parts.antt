@@ -15,6 +15,7 @@ use Rattle.gsl_tree.specs.Shapes.{Shape, shape_of}
 use Rattle.gsl_tree.specs.Values.{is_value_of}
 use Rattle.gsl_values.specs.declared.value.Value.{Value}
 use Rattle.gsl_tree.specs.declared.program.Program.{Program}
+use Rattle.gsl_tree.specs.declared.unit.Block.{Block as Declared}
 use Rattle.gsl_typed_law.specs.Parts.{IsPart}
 use Rattle.gsl_meaning.specs.Accesses.{Access, member_of, picked_of, swizzle_of}
 use Rattle.gsl_machine.specs.State.{State}
@@ -61,8 +62,8 @@ out_whole structs ty t words None none out = (refl, out)
 out_whole structs ty t words (Some c) none out = absurd (none _ out.gives)
 
 -- a part more of what was reached whole
-pub inside_longer : (structs : List StructType) (writes : Bool) (base t : Ty) (k : ℕ) (a : Access) (l : Trail) → ((shape : Shape) → shape_of base ≡ Some shape → ⊥) → IsPart structs base k t → IsSound (length structs) t → IsInside structs writes base a l → IsInside structs writes t (member_of a k) (longer l k)
-inside_longer structs writes base t k a l none part sound is =
+pub inside_longer : (structs : List StructType) (blocks : List Declared) (writes : Bool) (base t : Ty) (k : ℕ) (a : Access) (l : Trail) → ((shape : Shape) → shape_of base ≡ Some shape → ⊥) → IsPart structs base k t → IsSound (length structs) t → IsInside structs blocks writes base a l → IsInside structs blocks writes t (member_of a k) (longer l k)
+inside_longer structs blocks writes base t k a l none part sound is =
     let w = whole_picked is.whole base (l.front ++ l.words) l.picks a.path a.picked none is.picks in
     record {
       begins = is.begins;
@@ -74,18 +75,18 @@ inside_longer structs writes base t k a l none part sound is =
       named = is.named;
     }
 
-pub outside_longer : (structs : List StructType) (writes : Bool) (base t : Ty) (k : ℕ) (l : Trail) → ((shape : Shape) → shape_of base ≡ Some shape → ⊥) → IsOutside structs writes base l → IsOutside structs writes t (longer l k)
-outside_longer structs writes base t k l none is =
+pub outside_longer : (structs : List StructType) (blocks : List Declared) (writes : Bool) (base t : Ty) (k : ℕ) (l : Trail) → ((shape : Shape) → shape_of base ≡ Some shape → ⊥) → IsOutside structs blocks writes base l → IsOutside structs blocks writes t (longer l k)
+outside_longer structs blocks writes base t k l none is =
     let w = out_whole structs l.ty base l.words l.picks none is.out in
     record { out = subst (λ c. IsOut structs l.ty t (l.words ++ k ∷ []) c) (sym w.0) (out_on structs l.ty l.words (k ∷ []) w.1); may = is.may; named = is.named }
 
 -- a value at which it begins has that part too
-pub more_inside : (structs : List StructType) → AreStructs structs → (writes : Bool) (base t : Ty) (k : ℕ) (a : Access) (l : Trail) → ((shape : Shape) → shape_of base ≡ Some shape → ⊥) → IsPart structs base k t → IsSound (length structs) t → IsInside structs writes base a l
+pub more_inside : (structs : List StructType) (blocks : List Declared) → AreStructs structs → (writes : Bool) (base t : Ty) (k : ℕ) (a : Access) (l : Trail) → ((shape : Shape) → shape_of base ≡ Some shape → ⊥) → IsPart structs base k t → IsSound (length structs) t → IsInside structs blocks writes base a l
     → (v : Value) → is_value_of structs l.ty v ≡ true → HasPart v (l.words ++ k ∷ [])
-more_inside structs are writes base t k a l none part sound is v typed = let x = inside_longer structs writes base t k a l none part sound is in has_part structs are l.ty (l.words ++ k ∷ []) x.whole v x.leads typed
+more_inside structs blocks are writes base t k a l none part sound is v typed = let x = inside_longer structs blocks writes base t k a l none part sound is in has_part structs are l.ty (l.words ++ k ∷ []) x.whole v x.leads typed
 
-pub more_outside : (structs : List StructType) → AreStructs structs → (writes : Bool) (base : Ty) (l : Trail) → ((shape : Shape) → shape_of base ≡ Some shape → ⊥) → IsOutside structs writes base l → (k : ℕ) (v : Value) → is_value_of structs l.ty v ≡ true → HasPart v l.words → HasPart v (l.words ++ k ∷ [])
-more_outside structs are writes base l none is k v typed has = absurd (not_both v l.words has (lacks_part structs are l.ty l.words v (out_whole structs l.ty base l.words l.picks none is.out).1 typed))
+pub more_outside : (structs : List StructType) (blocks : List Declared) → AreStructs structs → (writes : Bool) (base : Ty) (l : Trail) → ((shape : Shape) → shape_of base ≡ Some shape → ⊥) → IsOutside structs blocks writes base l → (k : ℕ) (v : Value) → is_value_of structs l.ty v ≡ true → HasPart v l.words → HasPart v (l.words ++ k ∷ [])
+more_outside structs blocks are writes base l none is k v typed has = absurd (not_both v l.words has (lacks_part structs are l.ty l.words v (out_whole structs l.ty base l.words l.picks none is.out).1 typed))
 
 pub member_shapeless : (structs : List StructType) (base : Ty) (number : ℕ) (t : Ty) → HasPartType structs base number t → (shape : Shape) → shape_of base ≡ Some shape → ⊥
 member_shapeless structs base number t (n, struct, member, is, found, at, type) shape has = struct_shapeless n shape (sym (ap shape_of is) ∙ has)
@@ -131,7 +132,7 @@ picked_swizzled count numbers word ps positions path picked below (repeated k fi
     repeated k (map (slice_index firsts) positions) several path_is (ap (λ o. Some (picked_of o positions)) is) (indexes_have (λ first. first < 1) firsts positions all less)
     (indexes_mapped (chosen word) ps positions below ∙ ap (λ l. map (slice_index l) positions) are ∙ sym (indexes_mapped (λ first. k) firsts positions less))
 
-module _ (structs : List StructType) (writes written : Bool) (base t : Ty) (shape : Shape) (positions : List ℕ) (is : Swizzles base t shape positions) (may : written ≡ true → (writes ≡ true) × (repeats positions ≡ false)) where
+module _ (structs : List StructType) (blocks : List Declared) (writes written : Bool) (base t : Ty) (shape : Shape) (positions : List ℕ) (is : Swizzles base t shape positions) (may : written ≡ true → (writes ≡ true) × (repeats positions ≡ false)) where
   below_chosen : (scalar_shape : Shape) → shape_of base ≡ Some scalar_shape → AllByRecursion (λ position. position < scalar_shape.1) positions
   below_chosen other of = subst (λ (s : Shape). AllByRecursion (λ position. position < s.1) positions) (shape_same (sym is.of ∙ of)) is.below
 
@@ -169,7 +170,7 @@ module _ (structs : List StructType) (writes written : Bool) (base t : Ty) (shap
   below_inside whole numbers path picked None x d e = absurd cc
   below_inside whole numbers path picked (Some c) x d e = let same : c ≡ d = cc in subst (λ (d : Chosen). AllByRecursion (λ position. position < length d.positions) positions) same (below_chosen (c.shape.0, length c.positions) x.gives)
 
-  pub inside_swizzled : (a : Access) (l : Trail) → IsInside structs writes base a l → IsInside structs written t (swizzle_of a positions) (swizzled_trail shape positions l)
+  pub inside_swizzled : (a : Access) (l : Trail) → IsInside structs blocks writes base a l → IsInside structs blocks written t (swizzle_of a positions) (swizzled_trail shape positions l)
   inside_swizzled a l x = record {
     begins = x.begins;
     whole = x.whole;
@@ -194,7 +195,7 @@ module _ (structs : List StructType) (writes written : Bool) (base t : Ty) (shap
   below_outside ty words None x d e = absurd cc
   below_outside ty words (Some c) x d e = let same : c ≡ d = cc in subst (λ (d : Chosen). AllByRecursion (λ position. position < length d.positions) positions) same (below_chosen (c.shape.0, length c.positions) x.gives)
 
-  pub outside_swizzled : (l : Trail) → IsOutside structs writes base l → IsOutside structs written t (swizzled_trail shape positions l)
+  pub outside_swizzled : (l : Trail) → IsOutside structs blocks writes base l → IsOutside structs blocks written t (swizzled_trail shape positions l)
   outside_swizzled l x = record { out = picks_outside l.ty l.words l.picks x.out; may = may_swizzled l.picks (below_outside l.ty l.words l.picks x.out) x.may; named = λ e. x.named (may e).0 }
 
 -- ---- what was reached

@@ -16,6 +16,7 @@ use Rattle.gsl_tree.specs.Laying.{layout_of}
 use Rattle.gsl_tree.specs.Paths.{repeats}
 use Rattle.gsl_tree.specs.Shapes.{Shape, shape_of}
 use Rattle.gsl_tree.specs.declared.program.Program.{Program}
+use Rattle.gsl_tree.specs.declared.unit.Block.{Block as Declared}
 use Rattle.gsl_tree.specs.declared.unit.Interface.{Interface}
 use Rattle.gsl_meaning.specs.Accesses as access
 use Rattle.gsl_views.specs.Paths.{Leads}
@@ -52,7 +53,7 @@ use Rattle.gsl_lower_reaching.specs.Reaching.{GivesPlace, HasReached, HasStrayed
 use Rattle.gsl_lower_reaching.specs.Reaching.Begins.{variable, value}
 use Rattle.gsl_lower_reaching.specs.Reaching.IsTrail.{own, in_block}
 use Rattle.gsl_lower_reaching.specs.Reaching.Start.{OfBlock, OfValue, OfVariable}
-use Rattle.gsl_lower_reaching.specs.Trails.{IsInside, IsOfVariable, IsOutside, Trail}
+use Rattle.gsl_lower_reaching.specs.Trails.{IsInside, IsOutside, MayStore, Trail}
 use Rattle.gsl_lower_reaching.specs.Stepping.{Swizzles}
 use Rattle.gsl_lower_reaching.proofs.Blocks.{behind_beyond, block_further, block_here, block_longer, block_member, block_swizzled, further, inside_further, out_some}
 use Rattle.gsl_lower_reaching.proofs.Parts.{inside_longer, inside_swizzled, longer, member_shapeless, more_inside, more_outside, outside_longer, outside_swizzled, own_member, own_swizzled, swizzled_trail}
@@ -61,13 +62,13 @@ some_same : {a b : Root} → Some a ≡ Some b → a ≡ b
 some_same e = cc
 
 -- names are those of variables
-variable_root : (name : Name) (root : Root) → root_of name ≡ Some root → IsOfVariable root
-variable_root (Global number) root e = subst IsOfVariable (some_same e) tt
-variable_root (Passed number) root e = subst IsOfVariable (some_same e) tt
-variable_root (Stage number) root e = absurd cc
-variable_root (Param number) root e = subst IsOfVariable (some_same e) tt
-variable_root (Local number) root e = subst IsOfVariable (some_same e) tt
-variable_root (Holder number) root e = absurd cc
+variable_root : (blocks : List Declared) (name : Name) (root : Root) → root_of name ≡ Some root → MayStore blocks root
+variable_root blocks (Global number) root e = subst (MayStore blocks) (some_same e) tt
+variable_root blocks (Passed number) root e = subst (MayStore blocks) (some_same e) tt
+variable_root blocks (Stage number) root e = absurd cc
+variable_root blocks (Param number) root e = subst (MayStore blocks) (some_same e) tt
+variable_root blocks (Local number) root e = subst (MayStore blocks) (some_same e) tt
+variable_root blocks (Holder number) root e = absurd cc
 
 module _ (m : Module) (input : Input) (sections : Sections) (f : Frame m input sections) (p : Program) where
   -- what is given by what was given, on both sides
@@ -116,7 +117,7 @@ module _ (m : Module) (input : Input) (sections : Sections) (f : Frame m input s
                   numbers = tt;
                   picks = tt;
                 });
-                inside = record { begins = refl; whole = t; sound = known.sound; leads = refl; picks = (refl, refl, refl); may = tt; named = λ e. variable_root name root begins };
+                inside = record { begins = refl; whole = t; sound = known.sound; leads = refl; picks = (refl, refl, refl); may = tt; named = λ e. variable_root p.blocks name root begins };
                 after = after_same m input sections f p around b s state good;
               })
 
@@ -165,16 +166,16 @@ module _ (m : Module) (input : Input) (sections : Sections) (f : Frame m input s
       pub record LeadsOn (b : Flow) (state : State) (r : Reached) (a : Access) : Type 0 where
         pub trail : Trail
         pub is : IsTrail m input sections f p around false lies b state (g r) trail
-        pub inside : IsInside p.structs written t (h a) trail
+        pub inside : IsInside p.structs p.blocks written t (h a) trail
 
       pub record StraysOn (b : Flow) (state : State) (r : Reached) : Type 0 where
         pub trail : Trail
         pub is : IsTrail m input sections f p around false lies b state (g r) trail
-        pub outside : IsOutside p.structs written t trail
+        pub outside : IsOutside p.structs p.blocks written t trail
 
       pub place_maps : (emit : Emit Reached) (run : Run Access)
-          → ((b : Flow) (state : State) (r : Reached) (a : Access) (l : Trail) → IsInside p.structs writes whole_type a l → IsTrail m input sections f p around false lies b state r l → LeadsOn b state r a)
-          → ((b : Flow) (state : State) (r : Reached) (l : Trail) → IsOutside p.structs writes whole_type l → IsTrail m input sections f p around false lies b state r l → StraysOn b state r)
+          → ((b : Flow) (state : State) (r : Reached) (a : Access) (l : Trail) → IsInside p.structs p.blocks writes whole_type a l → IsTrail m input sections f p around false lies b state r l → LeadsOn b state r a)
+          → ((b : Flow) (state : State) (r : Reached) (l : Trail) → IsOutside p.structs p.blocks writes whole_type l → IsTrail m input sections f p around false lies b state r l → StraysOn b state r)
           → GivesPlace m input sections f p around splits lies writes whole_type emit run → GivesPlace m input sections f p around splits lies written t (emit >>= (λ r. given (g r))) (shader_run.◌>>=◌ run (λ a. shader_given (h a)))
       place_maps emit run insides outsides gives = record {
         adds = adds_then emit (λ r. given (g r)) gives.adds (λ r. adds_given (g r));
@@ -194,38 +195,38 @@ module _ (m : Module) (input : Input) (sections : Sections) (f : Frame m input s
         shapeless : (shape : Shape) → shape_of a.ty ≡ Some shape → ⊥
         shapeless = member_shapeless p.structs a.ty number t part
 
-        insides : (b : Flow) (state : State) (r : Reached) (y : Access) (l : Trail) → IsInside p.structs writes a.ty y l → IsTrail m input sections f p around false lies b state r l → LeadsOn splits lies writes writes t a.ty (λ r. part_of r (Fixed number)) (λ x. member_of x number) b state r y
+        insides : (b : Flow) (state : State) (r : Reached) (y : Access) (l : Trail) → IsInside p.structs p.blocks writes a.ty y l → IsTrail m input sections f p around false lies b state r l → LeadsOn splits lies writes writes t a.ty (λ r. part_of r (Fixed number)) (λ x. member_of x number) b state r y
         insides b state r y l inside (own x) = record {
           trail = longer l number;
-          is = own (own_member m input sections f p around lies b state r l number (λ v. more_inside p.structs are writes a.ty t number y l shapeless (inl part) sound inside v.value v.typed) x);
-          inside = inside_longer p.structs writes a.ty t number y l shapeless (inl part) sound inside;
+          is = own (own_member m input sections f p around lies b state r l number (λ v. more_inside p.structs p.blocks are writes a.ty t number y l shapeless (inl part) sound inside v.value v.typed) x);
+          inside = inside_longer p.structs p.blocks writes a.ty t number y l shapeless (inl part) sound inside;
         }
         insides b state r y l inside (in_block x) =
             let here = block_here m input sections f p around are lies writes a.ty b state r y l shapeless inside x in
             record {
               trail = further l number t;
               is = in_block (block_further m input sections f p around lies b state r l x (Fixed number) number t refl here.none here.no_picks (block_member m input sections f p around are lies writes a.ty b state r y l here x number t part) sound);
-              inside = inside_further p.structs writes a.ty t number y l here.none here.path_is here.unpicked sound inside;
+              inside = inside_further p.structs p.blocks writes a.ty t number y l here.none here.path_is here.unpicked sound inside;
             }
 
-        outsides : (b : Flow) (state : State) (r : Reached) (l : Trail) → IsOutside p.structs writes a.ty l → IsTrail m input sections f p around false lies b state r l → StraysOn splits lies writes writes t a.ty (λ r. part_of r (Fixed number)) (λ x. member_of x number) b state r
+        outsides : (b : Flow) (state : State) (r : Reached) (l : Trail) → IsOutside p.structs p.blocks writes a.ty l → IsTrail m input sections f p around false lies b state r l → StraysOn splits lies writes writes t a.ty (λ r. part_of r (Fixed number)) (λ x. member_of x number) b state r
         outsides b state r l outside (own x) = record {
           trail = longer l number;
-          is = own (own_member m input sections f p around lies b state r l number (λ v. more_outside p.structs are writes a.ty l shapeless outside number v.value v.typed v.has) x);
-          outside = outside_longer p.structs writes a.ty t number l shapeless outside;
+          is = own (own_member m input sections f p around lies b state r l number (λ v. more_outside p.structs p.blocks are writes a.ty l shapeless outside number v.value v.typed v.has) x);
+          outside = outside_longer p.structs p.blocks writes a.ty t number l shapeless outside;
         }
         outsides b state r l outside (in_block x) = record {
           trail = longer l number;
           is = in_block (block_longer m input sections f p around lies b state r l x (Fixed number) number refl (behind_beyond (size_of m input x.begins.id) (laid_as x.begins.block.std140 p.structs l.ty) x.begins.offset l.words number p.structs l.ty (out_some p.structs l.ty a.ty l.words l.picks shapeless outside.out) x.begins.beyond));
-          outside = outside_longer p.structs writes a.ty t number l shapeless outside;
+          outside = outside_longer p.structs p.blocks writes a.ty t number l shapeless outside;
         }
 
     pub swizzle_place : (splits : Bool) (lies : Start) (writes written : Bool) (t : Ty) (shape : Shape) (lanes : Lanes) (a : Lower) (run : Run Access) → Swizzles a.ty t shape (positions_of lanes) → (written ≡ true → (writes ≡ true) × (repeats (positions_of lanes) ≡ false))
         → GivesPlace m input sections f p around splits lies writes a.ty a.reach run → GivesPlace m input sections f p around splits lies written t (swizzled_by a lanes) (shader_run.◌>>=◌ run (λ x. shader_given (swizzle_of x (positions_of lanes))))
     swizzle_place splits lies writes written t shape lanes a run is may gives =
         place_maps splits lies writes written t a.ty (swizzled (shape_or a.ty) (positions_of lanes)) (λ x. swizzle_of x (positions_of lanes)) a.reach run
-        (λ b state r y l inside x. record { trail = swizzled_trail shape (positions_of lanes) l; is = swizzles b state r l x; inside = inside_swizzled p.structs writes written a.ty t shape (positions_of lanes) is may y l inside })
-        (λ b state r l outside x. record { trail = swizzled_trail shape (positions_of lanes) l; is = swizzles b state r l x; outside = outside_swizzled p.structs writes written a.ty t shape (positions_of lanes) is may l outside })
+        (λ b state r y l inside x. record { trail = swizzled_trail shape (positions_of lanes) l; is = swizzles b state r l x; inside = inside_swizzled p.structs p.blocks writes written a.ty t shape (positions_of lanes) is may y l inside })
+        (λ b state r l outside x. record { trail = swizzled_trail shape (positions_of lanes) l; is = swizzles b state r l x; outside = outside_swizzled p.structs p.blocks writes written a.ty t shape (positions_of lanes) is may l outside })
         gives
       where
         by : (b : Flow) (state : State) (r : Reached) (l : Trail) → IsTrail m input sections f p around false lies b state r l → IsTrail m input sections f p around false lies b state (swizzled shape (positions_of lanes) r) (swizzled_trail shape (positions_of lanes) l)
@@ -237,11 +238,11 @@ module _ (m : Module) (input : Input) (sections : Sections) (f : Frame m input s
 
     -- ---- members of blocks
 
-    module _ (block number : ℕ) (t : Ty) (known : KnowsMember m input sections f p around block number t) where
+    module _ (block number : ℕ) (writes : Bool) (t : Ty) (known : KnowsMember m input sections f p around block number t) (may : writes ≡ true → MayStore p.blocks (access.Block block)) where
       abbrev from_class : ℕ → Emit Reached
       from_class id = told (λ place. place.classes) block >>= (λ class. given (part_of (whole (Variable id class)) (Fixed number)))
 
-      pub block_place : GivesPlace m input sections f p around false OfBlock false t (in_block_code block number) (shader_given (member_root block number))
+      pub block_place : GivesPlace m input sections f p around false OfBlock writes t (in_block_code block number) (shader_given (member_root block number))
       block_place = record {
         adds = adds_then (told (λ place. place.blocks) block) (λ id. told (λ place. place.classes) block >>= (λ class. given (part_of (whole (Variable id class)) (Fixed number)))) (λ b. by_id b (slice_get b.place.blocks block))
             (λ id. adds_then (told (λ place. place.classes) block) (λ class. given (part_of (whole (Variable id class)) (Fixed number))) (λ b. by_id b (slice_get b.place.classes block)) (λ class. adds_given (part_of (whole (Variable id class)) (Fixed number))));
@@ -253,12 +254,12 @@ module _ (m : Module) (input : Input) (sections : Sections) (f : Frame m input s
           by_id b (Some id) = adds_given id b
 
           by_class : (b : Flow) (s : shader.State) (units : ℕ) (state : State) → Good m input sections f p around b s state → (id : ℕ) → slice_get b.place.blocks block ≡ Some id → (c : Option ℕ) → slice_get b.place.classes block ≡ c
-              → Does m input sections f p 0 units state (HasReached m input sections f p around false OfBlock false t b state) (HasStrayed m input sections f p around false OfBlock false t b state) (Got (member_root block number) s units) (behind (id_at c b) (λ class. given (part_of (whole (Variable id class)) (Fixed number))))
+              → Does m input sections f p 0 units state (HasReached m input sections f p around false OfBlock writes t b state) (HasStrayed m input sections f p around false OfBlock writes t b state) (Got (member_root block number) s units) (behind (id_at c b) (λ class. given (part_of (whole (Variable id class)) (Fixed number))))
           by_class b s units state good id e None at = tt
           by_class b s units state good id e (Some class) at = λ inside.
               let knows = known.knows id (sym (ap (λ (place : FlowPlace). slice_get place.blocks block) good.seated.same) ∙ e) in
               let laid = block_member_laid p.structs (size_of m input id) known.block number known.one known.found in
-              reaches_here m input units state (HasReached m input sections f p around false OfBlock false t b state (part_of (whole (Variable id class)) (Fixed number)) b (member_root block number) s)
+              reaches_here m input units state (HasReached m input sections f p around false OfBlock writes t b state (part_of (whole (Variable id class)) (Fixed number)) b (member_root block number) s)
               (record {
                 trail = record { root = access.Block block; front = number ∷ []; ty = t; words = []; picks = None };
                 is = in_block (record {
@@ -266,12 +267,12 @@ module _ (m : Module) (input : Input) (sections : Sections) (f : Frame m input s
                   numbers = (refl, tt);
                   picks = tt;
                 });
-                inside = record { begins = refl; whole = t; sound = known.sound; leads = refl; picks = (refl, refl, refl); may = tt; named = λ e. absurd (let z : false ≡ true = e in cc) };
+                inside = record { begins = refl; whole = t; sound = known.sound; leads = refl; picks = (refl, refl, refl); may = tt; named = may };
                 after = after_same m input sections f p around b s state good;
               })
 
           by : (b : Flow) (s : shader.State) (units : ℕ) (state : State) → Good m input sections f p around b s state → (o : Option ℕ) → slice_get b.place.blocks block ≡ o
-              → Does m input sections f p 0 units state (HasReached m input sections f p around false OfBlock false t b state) (HasStrayed m input sections f p around false OfBlock false t b state) (Got (member_root block number) s units) (behind (id_at o b) from_class)
+              → Does m input sections f p 0 units state (HasReached m input sections f p around false OfBlock writes t b state) (HasStrayed m input sections f p around false OfBlock writes t b state) (Got (member_root block number) s units) (behind (id_at o b) from_class)
           by b s units state good None e = tt
           by b s units state good (Some id) e = by_class b s units state good id e (slice_get b.place.classes block) refl
 

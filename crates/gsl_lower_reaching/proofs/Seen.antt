@@ -76,7 +76,7 @@ module _ (m : Module) (input : Input) (sections : Sections) (f : Frame m input s
   begins_typed at count b s state last loose base parts l good (holder x) = ap (λ root. is_value_of p.structs l.ty (value_at (root_value root s) l.front)) x.begins ∙ x.typed
 
   module _ (are : AreStructs p.structs) (at : At) (count : ℕ) (b : Flow) (s : shader.State) (state last : State) (loose : Start) (writes : Bool) (base : Base) (parts : List Part) (t : Ty) (a : Access) (l : Trail)
-      (good : Good m input sections f p around b s state) (begins : Begins m input sections f p around at count last loose base parts l) (inside : IsInside p.structs writes t a l) where
+      (good : Good m input sections f p around b s state) (begins : Begins m input sections f p around at count last loose base parts l) (inside : IsInside p.structs p.blocks writes t a l) where
     abbrev pub there : Value
     there = value_at (root_value a.root s) (l.front ++ l.words)
 

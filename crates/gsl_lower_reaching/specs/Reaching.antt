@@ -209,14 +209,14 @@ module _ (m : Module) (input : Input) (whole : Sections) (f : Frame m input whol
   pub record HasReached (splits : Bool) (loose : Start) (writes : Bool) (t : Ty) (b : Flow) (state : State) (r : Reached) (later : Flow) (a : Access) (s : shader.State) (last : State) : Type 0 where
     pub trail : Trail
     pub is : IsTrail false loose later last r trail
-    pub inside : IsInside p.structs writes t a trail
+    pub inside : IsInside p.structs p.blocks writes t a trail
     pub after : After m input whole f p around splits b state later s last
 
   -- It leads out of bounds, so that it strays as soon as something is read or stored there.
   pub record HasStrayed (splits : Bool) (loose : Start) (writes : Bool) (t : Ty) (b : Flow) (state : State) (r : Reached) (later : Flow) (s : shader.State) (last : State) : Type 0 where
     pub trail : Trail
     pub is : IsTrail false loose later last r trail
-    pub outside : IsOutside p.structs writes t trail
+    pub outside : IsOutside p.structs p.blocks writes t trail
     pub after : After m input whole f p around splits b state later s last
 
   -- What is lowered leads where the shader's access does, wherever it stands.

@@ -1,6 +1,6 @@
 -- Where an expression leads in a variable or a value, in numbers, and what it is to lead to a part that is there, or to none (GLSL 4.50, 5.5, 5.7
 -- and 5.8).
-use Rattle.std.specs.Prelude.{◌≡◌, ℕ, ◌<◌, ◌≤◌, ◌⊎◌, Bool, true, false, List, [], ◌∷◌, ◌++◌, length, map, Option, Some, None}
+use Rattle.std.specs.Prelude.{◌≡◌, ℕ, ◌<◌, ◌≤◌, ◌⊎◌, Bool, true, false, List, [], ◌∷◌, ◌++◌, length, map, slice_get, Option, Some, None}
 use Rattle.std.specs.List.{AllByRecursion}
 use Rattle.gsl_types.specs.Known.{IsSound}
 use Rattle.gsl_types.specs.declared.ty.StructType.{StructType}
@@ -9,6 +9,8 @@ use Rattle.gsl_tree.specs.Expressions.{element_of}
 use Rattle.gsl_tree.specs.Operations.{length_of}
 use Rattle.gsl_tree.specs.Paths.{repeats}
 use Rattle.gsl_tree.specs.Shapes.{Shape, shape_of}
+use Rattle.gsl_tree.specs.WellTyped.{is_push}
+use Rattle.gsl_tree.specs.declared.unit.Block.{Block as Declared}
 use Rattle.gsl_typed_law.specs.Parts.{IsPart, LeadsTo}
 use Rattle.gsl_meaning.specs.Accesses.{Access, Block, Loose, Root}
 use Rattle.gsl_lower_law_places.specs.Components.{AreWithin, chosen}
@@ -66,20 +68,26 @@ IsOfVariable (Loose v) = ⊥
 IsOfVariable (Block number) = ⊥
 IsOfVariable _ = Unit {0}
 
+-- What may be stored to begins at a variable, or in a block of a program's that is none of push constants.
+abbrev pub MayStore : List Declared → Root → Type 0
+MayStore blocks (Loose v) = ⊥
+MayStore blocks (Block number) = (block : Declared) → slice_get blocks number ≡ Some block → is_push block.kind ≡ false
+MayStore blocks _ = Unit {0}
+
 -- What may be written picks no component twice.
 abbrev pub MayWrite : Bool → Option Chosen → Type 0
 MayWrite writes None = Unit {0}
 MayWrite writes (Some c) = writes ≡ true → repeats c.positions ≡ false
 
--- A trail leads to a part of a type that is there, and is that of an access. What may be written is in a variable outside blocks.
-pub record IsInside (structs : List StructType) (writes : Bool) (t : Ty) (a : Access) (l : Trail) : Type 0 where
+-- A trail leads to a part of a type that is there, and is that of an access. What may be written begins where may be stored.
+pub record IsInside (structs : List StructType) (blocks : List Declared) (writes : Bool) (t : Ty) (a : Access) (l : Trail) : Type 0 where
   pub begins : a.root ≡ l.root
   pub whole : Ty
   pub sound : IsSound (length structs) whole
   pub leads : LeadsTo structs l.ty l.words whole
   pub picks : IsPicked whole t (l.front ++ l.words) l.picks a.path a.picked
   pub may : MayWrite writes l.picks
-  pub named : writes ≡ true → IsOfVariable l.root
+  pub named : writes ≡ true → MayStore blocks l.root
 
 -- ---- out of bounds
 
@@ -111,7 +119,7 @@ IsOut structs ty t words None = LeadsOut structs ty words
 IsOut structs ty t words (Some c) = IsMissing structs ty t words c
 
 -- A trail would lead to a part of a type that is not there.
-pub record IsOutside (structs : List StructType) (writes : Bool) (t : Ty) (l : Trail) : Type 0 where
+pub record IsOutside (structs : List StructType) (blocks : List Declared) (writes : Bool) (t : Ty) (l : Trail) : Type 0 where
   pub out : IsOut structs l.ty t l.words l.picks
   pub may : MayWrite writes l.picks
-  pub named : writes ≡ true → IsOfVariable l.root
+  pub named : writes ≡ true → MayStore blocks l.root

@@ -28,6 +28,7 @@ ghost use Rattle.gsl_lower_follows.specs.Giving.{GivesValue};
 ghost use Rattle.gsl_lower_law_names.specs.Named.{IsNamed};
 ghost use Rattle.gsl_lower_reaching.specs.Reaching.{GivesPlace, KnowsMember, Start};
 ghost use Rattle.gsl_lower_reaching.specs.Reaching.Start.{OfBlock, OfValue, OfVariable};
+ghost use Rattle.gsl_lower_reaching.specs.Trails.{MayStore};
 ghost use Rattle.gsl_lower_reaching.specs.Stepping.{Swizzles, held_code, held_means, member_means, swizzle_means};
 
 /// The name of a local variable, a parameter, a global variable, an input or an output leads to its variable.
@@ -38,9 +39,9 @@ pub fn names_lead()
     ensures interface { (m : Module) (input : Input) (sections : Sections) (f : Frame m input sections) (p : Program) (around : Around) (number : ℕ) (i : Option Interface) (writes : Bool) (t : Ty) → IsNamed p around (name.Interface number) t → GivesPlace m input sections f p around false OfVariable writes t (named (λ place. place.interfaces) (interface_class i) number) (given (access.whole (access.Interface number))) }
 {}
 
-/// The name of a member of a block leads to that member, where the module and the function know the block. It is not written.
+/// The name of a member of a block leads to that member, where the module and the function know the block. It may be written where the block is none of push constants.
 pub fn blocks_lead()
-    ensures { (m : Module) (input : Input) (sections : Sections) (f : Frame m input sections) (p : Program) (around : Around) (block number : ℕ) (t : Ty) → KnowsMember m input sections f p around block number t → GivesPlace m input sections f p around false OfBlock false t (in_block block number) (given (member_root block number)) }
+    ensures { (m : Module) (input : Input) (sections : Sections) (f : Frame m input sections) (p : Program) (around : Around) (block number : ℕ) (writes : Bool) (t : Ty) → KnowsMember m input sections f p around block number t → (writes ≡ true → MayStore p.blocks (access.Block block)) → GivesPlace m input sections f p around false OfBlock writes t (in_block block number) (given (member_root block number)) }
 {}
 
 /// What gives a value leads to that value, which is in no variable, and is not written.

@@ -18,9 +18,9 @@ use Rattle.gsl_lower_follows.specs.Giving.{GivesValue, HasGiven, none_waits}
 use Rattle.gsl_lower_follows.proofs.Doing.{does_then}
 use Rattle.gsl_lower_follows.proofs.Growing.{adds_then}
 use Rattle.gsl_lower_follows.proofs.Holding.{does_so}
-use Rattle.gsl_lower_law_expr.proofs.Operands.{given_behind}
-use Rattle.gsl_lower_reaching.specs.Reaching.{GivesPlace, HasReached, HasStrayed, Start}
-use Rattle.gsl_lower_reaching.specs.Reaching.Start.{OfBlock}
+use Rattle.gsl_lower_elements.proofs.OfLawExpr.{given_behind}
+use Rattle.gsl_lower_elements.specs.OfReaching.{GivesPlace, HasReached, HasStrayed, Start}
+use Rattle.gsl_lower_elements.specs.OfReaching.{OfBlock}
 use Rattle.gsl_lower_reads.specs.Accessing.{accessed_means}
 use Rattle.gsl_lower_reads.proofs.Adding.{adds_reads}
 use Rattle.gsl_lower_reads.proofs.Straying.{read_strays}

@@ -37,7 +37,7 @@ use Rattle.gsl_lower_expr.specs.Parts.{read_block, read_by, read_composite, read
 use Rattle.gsl_lower_follows.specs.Giving.{Adds}
 use Rattle.gsl_lower_follows.proofs.Fetching.{adds_giving, adds_holder, adds_type_id, no_state}
 use Rattle.gsl_lower_follows.proofs.Growing.{adds_lift, adds_then}
-use Rattle.gsl_lower_law_expr.proofs.Steps.{Always, always_converted, always_given, always_giving, always_then, always_type}
+use Rattle.gsl_lower_elements.proofs.OfLawExpr.{Always, always_converted, always_given, always_giving, always_then, always_type}
 
 module _ (m : Module) (input : Input) (whole : Sections) where
   always_component : (a : Operand) (position : ℕ) → Always (component a position)

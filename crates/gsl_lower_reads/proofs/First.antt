@@ -25,7 +25,7 @@ use Rattle.gsl_lower_law_leaves.proofs.Structs.{Sized, all_from, members_rows, m
 use Rattle.gsl_lower_law_leaves.proofs.Typed.{elements_are, many_from, part_is, rows}
 use Rattle.gsl_lower_law_picks.specs.Outside.{HasPart}
 use Rattle.gsl_lower_law_places.specs.Leading.{NumberEach}
-use Rattle.gsl_lower_reaching.specs.Reaching.{IsFixed}
+use Rattle.gsl_lower_elements.specs.OfReaching.{IsFixed}
 
 -- A leaf is known by its numbers, and a value has it.
 pub record HasLeaf (v : Value) (one : Leaf) : Type 0 where

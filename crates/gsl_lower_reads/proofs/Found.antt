@@ -17,13 +17,13 @@ use Rattle.gsl_lower_places.specs.declared.reached.Base.{Base}
 use Rattle.gsl_lower_places.specs.declared.reached.Part.{Part}
 use Rattle.gsl_lower_law.specs.Values.{IsOf}
 use Rattle.gsl_lower_law_places.specs.Components.{picks_of}
-use Rattle.gsl_lower_law_expr.proofs.Shapes.{value_shape}
+use Rattle.gsl_lower_elements.proofs.OfLawExpr.{value_shape}
 use Rattle.gsl_lower_holders.specs.Flow.{Flow}
 use Rattle.gsl_lower_follows.specs.Frames.{Frame, Global, Good, Holder, Interface as Passed, Local, Name, Param, Stage}
-use Rattle.gsl_lower_reaching.specs.Reaching.{At, Begins, Start, root_of}
-use Rattle.gsl_lower_reaching.specs.Reaching.Begins.{variable, value, holder}
-use Rattle.gsl_lower_reaching.specs.Trails.{Chosen, IsInside, IsPicked, Trail}
-use Rattle.gsl_lower_reaching.proofs.Seen.{there, there_typed}
+use Rattle.gsl_lower_elements.specs.OfReaching.{At, Begins, Start, root_of}
+use Rattle.gsl_lower_elements.specs.OfReaching.{variable, value, holder}
+use Rattle.gsl_lower_elements.specs.OfReaching.{Chosen, IsInside, IsPicked, Trail}
+use Rattle.gsl_lower_elements.proofs.OfReaching.{there, there_typed}
 use Rattle.gsl_lower_elements.proofs.Picked.{picked_found, picks_are, shape_typed}
 
 some_same : {A : Type 0} {a b : A} → Some a ≡ Some b → a ≡ b
@@ -46,7 +46,7 @@ module _ (m : Module) (input : Input) (sections : Sections) (f : Frame m input s
   begins_outside at count last loose base parts l (holder x) = ap is_block x.begins
 
   module _ (are : AreStructs p.structs) (at : At) (count : ℕ) (b : Flow) (s : shader.State) (state last : State) (loose : Start) (writes : Bool) (base : Base) (parts : List Part) (t : Ty) (a : Access) (l : Trail)
-      (good : Good m input sections f p around b s state) (begins : Begins m input sections f p around at count last loose base parts l) (inside : IsInside p.structs writes t a l) where
+      (good : Good m input sections f p around b s state) (begins : Begins m input sections f p around at count last loose base parts l) (inside : IsInside p.structs p.blocks writes t a l) where
     -- the value where the words lead
     abbrev pub stands_there : Value
     stands_there = there m input sections f p around are at count b s state last loose writes base parts t a l good begins inside

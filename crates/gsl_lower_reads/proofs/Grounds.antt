@@ -24,10 +24,10 @@ use Rattle.gsl_lower_law.specs.Values.{Stands}
 use Rattle.gsl_lower_law_picks.specs.Outside.{HasPart}
 use Rattle.gsl_lower_holders.specs.Flow.{Flow}
 use Rattle.gsl_lower_follows.specs.Frames.{Frame, Good, HeldAs}
-use Rattle.gsl_lower_reaching.specs.Reaching.{At, Begins, IsFixed, NumberEachBy, Start}
-use Rattle.gsl_lower_reaching.specs.Reaching.Begins.{variable, value, holder}
-use Rattle.gsl_lower_reaching.specs.Trails.{Trail}
-use Rattle.gsl_lower_reaching.proofs.Seen.{has_value}
+use Rattle.gsl_lower_elements.specs.OfReaching.{At, Begins, IsFixed, NumberEachBy, Start}
+use Rattle.gsl_lower_elements.specs.OfReaching.{variable, value, holder}
+use Rattle.gsl_lower_elements.specs.OfReaching.{Trail}
+use Rattle.gsl_lower_elements.proofs.OfReaching.{has_value}
 
 -- numbers that are known are those words
 pub fixed_words : (at : At) (parts : List Part) (words : List ℕ) → AllByRecursion IsFixed parts → NumberEachBy at parts words → map number_in parts ≡ words

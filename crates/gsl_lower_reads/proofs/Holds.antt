@@ -28,10 +28,10 @@ use Rattle.gsl_lower_follows.proofs.Beginning.{does_aside}
 use Rattle.gsl_lower_follows.proofs.Fetching.{adds_keep, adds_take_back, no_state}
 use Rattle.gsl_lower_follows.proofs.Growing.{adds_given, adds_lift, adds_then}
 use Rattle.gsl_lower_follows.proofs.Holding.{NowWaits, Unchanged, after_any, does_keep, does_so, does_take_back, held_after}
-use Rattle.gsl_lower_law_expr.proofs.Short.{does_change}
-use Rattle.gsl_lower_reaching.specs.Reaching.{AtBlock, Begins, IsTrail, NumberBy, Start}
-use Rattle.gsl_lower_reaching.specs.Reaching.Begins.{variable, value, holder}
-use Rattle.gsl_lower_reaching.specs.Trails.{Trail}
+use Rattle.gsl_lower_elements.proofs.OfLawExpr.{does_change}
+use Rattle.gsl_lower_elements.specs.OfReaching.{AtBlock, Begins, IsTrail, NumberBy, Start}
+use Rattle.gsl_lower_elements.specs.OfReaching.{variable, value, holder}
+use Rattle.gsl_lower_elements.specs.OfReaching.{Trail}
 use Rattle.gsl_lower_reads.specs.Waiting.{IsKept}
 use Rattle.gsl_lower_reads.proofs.Moves.{IsPart, Made, Makes, adds_reached, made_here, made_then, moves_reached}
 

@@ -9,3 +9,6 @@ pub mod Holds
 pub mod First
 pub mod Pointed
 pub mod Probing
+pub mod OfElements
+pub mod OfLawNames
+pub mod OfReaching

@@ -22,11 +22,11 @@ use Rattle.gsl_lower_follows.proofs.Behind.{reaches_here}
 use Rattle.gsl_lower_follows.proofs.Doing.{does_then}
 use Rattle.gsl_lower_follows.proofs.Growing.{adds_given, adds_then}
 use Rattle.gsl_lower_follows.proofs.Holding.{after_any, after_same, after_then, does_so, held_after, waits_after}
-use Rattle.gsl_lower_reaching.specs.Reaching.{At, AtBlock, Begins, ChoosesBy, IsBlockTrail, IsFixed, IsOwnTrail, IsTrail, NumberBy, NumberEachBy, PicksBy, Start}
-use Rattle.gsl_lower_reaching.specs.Reaching.IsTrail.{own, in_block}
-use Rattle.gsl_lower_reaching.specs.Reaching.Begins.{variable, value, holder}
-use Rattle.gsl_lower_reaching.specs.Trails.{Chosen, Trail}
-use Rattle.gsl_lower_reaching.proofs.Moving.{begins_so, number_so, numbers_so, picks_so}
+use Rattle.gsl_lower_elements.specs.OfReaching.{At, AtBlock, Begins, ChoosesBy, IsBlockTrail, IsFixed, IsOwnTrail, IsTrail, NumberBy, NumberEachBy, PicksBy, Start}
+use Rattle.gsl_lower_elements.specs.OfReaching.{own, in_block}
+use Rattle.gsl_lower_elements.specs.OfReaching.{variable, value, holder}
+use Rattle.gsl_lower_elements.specs.OfReaching.{Chosen, Trail}
+use Rattle.gsl_lower_elements.proofs.OfReaching.{begins_so, number_so, numbers_so, picks_so}
 
 -- ---- what only adds
 

@@ -40,12 +40,12 @@ use Rattle.gsl_lower_leaves.specs.declared.leaf.Leaf.{Leaf}
 use Rattle.gsl_lower_holders.specs.Flow.{Flow}
 use Rattle.gsl_lower_expr.specs.Parts.{first_leaf, leaf_of, tested}
 use Rattle.gsl_lower_follows.specs.Frames.{Frame, Good, HeldAs}
-use Rattle.gsl_lower_reaching.specs.Reaching.{IsBlockTrail, IsOwnTrail, IsTrail, PicksBy, Start}
-use Rattle.gsl_lower_reaching.specs.Reaching.IsTrail.{own, in_block}
-use Rattle.gsl_lower_reaching.specs.Trails.{Chosen, IsInside, IsOut, IsOutside, IsPicked, LacksComponent, LeadsOut, Trail}
-use Rattle.gsl_lower_reaching.proofs.Counted.{has_part}
-use Rattle.gsl_lower_reaching.proofs.Moving.{chooses_stand, numbers_stand}
-use Rattle.gsl_lower_reaching.proofs.Parts.{out_whole, whole_picked}
+use Rattle.gsl_lower_elements.specs.OfReaching.{IsBlockTrail, IsOwnTrail, IsTrail, PicksBy, Start}
+use Rattle.gsl_lower_elements.specs.OfReaching.{own, in_block}
+use Rattle.gsl_lower_elements.specs.OfReaching.{Chosen, IsInside, IsOut, IsOutside, IsPicked, LacksComponent, LeadsOut, Trail}
+use Rattle.gsl_lower_elements.proofs.OfReaching.{has_part}
+use Rattle.gsl_lower_elements.proofs.OfReaching.{chooses_stand, numbers_stand}
+use Rattle.gsl_lower_elements.proofs.OfReaching.{out_whole, whole_picked}
 use Rattle.gsl_lower_elements.proofs.Indexing.{none_shape}
 use Rattle.gsl_lower_elements.proofs.Pointed.{AnyAt, block_pointed, block_pointed_out, leaf_pointed_out, leaves_in, picked_there, whole_there}
 use Rattle.gsl_lower_reads.proofs.First.{HasFirst, fixed_numbers, value_first}
@@ -94,7 +94,7 @@ module _ (m : Module) (input : Input) (sections : Sections) where
       leaf_numbers : (one : Leaf) → NumberEach state.ids one.path (map number_in one.path) → NumberEach state.ids (r.path ++ one.path) (l.words ++ map number_in one.path)
       leaf_numbers one fixed = numbers_on state.ids r.path one.path l.words (map number_in one.path) numbers fixed
 
-      module _ (a : Access) (inside : IsInside p.structs writes t a l) where
+      module _ (a : Access) (inside : IsInside p.structs p.blocks writes t a l) where
         abbrev there : Value
         there = v m input sections f p around are loose writes t sound_t b s state r a l good is inside
 
@@ -154,7 +154,7 @@ module _ (m : Module) (input : Input) (sections : Sections) where
 
       -- ---- outside blocks, out of bounds
 
-      module _ (outside : IsOutside p.structs writes t l) where
+      module _ (outside : IsOutside p.structs p.blocks writes t l) where
         place_out : (x : InPlace m input sections f p around s state r.base l) (shape : Shape) (o : Option Picked) (c : Option Chosen) → PicksBy (λ id v. HeldAs m input sections f false id v b state) o c → IsOut p.structs l.ty t l.words c
             → Out (pointed shape (record { base = Variable x.id x.class; path = r.path; picked = o }))
         place_out x shape None None picks out = whole_pointed_out m input sections x.id x.class shape r.path l.words (InVariable x.number []) state b.sections x.points numbers (path_strays m input sections f p around are loose writes t b s state r l good is outside x out)
@@ -201,7 +201,7 @@ module _ (m : Module) (input : Input) (sections : Sections) where
     -- ---- in blocks
 
     module _ (x : IsBlockTrail m input sections f p around false loose b state r l) where
-      module _ (a : Access) (inside : IsInside p.structs writes t a l) where
+      module _ (a : Access) (inside : IsInside p.structs p.blocks writes t a l) where
         block_tested : (shape : Shape) → shape_of t ≡ Some shape → Sure (tested r.base shape r)
         block_tested shape shaped =
             subst (λ base. Sure (tested base shape r)) (sym x.begins.is)
@@ -215,7 +215,7 @@ module _ (m : Module) (input : Input) (sections : Sections) where
             by (one ∷ more) all =
                 subst (λ base. Sure (tested base one.shape (at_leaf base one))) (sym x.begins.is) (dropped_does AnyAt (pointed one.shape (at_leaf (Variable x.begins.id x.begins.class) one)) state b.sections all.0)
 
-      module _ (outside : IsOutside p.structs writes t l) where
+      module _ (outside : IsOutside p.structs p.blocks writes t l) where
         block_tested_out : (shape : Shape) → Out (tested r.base shape r)
         block_tested_out shape = subst (λ base. Out (tested base shape r)) (sym x.begins.is) (dropped_strays (pointed shape r) state b.sections (block_pointed_out m input sections f p around are loose b s state r l good x writes t outside shape))
 
@@ -232,28 +232,28 @@ module _ (m : Module) (input : Input) (sections : Sections) where
     -- ---- wherever it is
 
     module _ (is : IsTrail m input sections f p around false loose b state r l) where
-      pub shape_sure : (a : Access) → IsInside p.structs writes t a l → (shape : Shape) → shape_of t ≡ Some shape → Sure (tested r.base shape r)
+      pub shape_sure : (a : Access) → IsInside p.structs p.blocks writes t a l → (shape : Shape) → shape_of t ≡ Some shape → Sure (tested r.base shape r)
       shape_sure a inside shape shaped = by is
         where
           by : IsTrail m input sections f p around false loose b state r l → Sure (tested r.base shape r)
           by (own x) = own_tested x a inside shape shaped
           by (in_block x) = block_tested x a inside shape shaped
 
-      pub first_sure : (a : Access) → IsInside p.structs writes t a l → shape_of t ≡ None → Sure (first_leaf r (leaves_of p.structs t))
+      pub first_sure : (a : Access) → IsInside p.structs p.blocks writes t a l → shape_of t ≡ None → Sure (first_leaf r (leaves_of p.structs t))
       first_sure a inside none = by is
         where
           by : IsTrail m input sections f p around false loose b state r l → Sure (first_leaf r (leaves_of p.structs t))
           by (own x) = own_first x a inside none
           by (in_block x) = block_first x a inside none
 
-      pub shape_out : IsOutside p.structs writes t l → (shape : Shape) → Out (tested r.base shape r)
+      pub shape_out : IsOutside p.structs p.blocks writes t l → (shape : Shape) → Out (tested r.base shape r)
       shape_out outside shape = by is
         where
           by : IsTrail m input sections f p around false loose b state r l → Out (tested r.base shape r)
           by (own x) = own_tested_out x outside shape
           by (in_block x) = block_tested_out x outside shape
 
-      pub first_out : IsOutside p.structs writes t l → shape_of t ≡ None → (w : Value) → is_value_of p.structs t w ≡ true → Out (first_leaf r (leaves_of p.structs t))
+      pub first_out : IsOutside p.structs p.blocks writes t l → shape_of t ≡ None → (w : Value) → is_value_of p.structs t w ≡ true → Out (first_leaf r (leaves_of p.structs t))
       first_out outside none w typed = by is
         where
           by : IsTrail m input sections f p around false loose b state r l → Out (first_leaf r (leaves_of p.structs t))

@@ -34,11 +34,11 @@ use Rattle.gsl_lower_follows.proofs.Behind.{reaches_here}
 use Rattle.gsl_lower_follows.proofs.Doing.{does_then, strays_lift}
 use Rattle.gsl_lower_follows.proofs.Growing.{adds_lift, adds_then}
 use Rattle.gsl_lower_follows.proofs.Holding.{Unchanged, after_same, after_then, does_so}
-use Rattle.gsl_lower_law_expr.proofs.Short.{does_change}
-use Rattle.gsl_lower_law_expr.proofs.Steps.{Always, always_given, always_then}
-use Rattle.gsl_lower_reaching.specs.Reaching.{IsTrail, Start}
-use Rattle.gsl_lower_reaching.specs.Trails.{IsInside, IsOutside, Trail}
-use Rattle.gsl_lower_reaching.proofs.Moving.{trail_after}
+use Rattle.gsl_lower_elements.proofs.OfLawExpr.{does_change}
+use Rattle.gsl_lower_elements.proofs.OfLawExpr.{Always, always_given, always_then}
+use Rattle.gsl_lower_elements.specs.OfReaching.{IsTrail, Start}
+use Rattle.gsl_lower_elements.specs.OfReaching.{IsInside, IsOutside, Trail}
+use Rattle.gsl_lower_elements.proofs.OfReaching.{trail_after}
 use Rattle.gsl_lower_reads.specs.Testing.{IsTested}
 use Rattle.gsl_lower_reads.specs.Waiting.{IsKept}
 use Rattle.gsl_lower_reads.proofs.Adding.{always_pointed, always_read}
@@ -79,7 +79,7 @@ module _ (m : Module) (input : Input) (sections : Sections) where
       unfolding probe
       probe_none = λ within. reaches_here m input units state (Tested b s state tt b tt s) (record { after = after_same m input sections f p around b s state good; still = refl })
 
-      pub probe_sure : (a : Access) → IsInside p.structs writes t a l → IsSure m input sections state b.sections (probe p.structs true t r)
+      pub probe_sure : (a : Access) → IsInside p.structs p.blocks writes t a l → IsSure m input sections state b.sections (probe p.structs true t r)
       unfolding probe
       probe_sure a inside = by (shape_of t) refl
         where
@@ -87,7 +87,7 @@ module _ (m : Module) (input : Input) (sections : Sections) where
           by (Some shape) e = shape_sure m input sections f p around are loose writes t sound_t b s state r l good is a inside shape e
           by None e = first_sure m input sections f p around are loose writes t sound_t b s state r l good is a inside e
 
-      pub probe_strays : (v : Value) → is_value_of p.structs t v ≡ true → IsOutside p.structs writes t l → StepStrays m input sections state b.sections (probe p.structs true t r)
+      pub probe_strays : (v : Value) → is_value_of p.structs t v ≡ true → IsOutside p.structs p.blocks writes t l → StepStrays m input sections state b.sections (probe p.structs true t r)
       unfolding probe
       probe_strays v typed outside = by (shape_of t) refl
         where
@@ -95,13 +95,13 @@ module _ (m : Module) (input : Input) (sections : Sections) where
           by (Some shape) e = shape_out m input sections f p around are loose writes t sound_t b s state r l good is outside shape
           by None e = first_out m input sections f p around are loose writes t sound_t b s state r l good is outside e v typed
 
-      pub probe_in : (calls : Bool) (a : Access) → IsInside p.structs writes t a l → Does m input sections f p 0 units state (Tested b s state) none_waits (Got tt s units) (lift (probe p.structs calls t r) b)
+      pub probe_in : (calls : Bool) (a : Access) → IsInside p.structs p.blocks writes t a l → Does m input sections f p 0 units state (Tested b s state) none_waits (Got tt s units) (lift (probe p.structs calls t r) b)
       probe_in false a inside = probe_none
       probe_in true a inside =
           does_change m input sections f p around units units state (Unchanged m input sections f p around {A = Unit {0}} b state) (Tested b s state) tt tt s (lift (probe p.structs true t r) b) (λ done later last after. record { after = after; still = refl })
           (does_aside m input sections f p around (λ (done : Unit {0}) (ids : Ids). Unit {0}) units b s state (probe p.structs true t r) good (probe_sure a inside))
 
-      pub probe_out : {R : Type 0} (Then : Unit {0} → Flow → R → shader.State → State → Type 0) → ((v : Value) × (is_value_of p.structs t v ≡ true)) → IsOutside p.structs writes t l → Does m input sections f p 0 units state Then none_waits Strays (lift (probe p.structs true t r) b)
+      pub probe_out : {R : Type 0} (Then : Unit {0} → Flow → R → shader.State → State → Type 0) → ((v : Value) × (is_value_of p.structs t v ≡ true)) → IsOutside p.structs p.blocks writes t l → Does m input sections f p 0 units state Then none_waits Strays (lift (probe p.structs true t r) b)
       probe_out {R} Then some outside = strays_lift m input sections f p around units b s state Then none_waits (probe p.structs true t r) good (probe_strays some.0 some.1 outside)
 
       -- ---- what was tested waits
@@ -125,10 +125,10 @@ module _ (m : Module) (input : Input) (sections : Sections) where
       pub kept_none : (waits : Bool) → Does m input sections f p 0 units state (Kept waits) none_waits (Got tt s units) (then_held false waits b)
       kept_none waits = kept_behind false waits probe_none
 
-      pub kept_in : (calls waits : Bool) (a : Access) → IsInside p.structs writes t a l → Does m input sections f p 0 units state (Kept waits) none_waits (Got tt s units) (then_held calls waits b)
+      pub kept_in : (calls waits : Bool) (a : Access) → IsInside p.structs p.blocks writes t a l → Does m input sections f p 0 units state (Kept waits) none_waits (Got tt s units) (then_held calls waits b)
       kept_in calls waits a inside = kept_behind calls waits (probe_in calls a inside)
 
-      pub kept_out : {R : Type 0} (Then : Reached → Flow → R → shader.State → State → Type 0) (waits : Bool) → ((v : Value) × (is_value_of p.structs t v ≡ true)) → IsOutside p.structs writes t l → Does m input sections f p 0 units state Then none_waits Strays (then_held true waits b)
+      pub kept_out : {R : Type 0} (Then : Reached → Flow → R → shader.State → State → Type 0) (waits : Bool) → ((v : Value) × (is_value_of p.structs t v ≡ true)) → IsOutside p.structs p.blocks writes t l → Does m input sections f p 0 units state Then none_waits Strays (then_held true waits b)
       kept_out {R} Then waits some outside =
           does_then m input sections f p 0 units b state (λ done later (one : Unit {0}) u last. ⊥) none_waits Then none_waits Strays (λ one u left. Strays) (lift (probe p.structs true t r) b) (λ done. hold_reached waits r) good.inside
           (adds_probe p.structs true t r b) (λ done. adds_held waits r)

@@ -32,7 +32,7 @@ use Rattle.gsl_lower_law_places.proofs.Variables.{parts_are}
 use Rattle.gsl_lower_law_picks.specs.Outside.{ArePositions as ArePositionsBy, CanPick, PicksOutside}
 use Rattle.gsl_lower_law_picks.proofs.Along.{words_lead, words_stray}
 use Rattle.gsl_lower_law_picks.proofs.Outside.{path_out, picked_out, values_picked_out}
-use Rattle.gsl_lower_law_expr.proofs.Shapes.{value_shape}
+use Rattle.gsl_lower_elements.proofs.OfLawExpr.{value_shape}
 use Rattle.gsl_lower_holders.specs.Flow as flow
 use Rattle.gsl_lower_holders.specs.Flow.{Flow, behind, find_type, giving_here, id_at, lift, type_by, type_id}
 use Rattle.gsl_lower_expr.specs.Parts.{read_block, read_by, read_composite, read_own, reads}
@@ -41,14 +41,14 @@ use Rattle.gsl_lower_follows.specs.Giving.{Does, none_waits}
 use Rattle.gsl_lower_follows.proofs.Doing.{does_then, strays_lift}
 use Rattle.gsl_lower_follows.proofs.Fetching.{adds_giving}
 use Rattle.gsl_lower_follows.proofs.Growing.{adds_lift}
-use Rattle.gsl_lower_reaching.specs.Reaching.{ChoosesBy, IsBlockTrail, IsOwnTrail, IsTrail, PicksBy, Start}
-use Rattle.gsl_lower_reaching.specs.Reaching.IsTrail.{own, in_block}
-use Rattle.gsl_lower_reaching.specs.Reaching.Start.{OfBlock}
-use Rattle.gsl_lower_reaching.specs.Trails.{ArePositions, Chosen, IsMissing, IsOut, IsOutside, LacksComponent, LeadsOut, Trail}
-use Rattle.gsl_lower_reaching.proofs.Counted.{has_part, lacks_part, not_both}
+use Rattle.gsl_lower_elements.specs.OfReaching.{ChoosesBy, IsBlockTrail, IsOwnTrail, IsTrail, PicksBy, Start}
+use Rattle.gsl_lower_elements.specs.OfReaching.{own, in_block}
+use Rattle.gsl_lower_elements.specs.OfReaching.{OfBlock}
+use Rattle.gsl_lower_elements.specs.OfReaching.{ArePositions, Chosen, IsMissing, IsOut, IsOutside, LacksComponent, LeadsOut, Trail}
+use Rattle.gsl_lower_elements.proofs.OfReaching.{has_part, lacks_part, not_both}
 use Rattle.gsl_lower_elements.proofs.Indexing.{none_shape}
-use Rattle.gsl_lower_reaching.proofs.Moving.{chooses_stand, numbers_stand}
-use Rattle.gsl_lower_reaching.proofs.Parts.{out_whole}
+use Rattle.gsl_lower_elements.proofs.OfReaching.{chooses_stand, numbers_stand}
+use Rattle.gsl_lower_elements.proofs.OfReaching.{out_whole}
 use Rattle.gsl_lower_elements.proofs.Strayed.{block_strays}
 use Rattle.gsl_lower_reads.proofs.Adding.{always_pointer}
 use Rattle.gsl_lower_reads.proofs.Grounds.{InPlace, InValue, fixed_words, grounds}
@@ -68,7 +68,7 @@ positions_by count (Some part) None positions at chooses within = absurd chooses
 positions_by count (Some part) (Some word) positions at chooses within = within
 
 module _ (m : Module) (input : Input) (sections : Sections) (f : Frame m input sections) (p : Program) (around : Around) (are : AreStructs p.structs) (loose : Start) (writes : Bool) (t : Ty) where
-  module _ (b : Flow) (s : shader.State) (state : State) (r : Reached) (l : Trail) (good : Good m input sections f p around b s state) (is : IsOwnTrail m input sections f p around false loose b state r l) (outside : IsOutside p.structs writes t l) where
+  module _ (b : Flow) (s : shader.State) (state : State) (r : Reached) (l : Trail) (good : Good m input sections f p around b s state) (is : IsOwnTrail m input sections f p around false loose b state r l) (outside : IsOutside p.structs p.blocks writes t l) where
     pub can : (q : Picked) (c : Chosen) → PicksBy (λ id v. HeldAs m input sections f false id v b state) (Some q) (Some c) → 1 ≤ length c.positions → ArePositions c.shape.1 c.word c.positions → CanPick q
     can q c picks some within = record {
       some = subst (λ ps. 1 ≤ length ps) (sym picks.1) some;
@@ -179,7 +179,7 @@ module _ (m : Module) (input : Input) (sections : Sections) (f : Frame m input s
           by (Some shape) e = strays_lift m input sections f p around units b s state Then none_waits (read shape r) good (shape_strays shape)
           by None e = composite_strays e
 
-  module _ (b : Flow) (s : shader.State) (state : State) (r : Reached) (l : Trail) (good : Good m input sections f p around b s state) (is : IsTrail m input sections f p around false loose b state r l) (outside : IsOutside p.structs writes t l) where
+  module _ (b : Flow) (s : shader.State) (state : State) (r : Reached) (l : Trail) (good : Good m input sections f p around b s state) (is : IsTrail m input sections f p around false loose b state r l) (outside : IsOutside p.structs p.blocks writes t l) where
     module _ {R : Type 0} (units : ℕ) (Then : ℕ → Flow → R → shader.State → State → Type 0) (apart : shape_of t ≡ None → loose ≡ OfBlock → ⊥) where
       -- what is read there strays; of a block it is a scalar or vector
       pub read_strays : Does m input sections f p 0 units state Then none_waits Strays (reads p.structs t r b)

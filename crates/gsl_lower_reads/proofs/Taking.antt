@@ -33,7 +33,7 @@ use Rattle.gsl_lower_law_places.proofs.Loads.{extracted_computes, extracted_does
 use Rattle.gsl_lower_law_places.proofs.Reading.{values_read, variables_read}
 use Rattle.gsl_lower_law_places.proofs.Variables.{value_on, variable_components}
 use Rattle.gsl_lower_law_picks.proofs.Along.{words_lead}
-use Rattle.gsl_lower_law_expr.proofs.Shapes.{value_shape}
+use Rattle.gsl_lower_elements.proofs.OfLawExpr.{value_shape}
 use Rattle.gsl_lower_law_names.proofs.Reading.{outside_blocks, value_as_it_is}
 use Rattle.gsl_lower_holders.specs.Flow as flow
 use Rattle.gsl_lower_holders.specs.Flow.{Flow, behind, find_type, giving_here, id_at, lift, type_by, type_id}
@@ -45,23 +45,23 @@ use Rattle.gsl_lower_follows.proofs.Drawn.{computed_given}
 use Rattle.gsl_lower_follows.proofs.Fetching.{adds_giving}
 use Rattle.gsl_lower_follows.proofs.Growing.{adds_lift}
 use Rattle.gsl_lower_follows.proofs.Holding.{after_then, does_so}
-use Rattle.gsl_lower_law_expr.proofs.Steps.{always_giving}
-use Rattle.gsl_lower_reaching.specs.Reaching.{IsBlockTrail, IsOwnTrail, IsTrail, PicksBy, Start}
-use Rattle.gsl_lower_reaching.specs.Reaching.IsTrail.{own, in_block}
-use Rattle.gsl_lower_reaching.specs.Reaching.Start.{OfBlock}
-use Rattle.gsl_lower_reaching.specs.Trails.{Chosen, IsInside, IsPicked, Trail}
-use Rattle.gsl_lower_reaching.proofs.Counted.{has_part}
+use Rattle.gsl_lower_elements.proofs.OfLawExpr.{always_giving}
+use Rattle.gsl_lower_elements.specs.OfReaching.{IsBlockTrail, IsOwnTrail, IsTrail, PicksBy, Start}
+use Rattle.gsl_lower_elements.specs.OfReaching.{own, in_block}
+use Rattle.gsl_lower_elements.specs.OfReaching.{OfBlock}
+use Rattle.gsl_lower_elements.specs.OfReaching.{Chosen, IsInside, IsPicked, Trail}
+use Rattle.gsl_lower_elements.proofs.OfReaching.{has_part}
 use Rattle.gsl_lower_elements.proofs.Indexing.{after_step, none_shape}
-use Rattle.gsl_lower_reaching.proofs.Moving.{chooses_stand, numbers_stand}
-use Rattle.gsl_lower_reaching.proofs.Parts.{IsWhole, whole_picked}
-use Rattle.gsl_lower_reaching.proofs.Seen.{there_typed}
+use Rattle.gsl_lower_elements.proofs.OfReaching.{chooses_stand, numbers_stand}
+use Rattle.gsl_lower_elements.proofs.OfReaching.{IsWhole, whole_picked}
+use Rattle.gsl_lower_elements.proofs.OfReaching.{there_typed}
 use Rattle.gsl_lower_elements.proofs.Read.{block_read, block_shape}
 use Rattle.gsl_lower_reads.proofs.Adding.{always_extracted, always_pointer, always_read}
 use Rattle.gsl_lower_reads.proofs.Found.{found_picked, found_whole, read_found, read_typed, stands_there, there_is}
 use Rattle.gsl_lower_reads.proofs.Grounds.{InPlace, InValue, fixed_words, grounds}
 
 module _ (m : Module) (input : Input) (sections : Sections) (f : Frame m input sections) (p : Program) (around : Around) (are : AreStructs p.structs) (loose : Start) (writes : Bool) (t : Ty) (sound_t : IsSound (length p.structs) t) where
-  module _ (b : Flow) (s : shader.State) (state : State) (r : Reached) (a : Access) (l : Trail) (good : Good m input sections f p around b s state) (is : IsOwnTrail m input sections f p around false loose b state r l) (inside : IsInside p.structs writes t a l) where
+  module _ (b : Flow) (s : shader.State) (state : State) (r : Reached) (a : Access) (l : Trail) (good : Good m input sections f p around b s state) (is : IsOwnTrail m input sections f p around false loose b state r l) (inside : IsInside p.structs p.blocks writes t a l) where
     pub v : Value
     v = stands_there m input sections f p around are (λ id v. HeldAs m input sections f false id v b state) b.place.used b s state state loose writes r.base r.path t a l good is.begins inside
 
@@ -241,7 +241,7 @@ module _ (m : Module) (input : Input) (sections : Sections) (f : Frame m input s
           by (Some shape) e = shape_taken shape e
           by None e = composite_taken e
 
-  module _ (b : Flow) (s : shader.State) (state : State) (r : Reached) (a : Access) (l : Trail) (good : Good m input sections f p around b s state) (is : IsTrail m input sections f p around false loose b state r l) (inside : IsInside p.structs writes t a l) where
+  module _ (b : Flow) (s : shader.State) (state : State) (r : Reached) (a : Access) (l : Trail) (good : Good m input sections f p around b s state) (is : IsTrail m input sections f p around false loose b state r l) (inside : IsInside p.structs p.blocks writes t a l) where
     module _ (units : ℕ) (apart : shape_of t ≡ None → loose ≡ OfBlock → ⊥) where
       abbrev Gives_ : flow.Lowered ℕ → Type 0
       Gives_ low = Does m input sections f p 0 units state (HasGiven m input sections f p around false t b state) none_waits (Got (means_read p.structs t a s) s units) low

@@ -11,8 +11,8 @@ use Rattle.gsl_lower_places.specs.declared.reached.Reached.{Reached}
 use Rattle.gsl_lower_holders.specs.Flow.{Flow}
 use Rattle.gsl_lower_follows.specs.Frames.{Frame}
 use Rattle.gsl_lower_follows.specs.Giving.{After}
-use Rattle.gsl_lower_reaching.specs.Reaching.{IsTrail, Start}
-use Rattle.gsl_lower_reaching.specs.Trails.{Trail}
+use Rattle.gsl_lower_elements.specs.OfReaching.{IsTrail, Start}
+use Rattle.gsl_lower_elements.specs.OfReaching.{Trail}
 
 module _ (m : Module) (input : Input) (sections : Sections) (f : Frame m input sections) (p : Program) (around : Around) where
   -- Ids are of the trail, or wait to be so, in the block where it was; and the shader has done nothing.

@@ -21,9 +21,9 @@ ghost use Rattle.gsl_lower_holders.specs.Waiting.{fetch_reached, hold_reached};
 ghost use Rattle.gsl_lower_expr.specs.Parts.{accessed, probe};
 ghost use Rattle.gsl_lower_follows.specs.Frames.{Frame, Good};
 ghost use Rattle.gsl_lower_follows.specs.Giving.{Does, GivesValue, none_waits};
-ghost use Rattle.gsl_lower_reaching.specs.Reaching.{GivesPlace, IsTrail, Start};
-ghost use Rattle.gsl_lower_reaching.specs.Reaching.Start.{OfBlock};
-ghost use Rattle.gsl_lower_reaching.specs.Trails.{IsInside, IsOutside, Trail};
+ghost use Rattle.gsl_lower_elements.specs.OfReaching.{GivesPlace, IsTrail, Start};
+ghost use Rattle.gsl_lower_elements.specs.OfReaching.{OfBlock};
+ghost use Rattle.gsl_lower_elements.specs.OfReaching.{IsInside, IsOutside, Trail};
 ghost use Rattle.gsl_lower_reads.specs.Accessing.{accessed_means};
 ghost use Rattle.gsl_lower_reads.specs.Testing.{IsTested};
 ghost use Rattle.gsl_lower_reads.specs.Waiting.{IsKept};
@@ -45,6 +45,6 @@ pub fn places_are_fetched()
 
 /// Indexes on the way to a place are tested there: where all are in bounds, nothing is done, and else the module strays at once.
 pub fn places_are_tested()
-    ensures inside { (m : Module) (input : Input) (sections : Sections) (f : Frame m input sections) (p : Program) (around : Around) (loose : Start) (writes : Bool) (t : Ty) (r : Reached) (l : Trail) (units : ℕ) (b : Flow) (s : shader.State) (state : State) (calls : Bool) (a : Access) → AreStructs p.structs → IsSound (length p.structs) t → Good m input sections f p around b s state → IsTrail m input sections f p around false loose b state r l → IsInside p.structs writes t a l → Does m input sections f p 0 units state (IsTested m input sections f p around b s state) none_waits (Got tt s units) (lift (probe p.structs calls t r) b) }
-    ensures outside { (m : Module) (input : Input) (sections : Sections) (f : Frame m input sections) (p : Program) (around : Around) (loose : Start) (writes : Bool) (t : Ty) (r : Reached) (l : Trail) (units : ℕ) (b : Flow) (s : shader.State) (state : State) (v : Value) → AreStructs p.structs → IsSound (length p.structs) t → Good m input sections f p around b s state → IsTrail m input sections f p around false loose b state r l → IsOutside p.structs writes t l → is_value_of p.structs t v ≡ true → Does m input sections f p 0 units state (IsTested m input sections f p around b s state) none_waits Strays (lift (probe p.structs true t r) b) }
+    ensures inside { (m : Module) (input : Input) (sections : Sections) (f : Frame m input sections) (p : Program) (around : Around) (loose : Start) (writes : Bool) (t : Ty) (r : Reached) (l : Trail) (units : ℕ) (b : Flow) (s : shader.State) (state : State) (calls : Bool) (a : Access) → AreStructs p.structs → IsSound (length p.structs) t → Good m input sections f p around b s state → IsTrail m input sections f p around false loose b state r l → IsInside p.structs p.blocks writes t a l → Does m input sections f p 0 units state (IsTested m input sections f p around b s state) none_waits (Got tt s units) (lift (probe p.structs calls t r) b) }
+    ensures outside { (m : Module) (input : Input) (sections : Sections) (f : Frame m input sections) (p : Program) (around : Around) (loose : Start) (writes : Bool) (t : Ty) (r : Reached) (l : Trail) (units : ℕ) (b : Flow) (s : shader.State) (state : State) (v : Value) → AreStructs p.structs → IsSound (length p.structs) t → Good m input sections f p around b s state → IsTrail m input sections f p around false loose b state r l → IsOutside p.structs p.blocks writes t l → is_value_of p.structs t v ≡ true → Does m input sections f p 0 units state (IsTested m input sections f p around b s state) none_waits Strays (lift (probe p.structs true t r) b) }
 {}

@@ -1,11 +1,11 @@
 -- Parts of blocks have their words in whatever state a shader is in.
-use Rattle.std.proofs.Common.{◌≡◌, ◌≢◌, refl, sym, ap, ◌∙◌, subst, inl, inr, ◌⊎◌, ℕ, zero, suc, ◌+◌, ◌*◌, ◌<◌, ◌≤◌, ◌^◌, Bool, true, not, List, [], ◌∷◌, length, map, slice_get, Option, Some, None, arith}
+use Rattle.std.proofs.Common.{◌≡◌, ◌≢◌, refl, sym, ap, ◌∙◌, subst, inl, inr, ◌⊎◌, ℕ, zero, suc, ◌+◌, ◌-◌, ◌*◌, ◌/◌, ◌<◌, ◌≤◌, ◌^◌, Bool, true, false, not, List, [], ◌∷◌, length, map, slice_get, Option, Some, None, arith, div-le_self}
 use Rattle.std.specs.Prelude.{◌==◌, nat_lt, slice_index, slice_index_or}
 use Rattle.std.specs.List.{AllByRecursion, list_all, range_with_len}
 use Rattle.std.proofs.lemmas.Bool.{and_parts, ltb-true}
 use Rattle.std.proofs.lemmas.List.{length-map}
 use Rattle.std.proofs.lemmas.List.FromFn.{length-map-range_with_len}
-use Rattle.gsl_layout.specs.Layout.{Array, Runtime}
+use Rattle.gsl_layout.specs.Layout.{Layout}
 use Rattle.gsl_types.specs.Known.{AreStructs, IsSound, sound, sound_kind}
 use Rattle.gsl_types.specs.declared.ty.Scalar.{Scalar}
 use Rattle.gsl_types.specs.declared.ty.Scalar.TheVariants.{Bool as Boolean, Int, Uint}
@@ -21,9 +21,9 @@ use Rattle.gsl_words.proofs.Bytes.{byte_small}
 use Rattle.gsl_values.specs.declared.value.Value.{Value}
 use Rattle.gsl_values.specs.declared.value.Value.TheVariants.{Many, Word, outs-Many, outs-Word}
 use Rattle.gsl_tree.specs.Around.{Around, member_in}
-use Rattle.gsl_tree.specs.Expressions.{HasMemberType, HasPartType, element_of}
+use Rattle.gsl_tree.specs.Expressions.{HasMemberType, HasPartType, element_kind, element_of, has_length_kind}
 use Rattle.gsl_tree.specs.Laying.{layout_of}
-use Rattle.gsl_tree.specs.Operations.{converted, length_of, member_value, value_at}
+use Rattle.gsl_tree.specs.Operations.{converted, has_fixed_length, is_fixed_kind, length_kind, length_of, member_value, value_at}
 use Rattle.gsl_tree.specs.Shapes.{Shape, of_shape, shape_kind, shape_of}
 use Rattle.gsl_tree.specs.Values.{components_in, components_layer, is_value_of, is_word_of, of_components, parts_in, parts_layer, word_in, word_layer}
 use Rattle.gsl_tree.specs.declared.unit.Block.{Block as UnitBlock}
@@ -35,6 +35,7 @@ use Rattle.gsl_views.specs.Seen.{seen}
 use Rattle.gsl_views.specs.Viewed.{elements}
 use Rattle.gsl_meaning.specs.Accesses.{Block, nothing, pick, root_value, told}
 use Rattle.gsl_meaning.specs.Blocks.{value_of, words_in}
+use Rattle.gsl_meaning.specs.Expressions.{block_parts}
 use Rattle.gsl_meaning.specs.State.{State}
 use Rattle.gsl_lower_law_blocks.proofs.Shown.{parts_shown}
 use Rattle.gsl_lower_law_members.specs.Parts.{IsRow, laid_as}
@@ -131,6 +132,18 @@ shape_sound count other t shape is sound_t = by (out-Ty t) (roll-out-Ty t) is
     by (Ty-F.Runtime element) e is = absurd cc
     by (Ty-F.Struct number) e is = absurd cc
 
+-- what has a length that its type does not tell is a runtime array
+runtime_is : (t : Ty) → has_length_kind (out-Ty t) ≡ true → has_fixed_length t ≡ false → (element : Ty) × (element_of t ≡ Some element) × (shape_of t ≡ None) × (length_of t ≡ 0)
+runtime_is t = by (out-Ty t)
+  where
+    by : (layer : Ty-F Ty) → has_length_kind layer ≡ true → is_fixed_kind layer ≡ false → (element : Ty) × (element_kind layer ≡ Some element) × (shape_kind layer ≡ None) × (length_kind layer ≡ 0)
+    by (Ty-F.Runtime element) long free = (element, refl, refl, refl)
+    by (Ty-F.Vector s n) long free = absurd (let z : true ≡ false = free in cc)
+    by (Ty-F.Array element n) long free = absurd (let z : true ≡ false = free in cc)
+    by Ty-F.Void long free = absurd (let z : false ≡ true = long in cc)
+    by (Ty-F.One s) long free = absurd (let z : false ≡ true = long in cc)
+    by (Ty-F.Struct number) long free = absurd (let z : false ≡ true = long in cc)
+
 -- ---- what stands in blocks
 
 module _ (structs : List StructType) (are : AreStructs structs) where
@@ -204,6 +217,22 @@ module _ (structs : List StructType) (are : AreStructs structs) where
             (element_laid structs (length laid.bytes) laid.std140 laid.offset number base t (laid_as laid.std140 structs base) (counted stride is) (subst (λ l. number < elements l laid.offset (length laid.bytes)) (sym is) less));
       }
       by (endless stride none is) = absurd (omega (arith, less, none))
+
+  -- in few bytes a runtime array has few elements
+  row_few : (t element : Ty) (std140 : Bool) (l : Layout) (offset : ℕ) (bytes : List ℕ) → IsRow std140 structs t element l → length_of t ≡ 0 → length bytes < 2 ^ 32 → length (parts_in (value_of (seen l offset bytes))) < 2 ^ 32
+  row_few t element std140 l offset bytes (counted stride is) none few =
+      let many : length (parts_in (value_of (seen l offset bytes))) ≡ length_of t = ap (λ l. length (parts_in (value_of (seen l offset bytes)))) is ∙ row_parts (length_of t) _ in
+      omega (arith, many, none)
+  row_few t element std140 l offset bytes (endless stride none is) long few =
+      let many : length (parts_in (value_of (seen l offset bytes))) ≡ (length bytes - offset) / stride =
+      ap (λ l. length (parts_in (value_of (seen l offset bytes)))) is ∙ row_parts ((length bytes - offset) / stride) _ in
+      let less = div-le_self (length bytes - offset) stride in
+      omega (arith, many, less, few)
+
+  runtime_few : (t : Ty) (std140 : Bool) (offset : ℕ) (bytes : List ℕ) → has_length_kind (out-Ty t) ≡ true → has_fixed_length t ≡ false → length bytes < 2 ^ 32 → length (parts_in (value_of (seen (laid_as std140 structs t) offset bytes))) < 2 ^ 32
+  runtime_few t std140 offset bytes long free few =
+      let is = runtime_is t long free in
+      row_few t is.0 std140 (laid_as std140 structs t) offset bytes (row_laid structs (length bytes) std140 t is.0 is.1 is.2) is.3 few
 
   -- a component of a vector
   word_fits : (base : Ty) (number : ℕ) (t : Ty) (v : Value) → IsSound (length structs) base → element_of base ≡ Some t → number < length_of base → IsRun base v → Indexed t number v
@@ -285,16 +314,43 @@ index_at [] number v is = absurd cc
 index_at (one ∷ items) zero v is = cc
 index_at (one ∷ items) (suc number) v is = index_at items number v is
 
-module _ (around : Around) (are : AreStructs around.structs) where
-  pub root_fits : (s : State) (held : AreHeld around s) (block number : ℕ) (t : Ty) → HasMemberType around block number t → FitsIn around.structs are t None (value_at (root_value (Block block) s) (number ∷ []))
-  root_fits s held block number t (one, found, type) = by (slice_get around.blocks block) refl found
+module _ (few : Bool) (around : Around) (are : AreStructs around.structs) where
+  -- what is seen of a member of a block
+  record IsMember (t : Ty) (v : Value) : Type 0 where
+    std140 : Bool
+    offset : ℕ
+    bytes : List ℕ
+    value : v ≡ value_of (seen (laid_as std140 around.structs t) offset bytes)
+    small : AreSmall bytes
+    short : few ≡ true → length bytes < 2 ^ 32
+
+  root_seen : (s : State) (held : AreHeld few around s) (block number : ℕ) (t : Ty) → HasMemberType around block number t → IsMember t (value_at (root_value (Block block) s) (number ∷ []))
+  root_seen s held block number t (one, found, type) = by (slice_get around.blocks block) refl found
     where
-      by : (o : Option UnitBlock) → slice_get around.blocks block ≡ o → member_in o number ≡ Some one → FitsIn around.structs are t None (value_at (root_value (Block block) s) (number ∷ []))
+      by : (o : Option UnitBlock) → slice_get around.blocks block ≡ o → member_in o number ≡ Some one → IsMember t (value_at (root_value (Block block) s) (number ∷ []))
       by None e found = absurd cc
       by (Some known) e found =
           let has = held.blocks block known e in
           let laid = block_member_laid around.structs (length has.0) known number one found in
-          subst (FitsIn around.structs are t None)
-          (sym (ap (λ v. member_value v number) (index_at s.blocks block (words_in around.structs known has.0) has.1)
-          ∙ parts_shown has.0 (layout_of around.structs known) (laid_as known.std140 around.structs one.ty) 0 laid.0 (number ∷ []) laid.1))
-          (subst (λ u. FitsIn around.structs are t None (value_of (seen (laid_as known.std140 around.structs u) laid.0 has.0))) (sym type) (laid_fits around.structs are t known.std140 laid.0 has.0 has.2))
+          record {
+            std140 = known.std140;
+            offset = laid.0;
+            bytes = has.0;
+            value =
+                ap (λ v. member_value v number) (index_at s.blocks block (words_in around.structs known has.0) has.1)
+                ∙ parts_shown has.0 (layout_of around.structs known) (laid_as known.std140 around.structs one.ty) 0 laid.0 (number ∷ []) laid.1
+                ∙ ap (λ u. value_of (seen (laid_as known.std140 around.structs u) laid.0 has.0)) type;
+            small = has.2;
+            short = has.3;
+          }
+
+  pub root_fits : (s : State) (held : AreHeld few around s) (block number : ℕ) (t : Ty) → HasMemberType around block number t → FitsIn around.structs are t None (value_at (root_value (Block block) s) (number ∷ []))
+  root_fits s held block number t is =
+      let one = root_seen s held block number t is in
+      subst (FitsIn around.structs are t None) (sym one.value) (laid_fits around.structs are t one.std140 one.offset one.bytes one.small)
+
+  -- a runtime array has as many elements as a word counts
+  pub root_few : (s : State) (held : AreHeld few around s) (block number : ℕ) (t : Ty) → HasMemberType around block number t → few ≡ true → has_length_kind (out-Ty t) ≡ true → has_fixed_length t ≡ false → block_parts block number s < 2 ^ 32
+  root_few s held block number t is so long free =
+      let one = root_seen s held block number t is in
+      subst (λ v. length (parts_in v) < 2 ^ 32) (sym one.value) (runtime_few around.structs are t one.std140 one.offset one.bytes long free (one.short so))

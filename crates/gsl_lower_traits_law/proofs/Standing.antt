@@ -190,24 +190,24 @@ module _ (structs : List StructType) (are : AreStructs structs) where
 
 -- ---- what is run
 
-module _ (around : Around) (are : AreStructs around.structs) where
+module _ (few : Bool) (around : Around) (are : AreStructs around.structs) where
   -- Wherever variables have values of their types, and blocks bytes, something leads to what is of a type, and nothing else is done.
   abbrev pub Stays : Ty → Run Access → Type 0
-  Stays t run = (s : State) (units : ℕ) → AreHeld around s → (x : Access) × (run s units ≡ Got x s units) × StandsAt around.structs are t x s
+  Stays t run = (s : State) (units : ℕ) → AreHeld few around s → (x : Access) × (run s units ≡ Got x s units) × StandsAt around.structs are t x s
 
   -- a variable outside blocks
-  pub root_stays : (t : Ty) (root : Root) → is_block root ≡ false → ((s : State) → AreHeld around s → is_value_of around.structs t (root_value root s) ≡ true) → Stays t (given (whole root))
+  pub root_stays : (t : Ty) (root : Root) → is_block root ≡ false → ((s : State) → AreHeld few around s → is_value_of around.structs t (root_value root s) ≡ true) → Stays t (given (whole root))
   root_stays t root outside typed s units held = (whole root, refl, subst (λ b. FitsBy around.structs are b t None (root_value root s)) (sym outside) (typed s held))
 
   -- a member of a block
   pub block_stays : (block number : ℕ) (t : Ty) → HasMemberType around block number t → Stays t (given (member_root block number))
-  block_stays block number t is s units held = (member_root block number, refl, root_fits around are s held block number t is)
+  block_stays block number t is s units held = (member_root block number, refl, root_fits few around are s held block number t is)
 
   -- a value
-  pub value_stays : (t : Ty) (value : Run Value) → IsThere around t value → Stays t (value >>= (λ v. given (whole (Loose v))))
+  pub value_stays : (t : Ty) (value : Run Value) → IsThere few around t value → Stays t (value >>= (λ v. given (whole (Loose v))))
   value_stays t value has s units held = let h = has s units held in (whole (Loose h.0), ap (λ ran. behind ran (λ v. given (whole (Loose v)))) h.1, h.2)
 
-  pub read_there : (others : List StructType) (t : Ty) (shape : Shape) (run : Run Access) → IsSound (length around.structs) t → shape_of t ≡ Some shape → Stays t run → IsThere around t (run >>= (λ a. told_by (read others t a)))
+  pub read_there : (others : List StructType) (t : Ty) (shape : Shape) (run : Run Access) → IsSound (length around.structs) t → shape_of t ≡ Some shape → Stays t run → IsThere few around t (run >>= (λ a. told_by (read others t a)))
   read_there others t shape run sound_t is stays s units held =
       let h = stays s units held in (read others t h.0 s, ap (λ ran. behind ran (λ a. told_by (read others t a))) h.1, read_fits around.structs are others t shape h.0 s sound_t is h.2)
 

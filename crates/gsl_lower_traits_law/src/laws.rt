@@ -1,6 +1,6 @@
 //! Laws of the definitions: calls that do nothing, whose contracts are the laws.
 
-ghost use Rattle.std.specs.Prelude.{◌≡◌, length, true};
+ghost use Rattle.std.specs.Prelude.{◌≡◌, Bool, length, true};
 ghost use Rattle.gsl_types.specs.Known.{AreStructs, IsSound};
 ghost use Rattle.gsl_tree.specs.Around.{Around};
 ghost use Rattle.gsl_tree.specs.Expressions.{IsExpr};
@@ -17,7 +17,7 @@ pub fn traits_tell()
     ensures { (around : Around) (setting : Setting) (e : Expr) → IsExpr around e → Tells (traits_of e) (means setting e) }
 {}
 
-/// What may be evaluated where it does not count is there at once, whatever state a shader is in: it draws no choices, stores nothing and never strays. Of lengths of runtime arrays it is asked for; of other lengths, that they are words; and of swizzles, that they have their words.
+/// What may be evaluated where it does not count is there at once, whatever state a shader is in: it draws no choices, stores nothing and never strays. Of lengths of runtime arrays it is asked that blocks are seen in fewer than 2^32 bytes, or else that they are there; of other lengths, that they are words; and of swizzles, that they have their words.
 pub fn quiet_is_there()
-    ensures { (around : Around) (setting : Setting) (e : Expr) → AreStructs around.structs → IsExpr around e → Throughout (λ (part : Expr). IsSound (length around.structs) (type_of part)) e → Throughout (MayBeThere around setting) e → (traits_of e).quiet ≡ true → IsThere around (type_of e) (means setting e).value }
+    ensures { (few : Bool) (around : Around) (setting : Setting) (e : Expr) → AreStructs around.structs → IsExpr around e → Throughout (λ (part : Expr). IsSound (length around.structs) (type_of part)) e → Throughout (MayBeThere few around setting) e → (traits_of e).quiet ≡ true → IsThere few around (type_of e) (means setting e).value }
 {}

@@ -6,3 +6,6 @@ pub mod Stored
 pub mod Outside
 pub mod Adding
 pub mod Pointed
+pub mod OfElements
+pub mod OfReaching
+pub mod OfReads

@@ -9,8 +9,8 @@ use Rattle.gsl_meaning.specs.Accesses.{Root, with_root}
 use Rattle.gsl_meaning.specs.State as shader
 use Rattle.gsl_lower_follows.specs.Frames.{Global, Holder, Interface as Passed, Local, Name, Param, Stage, value_of}
 use Rattle.gsl_lower_follows.proofs.Holding.{set_elsewhere, set_there}
-use Rattle.gsl_lower_law_names.proofs.Storing.{Other}
-use Rattle.gsl_lower_reaching.specs.Reaching.{root_of}
+use Rattle.gsl_lower_reads.proofs.OfLawNames.{Other}
+use Rattle.gsl_lower_reads.specs.OfReaching.{root_of}
 
 -- what a list has with another item at a number
 data Set (l : List Value) (number : ℕ) (v : Value) (k : ℕ) : Type 0 where

@@ -42,7 +42,7 @@ use Rattle.gsl_lower_law_picks.proofs.Along.{stray_on, words_lead, words_stray}
 use Rattle.gsl_lower_law_picks.proofs.Pointed.{component_pointed_out, path_pointed_out, whole_pointed_out}
 use Rattle.gsl_lower_law_picks.proofs.Unstored.{path_stored_out, stored_out}
 use Rattle.gsl_lower_law_expr.proofs.Shapes.{value_shape}
-use Rattle.gsl_lower_law_names.proofs.Reading.{variable_there}
+use Rattle.gsl_lower_reads.proofs.OfLawNames.{variable_there}
 use Rattle.gsl_lower_holders.specs.Flow as flow
 use Rattle.gsl_lower_holders.specs.Flow.{Flow, behind, find_type, id_at, lift, putting_here, type_by, type_id}
 use Rattle.gsl_lower_expr.specs.Parts.{store_block, store_by, store_composite, store_own, stores}
@@ -51,16 +51,16 @@ use Rattle.gsl_lower_follows.specs.Giving.{Adds, Does, none_waits}
 use Rattle.gsl_lower_follows.proofs.Doing.{does_then, strays_lift}
 use Rattle.gsl_lower_follows.proofs.Fetching.{adds_put}
 use Rattle.gsl_lower_follows.proofs.Growing.{adds_lift}
-use Rattle.gsl_lower_elements.proofs.Indexing.{none_shape}
-use Rattle.gsl_lower_reaching.specs.Reaching.{At, AtVariable, ChoosesBy, IsOwnTrail, IsTrail, PicksBy, Start}
-use Rattle.gsl_lower_reaching.specs.Trails.{ArePositions, Chosen, IsMissing, IsOut, IsOutside, LacksComponent, LeadsOut, MayWrite, Trail}
-use Rattle.gsl_lower_reaching.proofs.Counted.{has_part, lacks_part}
-use Rattle.gsl_lower_reaching.proofs.Moving.{chooses_stand, numbers_stand}
-use Rattle.gsl_lower_reaching.proofs.Parts.{out_whole}
-use Rattle.gsl_lower_reaching.proofs.Seen.{HasValue, has_value}
+use Rattle.gsl_lower_reads.proofs.OfElements.{none_shape}
+use Rattle.gsl_lower_reads.specs.OfReaching.{At, AtVariable, ChoosesBy, IsOwnTrail, PicksBy, Start}
+use Rattle.gsl_lower_reads.specs.OfReaching.{ArePositions, Chosen, IsMissing, IsOut, IsOutside, LacksComponent, LeadsOut, MayWrite, Trail}
+use Rattle.gsl_lower_reads.proofs.OfReaching.{has_part, lacks_part}
+use Rattle.gsl_lower_reads.proofs.OfReaching.{chooses_stand, numbers_stand}
+use Rattle.gsl_lower_reads.proofs.OfReaching.{out_whole}
+use Rattle.gsl_lower_reads.proofs.OfReaching.{HasValue, has_value}
 use Rattle.gsl_lower_reads.proofs.Adding.{always_pointed, always_pointer}
 use Rattle.gsl_lower_writes.proofs.Once.{few, single}
-use Rattle.gsl_lower_writes.proofs.Stored.{at_variable, own_named}
+use Rattle.gsl_lower_writes.proofs.Stored.{at_variable}
 
 -- a vector has as many parts as components
 vector_count : (shape : Shape) (v : Value) → IsOf shape v → 2 ≤ shape.1 → length (parts_in v) ≡ shape.1
@@ -73,7 +73,7 @@ positions_by count (Some part) None positions at chooses within = absurd chooses
 positions_by count (Some part) (Some word) positions at chooses within = within
 
 module _ (m : Module) (input : Input) (sections : Sections) (f : Frame m input sections) (p : Program) (around : Around) (are : AreStructs p.structs) (loose : Start) (t : Ty) where
-  module _ (b : Flow) (s : shader.State) (state : State) (r : Reached) (l : Trail) (good : Good m input sections f p around b s state) (is : IsOwnTrail m input sections f p around false loose b state r l) (outside : IsOutside p.structs true t l) (x : AtVariable m input sections f p around loose r.base l) where
+  module _ (b : Flow) (s : shader.State) (state : State) (r : Reached) (l : Trail) (good : Good m input sections f p around b s state) (is : IsOwnTrail m input sections f p around false loose b state r l) (outside : IsOutside p.structs p.blocks true t l) (x : AtVariable m input sections f p around loose r.base l) where
     has : HasValue m input sections f p around s loose r.base l x
     has = has_value m input sections f p around b s state loose r.base l x good
 
@@ -222,16 +222,16 @@ module _ (m : Module) (input : Input) (sections : Sections) (f : Frame m input s
 
   -- a store strays where the trail leads out of bounds
   pub store_strays : (sound_t : IsSound (length p.structs) t) (value : ℕ) (v : Value) (typed : is_value_of p.structs t v ≡ true) {R : Type 0} (units : ℕ) (b : Flow) (s : shader.State) (state : State) (r : Reached) (l : Trail) (Then : Unit {0} → Flow → R → shader.State → State → Type 0)
-      → Good m input sections f p around b s state → IsTrail m input sections f p around false loose b state r l → IsOutside p.structs true t l → Stands state.ids value v → Does m input sections f p 0 units state Then none_waits Strays (stores p.structs t r value b)
-  store_strays sound_t value v typed units b s state r l Then good is outside stands = let x = own_named m input sections f p around b state loose r l is (outside.named refl) in variable_strays b s state r l good x outside (at_variable m input sections f p around b state loose r l x (outside.named refl)) sound_t value v typed stands units Then
+      → Good m input sections f p around b s state → IsOwnTrail m input sections f p around false loose b state r l → IsOutside p.structs p.blocks true t l → Stands state.ids value v → Does m input sections f p 0 units state Then none_waits Strays (stores p.structs t r value b)
+  store_strays sound_t value v typed units b s state r l Then good is outside stands = variable_strays b s state r l good is outside (at_variable m input sections f p around b state loose r l is (outside.named refl)) sound_t value v typed stands units Then
 
   pub pointed_strays : {R : Type 0} (shape : Shape) (units : ℕ) (b : Flow) (s : shader.State) (state : State) (r : Reached) (l : Trail) (Then : Reached → Flow → R → shader.State → State → Type 0)
-      → Good m input sections f p around b s state → IsTrail m input sections f p around false loose b state r l → IsOutside p.structs true t l → Does m input sections f p 0 units state Then none_waits Strays (lift (pointed shape r) b)
-  pointed_strays shape units b s state r l Then good is outside = let x = own_named m input sections f p around b state loose r l is (outside.named refl) in strays_lift m input sections f p around units b s state Then none_waits (pointed shape r) good (variable_pointed b s state r l good x outside (at_variable m input sections f p around b state loose r l x (outside.named refl)) shape)
+      → Good m input sections f p around b s state → IsOwnTrail m input sections f p around false loose b state r l → IsOutside p.structs p.blocks true t l → Does m input sections f p 0 units state Then none_waits Strays (lift (pointed shape r) b)
+  pointed_strays shape units b s state r l Then good is outside = strays_lift m input sections f p around units b s state Then none_waits (pointed shape r) good (variable_pointed b s state r l good is outside (at_variable m input sections f p around b state loose r l is (outside.named refl)) shape)
 
   -- so does what is made ready to be read and stored, or what is read of it
   pub renewed_strays : {A R : Type 0} (shape : Shape) (units : ℕ) (b : Flow) (s : shader.State) (state : State) (r : Reached) (l : Trail) (next : Reached → flow.Emit A) (Then : A → Flow → R → shader.State → State → Type 0)
-      → Good m input sections f p around b s state → IsTrail m input sections f p around false loose b state r l → IsOutside p.structs true t l → ((to : Reached) → Adds (next to)) → Does m input sections f p 0 units state Then none_waits Strays (next r b)
+      → Good m input sections f p around b s state → IsOwnTrail m input sections f p around false loose b state r l → IsOutside p.structs p.blocks true t l → ((to : Reached) → Adds (next to)) → Does m input sections f p 0 units state Then none_waits Strays (next r b)
       → Does m input sections f p 0 units state Then none_waits Strays (flow.◌>>=◌ (lift (to_renew shape r)) next b)
   unfolding to_renew
   renewed_strays {A} {R} shape units b s state r l next Then good is outside adds strays = by (picks_several r.picked)

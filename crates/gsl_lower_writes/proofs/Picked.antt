@@ -19,8 +19,8 @@ use Rattle.gsl_lower_law_places.specs.Components.{chosen}
 use Rattle.gsl_lower_law_places.specs.Storing.{goes_to, with_components}
 use Rattle.gsl_lower_law_places.proofs.Kept.{component_new, put_on}
 use Rattle.gsl_lower_law_places.proofs.Variables.{parts_are, value_on}
-use Rattle.gsl_lower_reaching.specs.Trails.{ArePicked, Chosen, IsChosen, effective}
-use Rattle.gsl_lower_reaching.specs.Trails.ArePicked.{swizzled, component, repeated}
+use Rattle.gsl_lower_reads.specs.OfReaching.{ArePicked, Chosen, IsChosen, effective}
+use Rattle.gsl_lower_reads.specs.OfReaching.{swizzled, component, repeated}
 use Rattle.gsl_lower_writes.proofs.Once.{all_put, goes_below, goes_once, goes_there, length_put, no_twice, put_sets}
 
 -- what stands there behind the assignment

@@ -43,16 +43,16 @@ use Rattle.gsl_lower_law_places.proofs.Stored.{Nothing, put_acts, stored_left}
 use Rattle.gsl_lower_law_places.proofs.Variables.{variable_components}
 use Rattle.gsl_lower_law_picks.specs.Serving.{IsAt, Serves}
 use Rattle.gsl_lower_law_picks.proofs.Pointed.{pointed_serves, whole_pointed}
-use Rattle.gsl_lower_law_names.proofs.Reading.{outside_blocks, value_as_it_is}
+use Rattle.gsl_lower_reads.proofs.OfLawNames.{outside_blocks, value_as_it_is}
 use Rattle.gsl_lower_holders.specs.Flow.{Flow, lift}
 use Rattle.gsl_lower_follows.specs.Frames.{Frame, Good, HeldAs}
 use Rattle.gsl_lower_follows.specs.Giving.{After, Does, none_waits}
 use Rattle.gsl_lower_follows.proofs.Doing.{does_lift}
-use Rattle.gsl_lower_elements.proofs.Indexing.{after_step}
-use Rattle.gsl_lower_reaching.specs.Reaching.{AtVariable, Begins, IsOwnTrail, PicksBy, Start}
-use Rattle.gsl_lower_reaching.specs.Reaching.Begins.{variable}
-use Rattle.gsl_lower_reaching.specs.Trails.{Chosen, IsInside, IsPicked, Trail}
-use Rattle.gsl_lower_reaching.proofs.Moving.{numbers_stand}
+use Rattle.gsl_lower_reads.proofs.OfElements.{after_step}
+use Rattle.gsl_lower_reads.specs.OfReaching.{AtVariable, Begins, IsOwnTrail, PicksBy, Start}
+use Rattle.gsl_lower_reads.specs.OfReaching.{variable}
+use Rattle.gsl_lower_reads.specs.OfReaching.{Chosen, IsInside, IsPicked, Trail}
+use Rattle.gsl_lower_reads.proofs.OfReaching.{numbers_stand}
 use Rattle.gsl_lower_reads.proofs.Found.{found_picked, found_whole, read_found}
 use Rattle.gsl_lower_writes.proofs.Once.{are_few, are_stored}
 use Rattle.gsl_lower_writes.proofs.Picked.{renewed}
@@ -63,7 +63,7 @@ some_same : {A : Type 0} {a b : A} → Some a ≡ Some b → a ≡ b
 some_same e = cc
 
 module _ (m : Module) (input : Input) (sections : Sections) (f : Frame m input sections) (p : Program) (around : Around) (are : AreStructs p.structs) (loose : Start) (t : Ty) (sound_t : IsSound (length p.structs) t) (shape : Shape) (shaped : shape_of t ≡ Some shape) (r : Reached) (a : Access) (l : Trail)
-    (x : AtVariable m input sections f p around loose r.base l) (inside : IsInside p.structs true t a l) where
+    (x : AtVariable m input sections f p around loose r.base l) (inside : IsInside p.structs p.blocks true t a l) where
   -- Whenever ids still stand for the same, what was given reads what the access does, and what is stored there stands there for the shader too.
   pub record ServesPlace (to : Reached) (ids : Ids) : Type 0 where
     pub reads : (b : Flow) (s : shader.State) (state : State) → Good m input sections f p around b s state → Keeps ids state.ids → Computes m input sections (means_read p.structs t a s, state.choices) state b.sections (read shape to)

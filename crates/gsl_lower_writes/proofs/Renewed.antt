@@ -25,21 +25,21 @@ use Rattle.gsl_lower_law_places.proofs.Stored.{stored_left}
 use Rattle.gsl_lower_law_picks.specs.Outside.{HasPart}
 use Rattle.gsl_lower_law_picks.proofs.Along.{words_lead}
 use Rattle.gsl_lower_law_expr.proofs.Shapes.{value_shape}
-use Rattle.gsl_lower_law_names.proofs.Reading.{variable_there}
-use Rattle.gsl_lower_law_names.proofs.Storing.{Other, holds_set, kept_set, typed_set}
+use Rattle.gsl_lower_reads.proofs.OfLawNames.{variable_there}
+use Rattle.gsl_lower_reads.proofs.OfLawNames.{Other, holds_set, kept_set, typed_set}
 use Rattle.gsl_lower_holders.specs.Flow.{Flow, flow_of}
 use Rattle.gsl_lower_follows.specs.Frames.{Frame, Good, Inside, Name, coming}
 use Rattle.gsl_lower_follows.specs.Giving.{After}
-use Rattle.gsl_lower_reaching.specs.Reaching.{AtVariable, Start}
-use Rattle.gsl_lower_reaching.specs.Trails.{Chosen, IsInside, IsPicked, MayWrite, Trail}
-use Rattle.gsl_lower_reaching.proofs.Counted.{has_part}
-use Rattle.gsl_lower_reaching.proofs.Seen.{HasValue, has_value}
-use Rattle.gsl_lower_elements.proofs.Picked.{shape_typed}
+use Rattle.gsl_lower_reads.specs.OfReaching.{AtVariable, Start}
+use Rattle.gsl_lower_reads.specs.OfReaching.{Chosen, IsInside, IsPicked, MayWrite, Trail}
+use Rattle.gsl_lower_reads.proofs.OfReaching.{has_part}
+use Rattle.gsl_lower_reads.proofs.OfReaching.{HasValue, has_value}
+use Rattle.gsl_lower_reads.proofs.OfElements.{shape_typed}
 use Rattle.gsl_lower_writes.proofs.Named.{named_anew, no_holder, others_stay}
 use Rattle.gsl_lower_writes.proofs.Picked.{picked_stored, renewed, renewed_is}
 
 module _ (m : Module) (input : Input) (sections : Sections) (f : Frame m input sections) (p : Program) (around : Around) (are : AreStructs p.structs) (loose : Start) (t : Ty) (sound_t : IsSound (length p.structs) t) where
-  module _ (b : Flow) (s : shader.State) (state : State) (r : Reached) (a : Access) (l : Trail) (good : Good m input sections f p around b s state) (x : AtVariable m input sections f p around loose r.base l) (inside : IsInside p.structs true t a l) where
+  module _ (b : Flow) (s : shader.State) (state : State) (r : Reached) (a : Access) (l : Trail) (good : Good m input sections f p around b s state) (x : AtVariable m input sections f p around loose r.base l) (inside : IsInside p.structs p.blocks true t a l) where
     has : HasValue m input sections f p around s loose r.base l x
     has = has_value m input sections f p around b s state loose r.base l x good
 

@@ -42,13 +42,12 @@ use Rattle.gsl_lower_follows.proofs.Doing.{does_lift, does_then}
 use Rattle.gsl_lower_follows.proofs.Fetching.{adds_put}
 use Rattle.gsl_lower_follows.proofs.Growing.{adds_lift}
 use Rattle.gsl_lower_follows.proofs.Holding.{after_then, does_so}
-use Rattle.gsl_lower_elements.proofs.Indexing.{after_step, none_shape}
-use Rattle.gsl_lower_reaching.specs.Reaching.{AtVariable, Begins, IsOwnTrail, IsTrail, PicksBy, Start}
-use Rattle.gsl_lower_reaching.specs.Reaching.IsTrail.{own, in_block}
-use Rattle.gsl_lower_reaching.specs.Reaching.Begins.{variable, value, holder}
-use Rattle.gsl_lower_reaching.specs.Trails.{Chosen, IsInside, IsOfVariable, IsPicked, Trail}
-use Rattle.gsl_lower_reaching.proofs.Moving.{chooses_stand, numbers_stand, own_after}
-use Rattle.gsl_lower_reaching.proofs.Parts.{whole_picked}
+use Rattle.gsl_lower_reads.proofs.OfElements.{after_step, none_shape}
+use Rattle.gsl_lower_reads.specs.OfReaching.{AtVariable, Begins, IsOwnTrail, PicksBy, Start}
+use Rattle.gsl_lower_reads.specs.OfReaching.{variable, value, holder}
+use Rattle.gsl_lower_reads.specs.OfReaching.{Chosen, IsInside, IsPicked, MayStore, Trail}
+use Rattle.gsl_lower_reads.proofs.OfReaching.{chooses_stand, numbers_stand, own_after}
+use Rattle.gsl_lower_reads.proofs.OfReaching.{whole_picked}
 use Rattle.gsl_lower_reads.proofs.Adding.{always_pointer}
 use Rattle.gsl_lower_writes.specs.Written.{IsWritten}
 use Rattle.gsl_lower_writes.proofs.Once.{are_few, are_stored}
@@ -56,18 +55,14 @@ use Rattle.gsl_lower_writes.proofs.Picked.{renewed}
 use Rattle.gsl_lower_writes.proofs.Renewed.{after_stored, all, leads, new, new_shape, old, once, part, part_shape, points, there}
 
 module _ (m : Module) (input : Input) (sections : Sections) (f : Frame m input sections) (p : Program) (around : Around) where
-  -- what may be written is in a variable
-  pub own_named : (b : Flow) (state : State) (loose : Start) (r : Reached) (l : Trail) → IsTrail m input sections f p around false loose b state r l → IsOfVariable l.root → IsOwnTrail m input sections f p around false loose b state r l
-  own_named b state loose r l (own x) named = x
-  own_named b state loose r l (in_block x) named = absurd (subst IsOfVariable x.begins.begins named)
-
-  pub at_variable : (b : Flow) (state : State) (loose : Start) (r : Reached) (l : Trail) → IsOwnTrail m input sections f p around false loose b state r l → IsOfVariable l.root → AtVariable m input sections f p around loose r.base l
+  -- what may be written outside blocks begins at a variable
+  pub at_variable : (b : Flow) (state : State) (loose : Start) (r : Reached) (l : Trail) → IsOwnTrail m input sections f p around false loose b state r l → MayStore p.blocks l.root → AtVariable m input sections f p around loose r.base l
   at_variable b state loose r l is named = by is.begins
     where
       by : Begins m input sections f p around (λ id v. HeldAs m input sections f false id v b state) b.place.used state loose r.base r.path l → AtVariable m input sections f p around loose r.base l
       by (variable x) = x
-      by (value x) = absurd (subst IsOfVariable x.begins named)
-      by (holder x) = absurd (subst IsOfVariable x.begins named)
+      by (value x) = absurd (subst (MayStore p.blocks) x.begins named)
+      by (holder x) = absurd (subst (MayStore p.blocks) x.begins named)
 
   -- what is picked, where the ids stand for the words
   pub picks_stand : (b : Flow) (state : State) (q : Picked) (c : Chosen) → PicksBy (λ id v. HeldAs m input sections f false id v b state) (Some q) (Some c) → 1 ≤ length c.positions → AreWithin c.shape.1 c.word c.positions → Picks state.ids q c.word
@@ -77,7 +72,7 @@ module _ (m : Module) (input : Input) (sections : Sections) (f : Frame m input s
     within = subst (λ (shape : Shape). AreWithin shape.1 c.word q.positions) (sym picks.0) (subst (AreWithin c.shape.1 c.word) (sym picks.1) within);
   }
 
-  module _ (are : AreStructs p.structs) (loose : Start) (t : Ty) (sound_t : IsSound (length p.structs) t) (value : ℕ) (v : Value) (typed : is_value_of p.structs t v ≡ true) (a : Access) (l : Trail) (inside : IsInside p.structs true t a l) where
+  module _ (are : AreStructs p.structs) (loose : Start) (t : Ty) (sound_t : IsSound (length p.structs) t) (value : ℕ) (v : Value) (typed : is_value_of p.structs t v ≡ true) (a : Access) (l : Trail) (inside : IsInside p.structs p.blocks true t a l) where
     abbrev IsDone : Flow → State → Unit {0} → Flow → Unit {0} → shader.State → State → Type 0
     IsDone = IsWritten m input sections f p around
 
@@ -203,6 +198,6 @@ module _ (m : Module) (input : Input) (sections : Sections) (f : Frame m input s
           by None e = composite_stored x e
 
     -- a value is stored where the trail leads
-    pub trail_stored : (b : Flow) (s : shader.State) (units : ℕ) (state : State) (r : Reached) → Good m input sections f p around b s state → IsTrail m input sections f p around false loose b state r l → Stands state.ids value v
+    pub trail_stored : (b : Flow) (s : shader.State) (units : ℕ) (state : State) (r : Reached) → Good m input sections f p around b s state → IsOwnTrail m input sections f p around false loose b state r l → Stands state.ids value v
         → Does m input sections f p 0 units state (IsDone b state) none_waits (Got tt (means_stored a v s) units) (stores p.structs t r value b)
-    trail_stored b s units state r good is stands = own_all b s units state r good (own_named b state loose r l is (inside.named refl)) stands
+    trail_stored b s units state r good is stands = own_all b s units state r good is stands

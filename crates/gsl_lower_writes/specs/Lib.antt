@@ -1,1 +1,4 @@
 pub mod Written
+pub mod Serving
+pub mod OfReaching
+pub mod OfReads

@@ -1,4 +1,4 @@
-use Rattle.gsl_cmd_law.proofs.Asked.{blockless_asked}
+use Rattle.gsl_cmd_law.proofs.Blocks.{blockless_asked}
 use Rattle.gsl_cmd_law.proofs.laws.programs_without_blocks_are_asked.Goals as goal
 
 pub returns : goal.returns

@@ -1,5 +1,5 @@
-use Rattle.gsl_lower_law_evaluated.specs.Evaluating.{Asks}
-use Rattle.gsl_lower_law_evaluated.proofs.Whole.{expr_evaluates}
+use Rattle.gsl_lower_law_shader.specs.OfLawEvaluated.{Asks}
+use Rattle.gsl_lower_law_shader.proofs.OfLawEvaluated.{expr_evaluates}
 use Rattle.gsl_lower_law_throughout.proofs.Holding.{expression}
 use Rattle.gsl_lower_law_throughout.proofs.laws.expressions_evaluate.Goals as goal
 

@@ -1,0 +1,3 @@
+-- Passed on for crates above.
+pub use Rattle.gsl_lower_reads.specs.Accessing.{accessed_means}
+pub use Rattle.gsl_lower_reads.specs.Waiting.{IsKept}

@@ -1,0 +1,9 @@
+pub mod Both
+pub mod Spots
+pub mod Told
+pub mod Itself
+pub mod Whole
+pub mod Picked
+pub mod Renewed
+pub mod Outside
+pub mod OfWrites

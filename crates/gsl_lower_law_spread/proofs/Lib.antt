@@ -1,0 +1,10 @@
+pub mod Filled
+pub mod FilledStructs
+pub mod Within
+pub mod Put
+pub mod Whole
+pub mod Outside
+pub mod Spread
+pub mod OfLawWritten
+pub mod OfReaching
+pub mod OfReads

@@ -1,0 +1,3 @@
+pub mod OfLawStored
+pub mod OfReaching
+pub mod OfReads

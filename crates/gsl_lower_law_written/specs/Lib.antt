@@ -1,0 +1,4 @@
+pub mod OfLawStored
+pub mod OfReaching
+pub mod OfReads
+pub mod OfWrites

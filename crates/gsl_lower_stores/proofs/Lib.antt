@@ -1,0 +1,5 @@
+pub mod Staying
+pub mod Stored
+pub mod Ready
+pub mod OfReads
+pub mod OfWrites

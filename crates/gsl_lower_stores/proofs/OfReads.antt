@@ -1,0 +1,2 @@
+-- Passed on for crates above.
+pub use Rattle.gsl_lower_law_spread.proofs.OfReads.{adds_fetched, adds_held, adds_probe, adds_reads, is_fetched, is_held, probe_in, probe_out, read_strays, taken}
