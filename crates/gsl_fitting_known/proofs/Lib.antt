@@ -1,0 +1,9 @@
+pub mod Types
+pub mod Wanting
+pub mod Leaves
+pub mod Roomy
+pub mod Found
+pub mod OfFittingKinds
+pub mod OfFittingRows
+pub mod OfFittingReaching
+pub mod OfFittingPassed

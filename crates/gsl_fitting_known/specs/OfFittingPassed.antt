@@ -1,0 +1,2 @@
+-- Passed on for crates above.
+pub use Rattle.gsl_fitting_passed.specs.Arguments.{ArePassed, GoesBack, GoesBackBy, HasZeros, IsCallable, IsDeclared, IsPassed, Way, asked_by_all, types_of}

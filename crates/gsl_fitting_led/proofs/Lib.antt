@@ -1,0 +1,4 @@
+pub mod Places
+pub mod Assigns
+pub mod Indexes
+pub mod Passed

@@ -1,0 +1,9 @@
+pub mod Simple
+pub mod Pairs
+pub mod Picked
+pub mod Truths
+pub mod Operands
+pub mod Rows
+pub mod Counted
+pub mod OfFittingKnown
+pub mod OfFittingPassed

@@ -1,0 +1,3 @@
+pub mod OfFittingReads
+pub mod OfFittingKnown
+pub mod OfFittingPassed
