@@ -35,7 +35,7 @@ use Rattle.gsl_sound_code.proofs.Functions.{body_of}
 use Rattle.gsl_sound_code.proofs.Looks.{Kept}
 use Rattle.gsl_sound_code.proofs.Walks.{enter, step_of}
 use Rattle.gsl_sound_types.specs.Typed.{Typed, types_below, types_in, types_of}
-use Rattle.gsl_sound_types.proofs.Entering.{AreOfTypes}
+use Rattle.gsl_sound_types.proofs.Entering.{AreOfTypes, begin_typed, own_variables}
 use Rattle.gsl_frames.specs.declared.taken.Taken.{Taken}
 use Rattle.gsl_frames.specs.Frames.{frame, held_words, taken_in}
 use Rattle.gsl_shown.specs.Shown.{Shows, ShowsEach, ShowsIds, Standing, held_as}
@@ -138,6 +138,27 @@ module _ (m : Module) (kept : Kept m) (valid : ids_defined_once m ≡ None) (inp
         shows.ids,
         shows.waiting,
       )
+
+  -- the words of what is given are within what the function takes
+  pub given_fits : (body : List Placed) → function_at m function ≡ Some body → length New ≤ (frame m body).most
+  given_fits body at =
+      let own_types = types_of m (variables_of b.body) in
+      let parameters = parameters_of (defined_as m it.function_type) in
+      let counted = arguments_counted m kept Types own_types parameters held arguments_are in
+      let same_words = arguments_stay m kept Types own_types parameters held arguments_are in
+      let fit = parameters_fit m kept valid function type it.own it.function_type it.is b in
+      let size : length New ≡ sum_by (held_words m) parameters = ap length (sym same_words) ∙ counted_all m (held_as m (Types ++ own_types)) parameters held counted in
+      let same : b.body ≡ body = (let both : Some b.body ≡ Some body = sym b.found ∙ at in cc) in
+      let most : (frame m b.body).most ≡ (frame m body).most = ap (λ l. (frame m l).most) same in
+      omega (arith, size, fit, most)
+
+  -- its variables begin with as many words as it takes for them
+  pub initial_fits : (body : List Placed) → function_at m function ≡ Some body → length (flat_all (map (begins_as m) (variables_of body))) ≡ (frame m body).variables
+  initial_fits body at =
+      let same : b.body ≡ body = (let both : Some b.body ≡ Some body = sym b.found ∙ at in cc) in
+      subst (λ l. length (flat_all (map (begins_as m) (variables_of l))) ≡ (frame m l).variables) same
+      (words_typed m (types_of m (variables_of b.body)) (map (begins_as m) (variables_of b.body)) (begin_typed m kept type b.body b.before b.spot (variables_of b.body) (own_variables m kept type b.body b.before b.spot))
+      ∙ sym (variables_counted m kept b.body type b.before b.spot (stays_in m kept b.body type b.before b.body b.spot)))
 
   pub call_shown : (first : ℕ) → from_first_label b.body ≡ left m first → Base + (frame m b.body).most ≤ length slots
       → Shows m (record { at = first; body = number_of m function; slots = Base; variables = f.variables + (frame m state.body).variables }) (f ∷ callers) (with_words slots Base New)

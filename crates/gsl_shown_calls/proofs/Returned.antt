@@ -57,10 +57,10 @@ module _ (m : Module) (f g : Standing) (callers : List Standing) (slots words : 
     abbrev At : ℕ → ℕ
     At id = g.slots + place m id
 
-    place_is : place m call.result ≡ T.top
+    pub place_is : place m call.result ≡ T.top
     place_is = place_given m kept g.at call.result called.instr (drop (g.at + 1) m.instrs) called.here called.gives ∙ ap (λ k. in_front k T) called.is
 
-    top_fits : T.top + length (flat v) ≤ (frame m call.body).most
+    pub top_fits : T.top + length (flat v) ≤ (frame m call.body).most
     top_fits =
         let w = subst (WaitEach m (length state.variables) good.returned) waits good.waiting in
         let all = stays_in m kept call.body w.0 (w.1.instr ∷ w.1.before) call.rest w.1.spot in
@@ -72,7 +72,7 @@ module _ (m : Module) (f g : Standing) (callers : List Standing) (slots words : 
         ∙ all_behind m (types_below m calls) g call.body slots call.own call.ids ids called.instr called.here called.type called.function called.arguments called.is) in
         omega (arith, grown, low, same, size, top)
 
-    room : g.slots + T.top + length (flat v) ≤ length slots
+    pub room : g.slots + T.top + length (flat v) ≤ length slots
     room = let fits = top_fits in let most = ids.room in omega (arith, fits, most)
 
     value_shown : Shows m (record g { at = g.at + 1 }) callers (with_words slots (g.slots + T.top) (flat v)) words buffers choices (record (back_in call calls state) { ids = give call.ids call.result (Whole v) })

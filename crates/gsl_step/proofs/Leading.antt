@@ -76,7 +76,7 @@ module _ (m : Module) (kept : Kept m) (once : ids_defined_once m ≡ None) (inpu
           let place : code ≡ left m (number_of m label - 1) = (label_stands m once machine.standing.body label code (ap (λ l. from_label l label) (sym shown.shows.ids.body_is) ∙ found)).1 in
           let there = branch_shown m kept input (stood machine.standing) (map stood machine.callers) machine.slots machine.words machine.buffers machine.choices state good shown.shows label (number_of m label - 1) (found ∙ ap Some place) in
           subst (λ l. IsShown m (At label) (in_new_block (record state { rest = l }))) (sym place)
-          (record { shows = there; constants_are = shown.constants_are; behind = shown.behind; places = shown.places; numbers = shown.numbers })
+          (record { shows = there; constants_are = shown.constants_are; behind = shown.behind; places = shown.places; reach = shown.reach; numbers = shown.numbers })
 
   module _ (typed : Typed m state) (p : Placed) (comes : state.rest ≡ p ∷ more) where
     operands : (d : Instruction) → read p.instr ≡ Some d → operands_typed m d ≡ true

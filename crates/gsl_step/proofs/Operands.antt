@@ -1,16 +1,17 @@
 -- The words of an operand stand where they are said to.
 use Rattle.std.proofs.Common.{◌≡◌, refl, sym, ap, ◌∙◌, subst, ℕ, zero, suc, ◌+◌, ◌<◌, Bool, true, false, ◌&&◌, ◌||◌, if◌then◌else◌, is_some, List, [], ◌∷◌, ◌++◌, length, take, drop, Option, Some, None, inl, inr, arith, append_assoc, append-nil, length-append}
-use Rattle.std.specs.Prelude.{nat_le, nat_lt}
-use Rattle.std.proofs.lemmas.Bool.{and_parts, cases_lt, cond-true, false≢true, ltb-true, true≢false}
+use Rattle.std.specs.Prelude.{◌==◌, nat_le, nat_lt}
+use Rattle.std.proofs.lemmas.Bool.{and_parts, cases_lt, cond-true, eqb-true, false≢true, ltb-true, true≢false}
 use Rattle.std.proofs.lemmas.List.{take-append-drop}
 use Rattle.gsl_base.specs.declared.input.Input.{Input}
+use Rattle.gsl_instr.specs.declared.enumerant.storage_class.TheConstants as storage_class
 use Rattle.gsl_instr.specs.declared.instruction.Instruction.{Instruction}
 use Rattle.gsl_words.specs.declared.module.Instr.{Instr}
 use Rattle.gsl_words.specs.declared.module.Module.{Module}
 use Rattle.gsl_values.specs.declared.value.Value.{Value}
 use Rattle.gsl_valid.specs.CallRules.{takes}
 use Rattle.gsl_valid.specs.FunctionRules.{outside}
-use Rattle.gsl_valid.specs.GlobalRules.{is_global, is_global_of}
+use Rattle.gsl_valid.specs.GlobalRules.{begins_with, holds, is_global, is_global_of}
 use Rattle.gsl_valid.specs.Ids.{defines, definition, result}
 use Rattle.gsl_valid.specs.IdsDefinedOnce.{is_new}
 use Rattle.gsl_valid.specs.Instruction.{read}
@@ -20,7 +21,7 @@ use Rattle.gsl_valid.specs.Placed.{Code}
 use Rattle.gsl_valid.specs.Types.{Target, defined_as, target_of}
 use Rattle.gsl_valid.specs.Where.{bounds_one, inside_after, stands_after, where_at}
 use Rattle.gsl_machine.specs.Constants.{constant}
-use Rattle.gsl_machine.specs.State.{Held, Outcome, Points, State, Whole, on_whole}
+use Rattle.gsl_machine.specs.State.{Held, Outcome, Points, State, Stuck, Whole, on_whole}
 use Rattle.gsl_region.specs.Flat.{flat}
 use Rattle.gsl_region.proofs.Focus.{middle}
 use Rattle.gsl_kinds.specs.Runtimes.{front}
@@ -33,6 +34,7 @@ use Rattle.gsl_sound_ids.proofs.Globals.{sorted}
 use Rattle.gsl_sound_ids.proofs.Variables.{local_variable}
 use Rattle.gsl_sound_types.specs.Typed.{IsAs, Typed, types_in}
 use Rattle.gsl_sound_types.proofs.Holding.{of_value}
+use Rattle.gsl_sound_types.proofs.Memories.{local_one}
 use Rattle.gsl_sound_values.specs.Shaped.{is_shaped}
 use Rattle.gsl_operands.specs.Operands.{constants, constants_below, if_constant, stands, stands_at}
 use Rattle.gsl_step.specs.Machine.{IsShown, Leads}
@@ -40,7 +42,7 @@ use Rattle.gsl_step.specs.declared.machine.Machine.{Machine}
 
 -- ---- constants in a row
 
-split_below : (m : Module) (bound id : ℕ) → id < bound → (rest : List ℕ) × (constants_below m bound ≡ constants_below m id ++ (flat (constant m id) ++ rest))
+pub split_below : (m : Module) (bound id : ℕ) → id < bound → (rest : List ℕ) × (constants_below m bound ≡ constants_below m id ++ (flat (constant m id) ++ rest))
 unfolding constants_below
 split_below m zero id low = absurd (omega (arith, low))
 split_below m (suc bound) id low = elim (cases_lt id bound) [
@@ -79,26 +81,33 @@ start_one m before i started = by_kind (kind (read i)) refl
     by_kind k is inside =
         stays_started m (where_at m before).standing (kind (read i)) (ap bounds_one is) (started (sym (inside_same (where_at m before).inside (kind (read i)) (ap bounds_one is)) ∙ inside))
 
--- The type of a variable is one of pointers.
-abbrev IsPointed : Module → Variable → Type 0
-IsPointed m v = (t : Target) × (target_of (defined_as m v.type) ≡ Some t)
+-- The type of a variable is one of pointers of its class.
+abbrev pub IsPointed : Module → Variable → Type 0
+IsPointed m v = (t : Target) × (target_of (defined_as m v.type) ≡ Some t) × (t.class ≡ v.class)
 
 pointed : (m : Module) (before code : Code) (id : ℕ) (v : Variable) → KeepAll m before code → Started m before → variable_is (definition code id) ≡ Some v → IsPointed m v
 pointed m before [] id v keep started is = absurd (cc)
 pointed m before (i ∷ code) id v keep started is = by_test (defines i id) (pointed m (i ∷ before) code id v keep.1 (start_one m before i started)) is
   where
-    by_target : (o : Option Target) → is_global_of m v.class v.initialiser o ≡ true → (t : Target) × (o ≡ Some t)
+    by_target : (o : Option Target) → is_global_of m v.class v.initialiser o ≡ true → (t : Target) × (o ≡ Some t) × (t.class ≡ v.class)
     by_target None kept = absurd (false≢true kept)
-    by_target (Some t) kept = (t, refl)
+    by_target (Some t) kept =
+        (t, refl, eqb-true t.class v.class (and_parts (t.class == v.class) (holds m v.class t.pointee) (and_parts (t.class == v.class && holds m v.class t.pointee) (begins_with m v.class t.pointee v.initialiser) kept).0).0)
 
     by_inside : (b : Bool) → (where_at m before).inside ≡ b → variable_is (read i) ≡ Some v → IsPointed m v
-    by_inside true inside is = (local_variable m before i code v keep.0 (started inside) is).1
+    by_inside true inside is =
+        let class = (local_variable m before i code v keep.0 (started inside) is).0 in
+        let local = local_one m before i code v keep.0 (started inside) is in
+        (local.target, local.points, eqb-true local.target.class storage_class.FUNCTION local.class ∙ sym (eqb-true v.class storage_class.FUNCTION class))
     by_inside false inside is =
         by_target (target_of (defined_as m v.type)) (ap (is_global m) (sym is) ∙ sym (ap (λ b. b || is_global m (variable_is (read i))) inside) ∙ keep.0.global)
 
     by_test : (b : Bool) → (variable_is (definition code id) ≡ Some v → IsPointed m v) → variable_is (if b then read i else definition code id) ≡ Some v → IsPointed m v
     by_test true later is = by_inside (where_at m before).inside refl is
     by_test false later is = later is
+
+pub pointed_at : (m : Module) (kept : Kept m) (id : ℕ) (v : Variable) → variable_is (defined_as m id) ≡ Some v → IsPointed m v
+pointed_at m kept id v known = pointed m [] m.instrs id v kept.all (λ inside. absurd (false≢true inside)) known
 
 -- ---- operands
 
@@ -133,7 +142,7 @@ module _ (m : Module) (kept : Kept m) (input : Input) (machine : Machine) (state
   abbrev pub Top : ℕ
   Top = machine.standing.slots + (taken_in m (front m machine.standing.at)).top
 
-  fixed_stands : (id : ℕ) → id < m.bound → IsHeld machine.slots Top (length (constants_below m id)) (flat (constant m id))
+  pub fixed_stands : (id : ℕ) → id < m.bound → IsHeld machine.slots Top (length (constants_below m id)) (flat (constant m id))
   fixed_stands id low =
       let s = split_below m m.bound id low in
       let words = flat (constant m id) in
@@ -163,7 +172,7 @@ module _ (m : Module) (kept : Kept m) (input : Input) (machine : Machine) (state
         )
     | inr other ↦ elim other [
       | inl variable ↦ (
-          let p = pointed m [] m.instrs id variable.0 kept.all (λ inside. absurd (false≢true inside)) (ap variable_in variable.1) in
+          let p = pointed_at m kept id variable.0 (ap variable_in variable.1) in
           let target : target_of (defined_as m type) ≡ Some p.0 = ap (λ t. target_of (defined_as m t)) (sym variable.2) ∙ p.1 in
           absurd (subst (λ x. IsAs m (types_in m state) type x (Whole v)) target (typed.frame.held.each id type (Whole v) is known))
           )
@@ -183,11 +192,15 @@ module _ (m : Module) (kept : Kept m) (input : Input) (machine : Machine) (state
   ]
 
   -- goes on with the value of an id of a type, whose words stand in the slots
+  pub with_value : (P : Outcome → Type 0) → P Stuck → (id type : ℕ) (go : Value → Outcome) → type_of (defined_as m id) ≡ Some type
+      → ((v : Value) → state.ids id ≡ Some (Whole v) → is_shaped m type v ≡ true → IsHeld machine.slots Top (stands m machine.standing.slots id) (flat v) → P (go v)) → P (on_whole (state.ids id) go)
+  with_value P stuck id type go known fine = by_held (state.ids id) refl
+    where
+      by_held : (o : Option Held) → state.ids id ≡ o → P (on_whole o go)
+      by_held None is = stuck
+      by_held (Some (Whole v)) is = fine v is (of_value m kept (types_in m state) type v (typed.frame.held.each id type (Whole v) is known)) (operand_stands id type v known is)
+      by_held (Some (Points to)) is = stuck
+
   pub with_operand : (next : Machine) (id type : ℕ) (go : Value → Outcome) → type_of (defined_as m id) ≡ Some type
       → ((v : Value) → is_shaped m type v ≡ true → IsHeld machine.slots Top (stands m machine.standing.slots id) (flat v) → Leads m next (go v)) → Leads m next (on_whole (state.ids id) go)
-  with_operand next id type go known fine = by_held (state.ids id) refl
-    where
-      by_held : (o : Option Held) → state.ids id ≡ o → Leads m next (on_whole o go)
-      by_held None is = tt
-      by_held (Some (Whole v)) is = fine v (of_value m kept (types_in m state) type v (typed.frame.held.each id type (Whole v) is known)) (operand_stands id type v known is)
-      by_held (Some (Points to)) is = tt
+  with_operand next id type go known fine = with_value (Leads m next) tt id type go known (λ v is shaped held. fine v shaped held)

@@ -25,7 +25,7 @@ module _ (m : Module) (machine : Machine) (state : State) (shown : IsShown m mac
         → Shows m (stood (record machine.standing { at = machine.standing.at + 1 })) (map stood machine.callers) machine.slots machine.words machine.buffers machine.choices later → IsShown m (record machine { standing = s }) later
     moved later is shows =
         subst (λ f. IsShown m (record machine { standing = f }) later) (sym is)
-        (record { shows = shows; constants_are = shown.constants_are; behind = shown.behind; places = shown.places; numbers = shown.numbers })
+        (record { shows = shows; constants_are = shown.constants_are; behind = shown.behind; places = shown.places; reach = shown.reach; numbers = shown.numbers })
 
     pub label_passed : kind (read p.instr) ≡ Opens → IsShown m (record machine { standing = s }) (in_new_block (record state { rest = more }))
     label_passed is =

@@ -31,8 +31,9 @@ pub record IsShown (m : Module) (machine : Machine) (state : State) : Type 0 whe
   -- the words of all constants stand in front of the slots of functions
   pub constants_are : take (length (constants m)) machine.slots ≡ constants m
   pub behind : AllByRecursion (λ (f : Standing). length (constants m) ≤ f.slots) (machine.standing ∷ machine.callers)
-  -- all places among the slots are told, and all numbers of instructions are words
+  -- all places among the slots and among the words of variables are told, and all numbers of instructions are words
   pub places : length machine.slots ≤ most
+  pub reach : length machine.words ≤ most
   pub numbers : length m.instrs < 2 ^ 32
 
 -- ---- what a machine does

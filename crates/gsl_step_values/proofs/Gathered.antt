@@ -49,12 +49,12 @@ use Rattle.gsl_step_values.proofs.Two.{operands}
 
 -- ---- lists
 
-map_behind : (f : ℕ → List ℕ) (xs ys : List ℕ) → flat_map f (xs ++ ys) ≡ flat_map f xs ++ flat_map f ys
+pub map_behind : (f : ℕ → List ℕ) (xs ys : List ℕ) → flat_map f (xs ++ ys) ≡ flat_map f xs ++ flat_map f ys
 map_behind f [] ys = refl
 map_behind f (x ∷ xs) ys = ap (λ l. f x ++ l) (map_behind f xs ys) ∙ sym (append_assoc (f x) (flat_map f xs) (flat_map f ys))
 
 -- words put behind words that were put
-put_behind : (slots w part : List ℕ) (at : ℕ) → at + (length w + length part) ≤ length slots → with_words (with_words slots at w) (at + length w) part ≡ with_words slots at (w ++ part)
+pub put_behind : (slots w part : List ℕ) (at : ℕ) → at + (length w + length part) ≤ length slots → with_words (with_words slots at w) (at + length w) part ≡ with_words slots at (w ++ part)
 put_behind slots w part at room =
     let a = take at slots in
     let long : length (take at slots) ≡ at = length-take-le at slots (omega (arith, room)) in
@@ -69,7 +69,7 @@ put_behind slots w part at room =
 
 -- ---- one operand more
 
-nth_each : (P : ℕ → Type 0) (xs : List ℕ) (k x : ℕ) → AllByRecursion P xs → drop k xs ≡ x ∷ drop (k + 1) xs → P x
+pub nth_each : (P : ℕ → Type 0) (xs : List ℕ) (k x : ℕ) → AllByRecursion P xs → drop k xs ≡ x ∷ drop (k + 1) xs → P x
 nth_each P [] zero x all is = absurd (cc)
 nth_each P [] (suc k) x all is = absurd (cc)
 nth_each P (y ∷ xs) zero x all is = subst P (let same : y ≡ x = cc in same) all.0

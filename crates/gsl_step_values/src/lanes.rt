@@ -45,7 +45,7 @@ pub(crate) fn put_two(
 }
 
 /// Puts so many words to a place behind them.
-pub(crate) fn put_same(slots: &mut Slots, from: u64, at: u64, count: u64)
+pub fn put_same(slots: &mut Slots, from: u64, at: u64, count: u64)
     ensures { from + count ≤ at → at + count ≤ length slots.old → slots.new ≡ with_words slots.old at (take count (drop from slots.old)) }
 {
     if has_room(slots, from, at, count) {

@@ -50,7 +50,7 @@ fn part_in(definitions: &Definitions<'_>, shape: Shape<'_>, number: u32) -> Opti
 }
 
 /// The type of the part of a number, if there is a type.
-fn part_of(definitions: &Definitions<'_>, type_: Option<u32>, number: u32) -> Option<u32>
+pub fn part_of(definitions: &Definitions<'_>, type_: Option<u32>, number: u32) -> Option<u32>
     ensures { result ≡ spec.part_of definitions.now type_ number }
 {
     match type_ {
@@ -61,7 +61,7 @@ fn part_of(definitions: &Definitions<'_>, type_: Option<u32>, number: u32) -> Op
 
 /// How many words stand in front of the part of a number, if there is a type.
 #[tactic(auto, unfolding(gsl_leaves::specs::Table::told))]
-fn ahead_of(leaves: &Leaves<'_>, type_: Option<u32>, number: u32) -> u64
+pub fn ahead_of(leaves: &Leaves<'_>, type_: Option<u32>, number: u32) -> u64
     ensures { result ≡ told (spec.ahead_of leaves.now type_ number) }
 {
     match type_ {
@@ -84,7 +84,7 @@ pub(crate) fn offset(leaves: &Leaves<'_>, type_: Option<u32>, path: &[u32]) -> u
 }
 
 /// How many words an operand has, as far as it is told.
-pub(crate) fn words_of(operands: &Operands<'_>, id: u32) -> u64
+pub fn words_of(operands: &Operands<'_>, id: u32) -> u64
     ensures typed { (type : ℕ) → kinds.type_of (defined_as operands.now id) ≡ Some type → counts.leaves operands.now type ≤ most → result ≡ counts.leaves operands.now type }
     ensures all { spec.count_in operands.now (kinds.type_of (defined_as operands.now id)) ≤ most → result ≡ spec.count_in operands.now (kinds.type_of (defined_as operands.now id)) }
 {

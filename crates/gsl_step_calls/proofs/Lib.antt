@@ -1,0 +1,4 @@
+pub mod Apart
+pub mod Ended
+pub mod Valued
+pub mod Called

@@ -1,0 +1,4 @@
+pub mod Given
+pub mod Begins
+pub mod Words
+pub mod Entries

@@ -1,0 +1,4 @@
+pub mod Telling
+pub mod Picks
+pub mod Chains
+pub mod Followed

@@ -1,0 +1,5 @@
+pub mod Seats
+pub mod Led
+pub mod Copied
+pub mod Loads
+pub mod Stored
