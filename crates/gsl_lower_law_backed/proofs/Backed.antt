@@ -1,24 +1,13 @@
--- Each block lies by a well-formed layout, in a buffer of its own.
-use Rattle.std.proofs.Common.{◌≡◌, refl, sym, ap, ◌∙◌, subst, ℕ, zero, suc, ◌≤◌, Bool, true, false, IsTrue, nat_lt, List, [], ◌∷◌, length, Option, Some, None, Err, arith, if◌then◌else◌}
+-- Each block has a buffer of its own.
+use Rattle.std.proofs.Common.{◌≡◌, refl, sym, ap, ◌∙◌, subst, ℕ, zero, suc, ◌≤◌, Bool, true, false, nat_lt, List, [], ◌∷◌, length, Option, Some, None, Err, arith, if◌then◌else◌}
 use Rattle.std.specs.Prelude.{slice_get}
-use Rattle.std.specs.List.{AllByRecursion}
 use Rattle.gsl_base.specs.Proper.{IsProper}
 use Rattle.gsl_base.specs.declared.input.Input.{Input}
 use Rattle.gsl_base.specs.declared.input.InputRefusal.{InputRefusal}
 use Rattle.gsl_inputs.specs.Demands.{and_met, bytes_met}
-use Rattle.gsl_layout.specs.Extents.{ArePlain, plain}
-use Rattle.gsl_layout.specs.Layout.{IsLayout}
-use Rattle.gsl_layout.specs.Raising.{std140_raises, std430_raises}
-use Rattle.gsl_layout.specs.Rules.{Raises}
-use Rattle.gsl_layout.proofs.Sound.{block_layout}
-use Rattle.gsl_types.specs.declared.ty.Member.{Member}
-use Rattle.gsl_types.specs.declared.ty.StructType.{StructType}
-use Rattle.gsl_tree.specs.Laying.{layout_of, members_of, placings_of, rule_of}
-use Rattle.gsl_tree.specs.WellTyped.{IsBlock, IsProgram, IsStructDeclared, IsVariableType, is_push}
+use Rattle.gsl_tree.specs.WellTyped.{IsProgram, is_push}
 use Rattle.gsl_tree.specs.declared.program.Program.{Program}
 use Rattle.gsl_tree.specs.declared.unit.Block.{Block}
-use Rattle.gsl_block_words.proofs.Buffered.{holds_at}
-use Rattle.gsl_block_words.proofs.Formed.{members_laid, members_sound, same_plain}
 use Rattle.gsl_views.specs.Buffers.{bytes_at}
 use Rattle.gsl_meaning.specs.Blocks.{given_bytes}
 use Rattle.gsl_meaning.specs.Fits.{absent, blocks_met, ids_met, is_given, short, values_met}
@@ -30,6 +19,7 @@ use Rattle.gsl_spv.specs.Finished.{module_of}
 use Rattle.gsl_lower_holders.specs.Flow.{Flow}
 use Rattle.gsl_lower_follows.specs.Frames.{Frame}
 use Rattle.gsl_lower_law_bound.specs.Bound as bound
+use Rattle.gsl_lower_law_bound.proofs.Layouts.{block_laid, one_block}
 use Rattle.gsl_lower_law_bound.proofs.Standing.{blocks_bound}
 use Rattle.gsl_lower_law_entered.specs.Modules.{IsFrame}
 use Rattle.gsl_lower_law_bound.specs.OfLawInputs.{IsFitting}
@@ -37,25 +27,6 @@ use Rattle.gsl_lower_law_bound.proofs.OfLawInputs.{first_met, met, second_met}
 use Rattle.gsl_lower_law_bound.specs.OfLawOutside.{HaveOutside}
 use Rattle.gsl_lower_law_stored.specs.Buffers.{HasBuffer, IsBound, KnowsBuffers}
 use Rattle.gsl_lower_law_backed.proofs.Alone.{only_one, stands_alone}
-
--- ---- layouts
-
-all_plain : (structs : List StructType) (members : List Member) → AllByRecursion (λ (m : Member). IsVariableType structs m.ty) members → AllByRecursion (λ (m : Member). IsTrue (plain m.ty)) members
-all_plain structs [] all = tt
-all_plain structs (m ∷ members) all = (sym (same_plain m.ty) ∙ all.0.plain, all_plain structs members all.1)
-
-plain_structs : (p : Program) → IsProgram p → ArePlain p.structs
-plain_structs p is number struct found = all_plain p.structs struct.members (holds_at (IsStructDeclared p.structs) p.structs number struct is.typed.declared found).types
-
-pub block_laid : (p : Program) → IsProgram p → (number : ℕ) (block : Block) → slice_get p.blocks number ≡ Some block → IsLayout (layout_of p.structs block)
-block_laid p is number block at = by block.std140 refl
-  where
-    one : IsBlock p.structs block
-    one = holds_at (IsBlock p.structs) p.blocks number block is.typed.blocks at
-
-    by : (std140 : Bool) → block.std140 ≡ std140 → IsLayout (layout_of p.structs block)
-    by true e = block_layout (rule_of block.std140) (λ align is. subst (λ b. Raises (rule_of b) align) (sym e) (std140_raises align is)) p.structs is.typed.structs (plain_structs p is) (members_of block.members) (placings_of block.members) (members_sound p.structs block.kind block.members one.members) (members_laid p.structs block.kind block.members one.some one.members) one.laid.placed one.laid.small
-    by false e = block_layout (rule_of block.std140) (λ align is. subst (λ b. Raises (rule_of b) align) (sym e) (std430_raises align is)) p.structs is.typed.structs (plain_structs p is) (members_of block.members) (placings_of block.members) (members_sound p.structs block.kind block.members one.members) (members_laid p.structs block.kind block.members one.some one.members) one.laid.placed one.laid.small
 
 -- ---- buffers
 
@@ -77,7 +48,7 @@ long_enough none few least (Some bytes) is = by (nat_lt (length bytes) least) re
 pub has_buffer : (p : Program) (input : Input) → IsProgram p → IsProper input → IsFitting p input → (number : ℕ) (block : Block) → slice_get p.blocks number ≡ Some block → is_push block.kind ≡ false → HasBuffer input p number block
 has_buffer p input program proper fitting number block at own =
     let given = long_enough (absent block) (short block) block.need (given_bytes input block) (each_met input p.blocks number block (first_met (blocks_met p.blocks input) (and_met (values_met p.interfaces input) (ids_met p input)) fitting) at) in
-    let one = holds_at (IsBlock p.structs) p.blocks number block program.typed.blocks at in
+    let one = one_block p program number block at in
     record {
       alone = stands_alone p.blocks number block program.sorted at own;
       only = only_one block.set block.binding input.buffers proper.buffers;

@@ -31,7 +31,7 @@ use Rattle.gsl_lower_types.specs.Laid.{types_laid}
 use Rattle.gsl_lower_types.specs.declared.blocks.LaidTypes.{LaidTypes}
 use Rattle.gsl_lower_types.proofs.Adding.{Adds, then_}
 use Rattle.gsl_lower_types.proofs.Finding.{came}
-use Rattle.gsl_lower_law_entered.proofs.Given.{mapped}
+use Rattle.gsl_lower_law_inputs.proofs.OfLawEntered.{mapped}
 use Rattle.gsl_lower_law_members.specs.Parts.{laid_as}
 use Rattle.gsl_lower_law_members.proofs.Laid.{block_member_at}
 use Rattle.gsl_lower_law_inputs.proofs.OfLawOutside.{same_after, same_made}

@@ -37,8 +37,8 @@ use Rattle.gsl_views.specs.Viewed.{elements}
 use Rattle.gsl_lower_holders.specs.Flow.{Flow}
 use Rattle.gsl_lower_types.specs.Blocks.{class_of}
 use Rattle.gsl_lower_follows.specs.Frames.{Frame}
-use Rattle.gsl_lower_law_entered.specs.Modules.{IsFrame}
-use Rattle.gsl_lower_law_entered.proofs.Given.{mapped}
+use Rattle.gsl_lower_law_inputs.specs.OfLawEntered.{IsFrame}
+use Rattle.gsl_lower_law_inputs.proofs.OfLawEntered.{mapped}
 use Rattle.gsl_lower_law_members.proofs.Sized.{few_at}
 use Rattle.gsl_lower_law_members.specs.Parts.{laid_as}
 use Rattle.gsl_lower_law_members.specs.Sizes.{size_of}

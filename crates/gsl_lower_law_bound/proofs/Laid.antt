@@ -33,7 +33,7 @@ use Rattle.gsl_lower_places.specs.Reached.{stored_scalar}
 use Rattle.gsl_lower_types.specs.Known.{Put, aside}
 use Rattle.gsl_lower_types.specs.Laid.{array_by, grouped, member_types, parts_layer, stored_as, strided, struct_by, type_laid, types_in, types_laid}
 use Rattle.gsl_lower_types.proofs.Finding.{never}
-use Rattle.gsl_lower_law_entered.proofs.Given.{mapped}
+use Rattle.gsl_lower_law_inputs.proofs.OfLawEntered.{mapped}
 use Rattle.gsl_lower_law_members.specs.Parts.{laid_as}
 use Rattle.gsl_lower_law_members.proofs.Laid.{shape_laid, struct_member_laid}
 use Rattle.gsl_lower_law_bound.proofs.Laying.{PutLays, lays_aside, lays_given, lays_once, lays_so, lays_then}

@@ -4,5 +4,6 @@ pub mod Puts
 pub mod Laid
 pub mod Blocks
 pub mod Standing
+pub mod Layouts
 pub mod Known
 pub mod OfLawInputs

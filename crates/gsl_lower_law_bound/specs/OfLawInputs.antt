@@ -1,2 +1,2 @@
 -- Passed on for crates above.
-pub use Rattle.gsl_lower_law_inputs.specs.Beginning.{IsFitting}
+pub use Rattle.gsl_lower_law_inputs.specs.Beginning.{AreInitialised, IsFitting, stage_given, stage_vars, stages_given, where_named}

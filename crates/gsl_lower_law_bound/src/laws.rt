@@ -4,7 +4,7 @@ ghost use Rattle.gsl_base.specs.declared.input.Input.{Input};
 ghost use Rattle.gsl_lower_follows.specs.Frames.{Frame};
 ghost use Rattle.gsl_lower_holders.specs.Flow.{Flow};
 ghost use Rattle.gsl_lower_law_bound.specs.Bound.{IsBound, IsShort};
-ghost use Rattle.gsl_lower_law_entered.specs.Modules.{IsFrame};
+ghost use Rattle.gsl_lower_law_inputs.specs.OfLawEntered.{IsFrame};
 ghost use Rattle.gsl_lower_law_inputs.specs.OfLawOutside.{HaveOutside};
 ghost use Rattle.gsl_lower_reaching.specs.Reaching.{KnowsMember};
 ghost use Rattle.gsl_spv.specs.Finished.{module_of};

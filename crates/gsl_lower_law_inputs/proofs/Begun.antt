@@ -47,9 +47,9 @@ use Rattle.gsl_lower_expr.specs.Parts.{stage_number}
 use Rattle.gsl_lower_types.specs.Interfaces.{built_in_of}
 use Rattle.gsl_lower_flow.specs.Programs.{program_needs}
 use Rattle.gsl_lower_follows.specs.Frames.{Name, Global, Interface as Passed, Stage, id_if, id_of, value_of}
-use Rattle.gsl_lower_law_returns.specs.Calling.{is_shared}
-use Rattle.gsl_lower_law_entered.proofs.Given.{among_at, mapped}
-use Rattle.gsl_lower_law_zeros.proofs.Said.{null_begins}
+use Rattle.gsl_lower_law_outside.specs.OfLawReturns.{is_shared}
+use Rattle.gsl_lower_law_outside.proofs.OfLawEntered.{among_at, mapped}
+use Rattle.gsl_lower_law_outside.proofs.OfLawZeros.{null_begins}
 use Rattle.gsl_lower_law_outside.specs.Beginning.{HaveOutside}
 use Rattle.gsl_lower_law_outside.proofs.Held.{outer_held}
 use Rattle.gsl_lower_law_outside.specs.Beginning.{BeginsWith}
@@ -112,7 +112,7 @@ module _ (target : Target) (p : Program) (main : ℕ) (flow : Flow) (program : I
 
   -- ---- built-in variables
 
-  sized : local_size m ≡ p.local_size
+  pub sized : local_size m ≡ p.local_size
   sized = size_same whole main p.local_size valid (subst (λ g. IsLocalSize g p.local_size) (sym stage_same) program.size)
     where
       stage_same : whole.stage ≡ p.stage
@@ -214,3 +214,20 @@ module _ (target : Target) (p : Program) (main : ℕ) (flow : Flow) (program : I
       let right = at_number (IsInterface p.stage p.structs) p.interfaces number x.0 program.typed.interfaces x.1 in
       let b = passed_begins x.0 s.0 has.type right has.is_type has.marked x.0.output has.passed in
       begins_as (Passed number) s.0 b.variable v refl s.1 b.is (b.begins_with ∙ x.2)
+
+  -- an input has as many words as its type
+  pub input_counted : (number : ℕ) (i : Interface) (v : Variable) → slice_get p.interfaces number ≡ Some i → i.output ≡ false → slice_get h.place.interfaces number ≡ Some v.id → variable_is (defined_as m v.id) ≡ Some v → size_of (lanes_of m (pointee m v.type)) ≡ components i.ty
+  input_counted number i v at own named is =
+      let s = stand.interfaces.each number i at in
+      let has = s.2 in
+      let right = at_number (IsInterface p.stage p.structs) p.interfaces number i program.typed.interfaces at in
+      let variable = subst (λ b. HasPassed whole b has.type s.0) own has.passed in
+      let same = the_id s.0 v.id (sym s.1 ∙ named) in
+      let told = the_type v variable.pointer s.0 (sym is ∙ ap (λ n. variable_is (defined_as m n)) (sym same) ∙ variable_said variable.pointer storage_class.INPUT s.0 None variable.stands) in
+      ap (λ n. size_of (lanes_of m (pointee m n))) told ∙ ap (λ n. size_of (lanes_of m n)) (pointee_said storage_class.INPUT has.type variable.pointer variable.points) ∙ has.is_type.counted right.type.0 right.type.1 ∙ sym (components_are i.ty right.type.0 right.type.1)
+    where
+      the_id : (a b : ℕ) → Some a ≡ Some b → a ≡ b
+      the_id a b e = cc
+
+      the_type : (u : Variable) (pointer id : ℕ) → Some u ≡ Some (record { type = pointer; id = id; class = storage_class.INPUT; initialiser = [] }) → u.type ≡ pointer
+      the_type u pointer id e = let same : u ≡ record { type = pointer; id = id; class = storage_class.INPUT; initialiser = [] } = cc in ap (λ (x : Variable). x.type) same

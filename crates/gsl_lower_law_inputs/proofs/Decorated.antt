@@ -81,12 +81,26 @@ module _ (m : Module) where
     other_none (Some x) None l is differs = refl
     other_none (Some x) (Some y) l is differs = absurd (false≢true differs)
 
-    -- an input with a location is no built-in variable
-    pub no_built_in : (v : Variable) (n : ℕ) → variable_is (defined_as m v.id) ≡ Some v → v.class ≡ storage_class.INPUT → Contains m.instrs (decorating v.id None decoration.LOCATION (Some n)) → number_on m decoration.BUILT_IN v.id ≡ None
-    no_built_in v n is class there =
+    first_none : (a b : Option (List ℕ)) (l : List ℕ) → b ≡ Some l → differ (is_some a) (is_some b) ≡ true → a ≡ None
+    first_none None b l is differs = refl
+    first_none (Some x) None l is differs = absurd (cc)
+    first_none (Some x) (Some y) l is differs = absurd (false≢true differs)
+
+    -- of an input one of the two is there
+    differs : (v : Variable) → variable_is (defined_as m v.id) ≡ Some v → v.class ≡ storage_class.INPUT → differ (has m decoration.LOCATION v.id) (has m decoration.BUILT_IN v.id) ≡ true
+    differs v is class =
         let o = outer m kept v.id v is (ap (λ c. c == storage_class.FUNCTION) class) in
         let all : variable_decorated m o.before (variable_is (read o.instr)) ≡ true = (and_parts (option_map_or (decoration_kept m o.before) (decoration_of (read o.instr)) true) (variable_decorated m o.before (variable_is (read o.instr))) o.keeps.decoration).1 in
         let own : ((where_at m o.before).inside || is_decorated m o.before v.type v.id v.class) ≡ true = ap (variable_decorated m o.before) (sym o.is) ∙ all in
         let here : is_decorated m o.before v.type v.id v.class ≡ true = ap (λ b. b || is_decorated m o.before v.type v.id v.class) (sym o.inside) ∙ own in
-        let one : differ (has m decoration.LOCATION v.id) (has m decoration.BUILT_IN v.id) ≡ true = ap (is_decorated m o.before v.type v.id) (sym class) ∙ here in
-        ap number_in (other_none (literals_on m.instrs (On v.id) decoration.LOCATION) (literals_on m.instrs (On v.id) decoration.BUILT_IN) (n ∷ []) (marked v.id decoration.LOCATION n there) one)
+        ap (is_decorated m o.before v.type v.id) (sym class) ∙ here
+
+    -- an input with a location is no built-in variable
+    pub no_built_in : (v : Variable) (n : ℕ) → variable_is (defined_as m v.id) ≡ Some v → v.class ≡ storage_class.INPUT → Contains m.instrs (decorating v.id None decoration.LOCATION (Some n)) → number_on m decoration.BUILT_IN v.id ≡ None
+    no_built_in v n is class there =
+        ap number_in (other_none (literals_on m.instrs (On v.id) decoration.LOCATION) (literals_on m.instrs (On v.id) decoration.BUILT_IN) (n ∷ []) (marked v.id decoration.LOCATION n there) (differs v is class))
+
+    -- and a built-in variable has no location
+    pub no_location : (v : Variable) (n : ℕ) → variable_is (defined_as m v.id) ≡ Some v → v.class ≡ storage_class.INPUT → Contains m.instrs (decorating v.id None decoration.BUILT_IN (Some n)) → number_on m decoration.LOCATION v.id ≡ None
+    no_location v n is class there =
+        ap number_in (first_none (literals_on m.instrs (On v.id) decoration.LOCATION) (literals_on m.instrs (On v.id) decoration.BUILT_IN) (n ∷ []) (marked v.id decoration.BUILT_IN n there) (differs v is class))

@@ -20,7 +20,7 @@ use Rattle.gsl_lower_types.specs.Declaring.{variable_in}
 use Rattle.gsl_lower_types.specs.Globals.{beginning, constant_of, global_put, globals_put, variable_of}
 use Rattle.gsl_lower_types.specs.Known.{Known, aside}
 use Rattle.gsl_lower_types.specs.Values.{value_type}
-use Rattle.gsl_lower_law_zeros.proofs.Said.{null_begins}
+use Rattle.gsl_lower_law_outside.proofs.OfLawZeros.{null_begins}
 use Rattle.gsl_lower_law_outside.specs.Known.{AreTold}
 use Rattle.gsl_lower_law_inputs.proofs.Constants.{constant_tells}
 use Rattle.gsl_lower_law_inputs.proofs.Interfaces.{null_tells}

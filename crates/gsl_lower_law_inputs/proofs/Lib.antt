@@ -13,3 +13,4 @@ pub mod Begun
 pub mod Given
 pub mod Typed
 pub mod OfLawOutside
+pub mod OfLawEntered

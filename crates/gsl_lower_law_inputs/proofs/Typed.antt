@@ -31,8 +31,8 @@ use Rattle.gsl_typed_law.proofs.Components.{AllFit, filled_typed, shape_again}
 use Rattle.gsl_typed_law.proofs.Zeros.{declared_plain, zero_typed}
 use Rattle.gsl_spv.specs.Sections.{Sections}
 use Rattle.gsl_lower_follows.specs.Frames.{Frame, HasType, Name, Global, Interface as Passed, Stage, Param, Local, Holder, type_named, type_of_global, type_of_interface, value_of}
-use Rattle.gsl_lower_law_returns.specs.Calling.{is_shared}
-use Rattle.gsl_lower_law_entered.proofs.Given.{map_there}
+use Rattle.gsl_lower_law_outside.specs.OfLawReturns.{is_shared}
+use Rattle.gsl_lower_law_outside.proofs.OfLawEntered.{map_there}
 use Rattle.gsl_lower_law_inputs.specs.Beginning.{AreInitialised, IsFitting}
 use Rattle.gsl_lower_law_inputs.proofs.Passed.{at_number, components_are, shape_plain}
 

@@ -7,7 +7,7 @@ ghost use Rattle.gsl_lower_holders.specs.Flow.{Flow};
 ghost use Rattle.gsl_lower_law_outside.specs.Beginning.{BeginsWith};
 ghost use Rattle.gsl_lower_law_inputs.specs.Beginning.{AreInitialised, IsFitting, stages_given};
 ghost use Rattle.gsl_lower_law_outside.specs.Beginning.{HaveOutside};
-ghost use Rattle.gsl_lower_law_returns.specs.Calling.{is_shared};
+ghost use Rattle.gsl_lower_law_outside.specs.OfLawReturns.{is_shared};
 ghost use Rattle.gsl_meaning.specs.Shader.{begins};
 ghost use Rattle.gsl_meaning.specs.State.{State};
 ghost use Rattle.gsl_spv.specs.Finished.{module_of};

@@ -1,14 +1,11 @@
 -- The outputs of a module are those of its program, in their order.
-use Rattle.std.proofs.Common.{◌≡◌, ◌≢◌, refl, sym, ap, ap₂, ◌∙◌, subst, inl, ℕ, zero, suc, ◌+◌, Bool, true, false, List, [], ◌∷◌, ◌++◌, length, slice_get, Option, Some, None, if◌then◌else◌, append-nil, arith}
+use Rattle.std.proofs.Common.{◌≡◌, ◌≢◌, refl, sym, ap, ◌∙◌, subst, inl, ℕ, zero, suc, ◌+◌, Bool, true, false, List, [], ◌∷◌, length, slice_get, Option, Some, None, if◌then◌else◌, arith}
 use Rattle.std.specs.Prelude.{◌==◌, filter_map}
 use Rattle.std.specs.List.{AllByRecursion, cons_option}
 use Rattle.std.proofs.lemmas.Bool.{cond-false, cond-true, eqb-true, or_left, or_right, true≢false}
 use Rattle.gsl_base.specs.declared.input.Input.{Input}
-use Rattle.gsl_base.specs.declared.stage.Stage.{Stage}
-use Rattle.gsl_base.specs.declared.stage.Stage.TheVariants.{Vertex, Fragment, Compute}
 use Rattle.gsl_instr.specs.declared.enumerant.decoration.TheConstants as decoration
 use Rattle.gsl_instr.specs.declared.enumerant.storage_class.TheConstants as storage_class
-use Rattle.gsl_words.specs.declared.module.Instr.{Instr}
 use Rattle.gsl_words.specs.declared.module.Module.{Module}
 use Rattle.gsl_words.specs.declared.target.Target.{Target}
 use Rattle.gsl_values.specs.declared.value.Value.{Value}
@@ -30,57 +27,21 @@ use Rattle.gsl_machine.specs.State.{InVariable, Points}
 use Rattle.gsl_sound_code.proofs.Looks.{Kept, kept}
 use Rattle.gsl_sound_ids.proofs.Variables.{variable_result}
 use Rattle.gsl_sound_values.proofs.Unfolded.{result_defines}
-use Rattle.gsl_spv.specs.Finished.{capabilities, entry_point, memory_models, modes, module_of}
-use Rattle.gsl_spv.specs.Once.{interface_of}
+use Rattle.gsl_spv.specs.Finished.{module_of}
 use Rattle.gsl_spv.specs.Sections.{Sections, empty}
 use Rattle.gsl_lower_holders.specs.Flow.{Flow}
 use Rattle.gsl_lower_flow.specs.Programs.{program_needs}
 use Rattle.gsl_lower_follows.specs.Frames.{Frame, Interface}
 use Rattle.gsl_lower_frames.proofs.Numbers.{outer_position, value_points}
-use Rattle.gsl_lower_law_entered.specs.Modules.{IsFrame}
-use Rattle.gsl_lower_law_entered.proofs.Given.{among_at}
+use Rattle.gsl_lower_law_inputs.specs.OfLawEntered.{IsFrame}
+use Rattle.gsl_lower_law_inputs.proofs.OfLawEntered.{among_at}
 use Rattle.gsl_lower_law_main.specs.Ending.{AreOuts, HasOutputs, out_at, outs_from}
 use Rattle.gsl_lower_law_inputs.specs.OfLawOutside.{HaveOutside}
-use Rattle.gsl_lower_law_inner.specs.Inner.{IsInner}
-use Rattle.gsl_lower_law_outputs.specs.Outputs.{BeginsNone, DeclaresNoOutput, Grows, out_if, out_of, output_in, outputs_in}
+use Rattle.gsl_lower_law_outputs.specs.Outputs.{DeclaresNoOutput, chosen_if, is_output, out_of, outputs_in}
 use Rattle.gsl_lower_law_inputs.proofs.Begun.{decorations_said, stand}
 use Rattle.gsl_lower_law_inputs.proofs.Decorated.{number_found}
 use Rattle.gsl_lower_law_outputs.proofs.Ordered.{AreOutputs, PutsAll, outputs_put}
-use Rattle.gsl_lower_law_outputs.proofs.Outputs.{all_both, filter_both, grows_one, grows_same, grows_then}
-
--- ---- code that begins no function
-
-joined : {a b : Code} {xs ys : List Variable} → Grows [] a xs → Grows [] b ys → Grows [] (a ++ b) (xs ++ ys)
-joined {a} {b} {xs} {ys} p q = record {
-  put = p.put ++ q.put;
-  is = ap₂ (λ l k. l ++ k) p.is q.is;
-  quiet = all_both BeginsNone p.put q.put p.quiet q.quiet;
-  outs = filter_both output_in p.put q.put ∙ ap (λ l. l ++ outputs_in q.put) p.outs ∙ ap (λ l. xs ++ l) q.outs;
-}
-
-one_quiet : (i : Instr) → IsInner i → Grows [] (i ∷ []) []
-one_quiet i inner = grows_one [] i inner
-
-modes_quiet : (stage : Stage) (main : ℕ) (size : List ℕ) → Grows [] (modes stage main size) []
-modes_quiet Vertex main size = grows_same []
-modes_quiet Fragment main size = one_quiet _ refl
-modes_quiet Compute main size = one_quiet _ refl
-
-before_quiet : (front code : Code) → AllByRecursion BeginsNone front → before_functions (front ++ code) ≡ front ++ before_functions code
-before_quiet [] code all = refl
-before_quiet (i ∷ front) code all = cond-false (function_begins (read i)) [] (i ∷ before_functions (front ++ code)) all.0 ∙ ap (λ l. i ∷ l) (before_quiet front code all.1)
-
-nothing_before : (code : Code) → outputs_in code ≡ [] → outputs_in (before_functions code) ≡ []
-nothing_before [] is = refl
-nothing_before (i ∷ code) is = by (output_in i) refl is (nothing_before code)
-  where
-    by_test : (b : Bool) → output_in i ≡ None → (outputs_in code ≡ [] → outputs_in (before_functions code) ≡ []) → outputs_in code ≡ [] → outputs_in (if b then [] else i ∷ before_functions code) ≡ []
-    by_test true e later is = refl
-    by_test false e later is = ap (λ o. cons_option o (outputs_in (before_functions code))) e ∙ later is
-
-    by : (o : Option Variable) → output_in i ≡ o → cons_option o (outputs_in code) ≡ [] → (outputs_in code ≡ [] → outputs_in (before_functions code) ≡ []) → outputs_in (before_functions (i ∷ code)) ≡ []
-    by None e is later = by_test (function_begins (read i)) e later is
-    by (Some v) e is later = absurd (cc)
+use Rattle.gsl_lower_law_outputs.proofs.Front.{outside_chosen}
 
 -- ---- outputs among variables that hold values
 
@@ -104,7 +65,7 @@ held_outputs (i ∷ code) = by (variable_is (read i)) (held_outputs code)
         skip true out = refl
         skip false out = ap (λ o. cons_option o (filter_map out_of (filter_map holds_value rest))) out
 
-    by : (o : Option Variable) → filter_map out_of (filter_map holds_value rest) ≡ outputs_in code → filter_map out_of (filter_map holds_value (cons_option o rest)) ≡ cons_option (out_if o) (outputs_in code)
+    by : (o : Option Variable) → filter_map out_of (filter_map holds_value rest) ≡ outputs_in code → filter_map out_of (filter_map holds_value (cons_option o rest)) ≡ cons_option (chosen_if is_output o) (outputs_in code)
     by None later = later
     by (Some v) later = by_class v (v.class == storage_class.OUTPUT) refl later
 
@@ -176,16 +137,16 @@ one_position (x ∷ vs) all (suc j) (suc k) v w at other same = ap suc (one_posi
 -- ---- the module of a program
 
 -- what comes of a list behind its first items
-abbrev From : {A : Type 0} → List A → ℕ → List A → Type 0
+abbrev pub From : {A : Type 0} → List A → ℕ → List A → Type 0
 From {A} all at rest = (k : ℕ) (x : A) → slice_get rest k ≡ Some x → slice_get all (at + k) ≡ Some x
 
-from_next : {A : Type 0} (all : List A) (at : ℕ) (x : A) (rest : List A) → From all at (x ∷ rest) → From all (suc at) rest
+pub from_next : {A : Type 0} (all : List A) (at : ℕ) (x : A) (rest : List A) → From all at (x ∷ rest) → From all (suc at) rest
 from_next all at x rest from k y is = ap (slice_get all) (let e : suc at + k ≡ at + suc k = omega arith in e) ∙ from (suc k) y is
 
-from_here : {A : Type 0} (all : List A) (at : ℕ) (x : A) (rest : List A) → From all at (x ∷ rest) → slice_get all at ≡ Some x
+pub from_here : {A : Type 0} (all : List A) (at : ℕ) (x : A) (rest : List A) → From all at (x ∷ rest) → slice_get all at ≡ Some x
 from_here all at x rest from = ap (slice_get all) (let e : at ≡ at + 0 = omega arith in e) ∙ from 0 x refl
 
-from_all : {A : Type 0} (all : List A) → From all 0 all
+pub from_all : {A : Type 0} (all : List A) → From all 0 all
 from_all all k x is = ap (slice_get all) (let e : 0 + k ≡ k = omega arith in e) ∙ is
 
 module _ (target : Target) (p : Program) (main : ℕ) (flow : Flow) (program : IsProgram p) (valid : Valid (module_of flow.sections main p.local_size)) (h : HaveOutside target p main flow) (rest : DeclaresNoOutput h.first flow.sections) where
@@ -201,19 +162,8 @@ module _ (target : Target) (p : Program) (main : ℕ) (flow : Flow) (program : I
   puts : PutsAll p.interfaces (empty p.stage target) h.place.interfaces h.first
   puts = outputs_put target p (program_needs p) h.place (empty p.stage target) h.first h.outside
 
-  -- the outputs outside functions
-  front : Grows [] (capabilities ++ whole.imports ++ memory_models ++ entry_point whole.stage main (interface_of whole.globals) ∷ [] ++ modes whole.stage main p.local_size ++ whole.names ++ whole.decorations ++ whole.globals) (puts.outputs ++ [])
-  front =
-      joined (joined (joined (joined (joined (joined (joined (one_quiet _ refl) (grows_then puts.puts.imports rest.imports)) (one_quiet _ refl)) (one_quiet _ refl)) (modes_quiet whole.stage main p.local_size))
-      (grows_then puts.puts.names rest.names)) (grows_then puts.puts.decorations rest.decorations)) (grows_then puts.puts.globals rest.globals)
-
-  none_in_functions : outputs_in whole.functions ≡ []
-  none_in_functions = ap outputs_in (rest.is ∙ ap (λ l. l ++ rest.put) puts.puts.functions) ∙ rest.outs
-
   outside_outputs : outputs_in (outside_of m) ≡ puts.outputs
-  outside_outputs =
-      ap outputs_in (ap (λ l. before_functions (l ++ whole.functions)) front.is ∙ before_quiet front.put whole.functions front.quiet)
-      ∙ filter_both output_in front.put (before_functions whole.functions) ∙ ap₂ (λ l k. l ++ k) front.outs (nothing_before whole.functions none_in_functions) ∙ append-nil (puts.outputs ++ []) ∙ append-nil puts.outputs
+  outside_outputs = outside_chosen is_output target p main flow h puts.outputs puts.puts rest
 
   value_outputs : filter_map out_of (value_variables m) ≡ puts.outputs
   value_outputs = held_outputs (outside_of m) ∙ outside_outputs

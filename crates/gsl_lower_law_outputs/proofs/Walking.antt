@@ -16,7 +16,6 @@ use Rattle.gsl_types.specs.declared.ty.Ty.TheVariants as ty
 use Rattle.gsl_types.specs.declared.ty.Ty.TheVariants.{rolls-Array, rolls-Runtime, rolls-Struct, rolls-Vector, rolls-One, rolls-Void}
 use Rattle.gsl_tree.specs.Shapes.{Shape, shape_of}
 use Rattle.gsl_words.specs.declared.target.Target.{Target}
-use Rattle.gsl_words.specs.declared.target.Target.TheVariants.{V10, V13}
 use Rattle.gsl_lower_law_inner.specs.Inner.{is_inner}
 use Rattle.gsl_tree.specs.Laying.{layout_of}
 use Rattle.gsl_tree.specs.declared.unit.Block.{Block}
@@ -25,7 +24,7 @@ use Rattle.gsl_tree.specs.declared.unit.BlockKind.TheVariants.{Uniform, Buffer, 
 use Rattle.gsl_tree.specs.declared.unit.BlockMember.{BlockMember}
 use Rattle.gsl_tree.specs.declared.program.Program.{Program}
 use Rattle.gsl_spv.specs.Calls as call
-use Rattle.gsl_spv.specs.Calls.{Out, declare, intern, known as interned}
+use Rattle.gsl_spv.specs.Calls.{Out, declare, intern}
 use Rattle.gsl_spv.specs.Declarations as d
 use Rattle.gsl_spv.specs.Declarations.{Declaration}
 use Rattle.gsl_spv.specs.Sections.{Sections}
@@ -54,18 +53,18 @@ use Rattle.gsl_lower_types.specs.declared.blocks.LaidTypes.{LaidTypes}
 use Rattle.gsl_lower_types.proofs.Steps.{value-Array, value-One, value-Runtime, value-Struct, value-Vector, value-Void}
 use Rattle.gsl_lower_types.proofs.Finding.{came, never}
 
--- Each call of a builder relates the sections before it to those behind it, but for one that declares an output.
-pub record Walks (R : Sections → Sections → Type 0) : Type 0 where
+-- Each call of a builder relates the sections before it to those behind it, but for one that declares a variable whose class passes the test.
+pub record Walks (test : ℕ → Bool) (R : Sections → Sections → Type 0) : Type 0 where
   pub same : (s : Sections) → R s s
   pub then_ : {r s t : Sections} → R r s → R s t → R r t
   pub takes : (s : Sections) → R s (call.take s).sections
   pub interns : (decl : Declaration) → is_inner decl.op ≡ true → (s : Sections) → R s (intern decl s).sections
   pub declares : (decl : Declaration) → is_inner decl.op ≡ true → (s : Sections) → R s (declare decl s).sections
-  pub variable : (pointer class : ℕ) (init : Option ℕ) → (class == storage_class.OUTPUT) ≡ false → (s : Sections) → R s (declare (d.variable pointer class init) s).sections
+  pub variable : (pointer class : ℕ) (init : Option ℕ) → test class ≡ false → (s : Sections) → R s (declare (d.variable pointer class init) s).sections
   pub decorates : (id : ℕ) (member : Option ℕ) (what : ℕ) (literal : Option ℕ) (s : Sections) → R s (call.decorate id member what literal s)
   pub names : (id : ℕ) (member : Option ℕ) (text : List ℕ) (s : Sections) → R s (call.name id member text s)
 
-module _ (R : Sections → Sections → Type 0) (walks : Walks R) where
+module _ (test : ℕ → Bool) (R : Sections → Sections → Type 0) (walks : Walks test R) where
   abbrev pub Along : {A : Type 0} → Step A → Type 0
   Along {A} step = (s : Sections) (a : A) (after : Sections) → step s ≡ Made a after → R s after
 
@@ -123,7 +122,7 @@ module _ (R : Sections → Sections → Type 0) (walks : Walks R) where
   named_adds : (id : ℕ) (member : Option ℕ) (text : List ℕ) → Along (named id member text)
   named_adds id member text s a after made = moved tt a s _ after (walks.names id member text s) made
 
-  pub variable_adds : (class type : ℕ) (init : Option ℕ) → (class == storage_class.OUTPUT) ≡ false → Along (variable_in class type init)
+  pub variable_adds : (class type : ℕ) (init : Option ℕ) → test class ≡ false → Along (variable_in class type init)
   variable_adds class type init other = then_ (pointer_type class type) _ (asks (call.plain_type (plain.Pointer class type)) (λ s. plain_type (plain.Pointer class type) s)) (λ pointer. asks (call.global pointer class init) (λ s. walks.variable pointer class init other s))
 
   -- ---- types of blocks
@@ -204,40 +203,39 @@ module _ (R : Sections → Sections → Type 0) (walks : Walks R) where
   members_add [] id n = gives tt
   members_add (m ∷ members) id n = then_ (member_marked id n m) _ (member_adds id n m) (λ done. members_add members id (n + 1))
 
-  bound_adds : (kind : BlockKind) (set binding id : ℕ) → Along (bound_by kind set binding id)
+  pub bound_adds : (kind : BlockKind) (set binding id : ℕ) → Along (bound_by kind set binding id)
   bound_adds Push set binding id = gives tt
   bound_adds Uniform set binding id = then_ (decorated id None decoration.DESCRIPTOR_SET (Some set)) _ (decorated_adds id None decoration.DESCRIPTOR_SET (Some set)) (λ done. decorated_adds id None decoration.BINDING (Some binding))
   bound_adds Buffer set binding id = then_ (decorated id None decoration.DESCRIPTOR_SET (Some set)) _ (decorated_adds id None decoration.DESCRIPTOR_SET (Some set)) (λ done. decorated_adds id None decoration.BINDING (Some binding))
 
-  block_class : (target : Target) (kind : BlockKind) → (class_of target kind == storage_class.OUTPUT) ≡ false
-  block_class target Uniform = refl
-  block_class target Push = refl
-  block_class V10 Buffer = refl
-  block_class V13 Buffer = refl
+  pub marks_add : (target : Target) (block : Block) (struct : ℕ) → Along (block_marked target block struct)
+  marks_add target block struct =
+      then_ (decorated struct None (mark_of target block.kind) None) _ (decorated_adds struct None (mark_of target block.kind) None) (λ a. then_ (named struct None block.name) _ (named_adds struct None block.name) (λ b. members_add block.members struct 0))
 
-  block_by_adds : (target : Target) (block : Block) (struct : ℕ) → Along (block_by target block struct)
-  block_by_adds target block struct =
-      then_ (block_marked target block struct) _
-      (then_ (decorated struct None (mark_of target block.kind) None) _ (decorated_adds struct None (mark_of target block.kind) None) (λ a. then_ (named struct None block.name) _ (named_adds struct None block.name) (λ b. members_add block.members struct 0)))
-      (λ done. then_ (variable_in (class_of target block.kind) struct None) _ (variable_adds (class_of target block.kind) struct None (block_class target block.kind)) (λ id. then_ (bound_by block.kind block.set block.binding id) _ (bound_adds block.kind block.set block.binding id) (λ e. gives id)))
+  block_by_adds : (target : Target) (block : Block) (struct : ℕ) → test (class_of target block.kind) ≡ false → Along (block_by target block struct)
+  block_by_adds target block struct other =
+      then_ (block_marked target block struct) _ (marks_add target block struct)
+      (λ done. then_ (variable_in (class_of target block.kind) struct None) _ (variable_adds (class_of target block.kind) struct None other) (λ id. then_ (bound_by block.kind block.set block.binding id) _ (bound_adds block.kind block.set block.binding id) (λ e. gives id)))
 
-  block_adds : (target : Target) (structs : List StructType) (block : Block) → PutAlong (block_put target structs block)
+  pub struct_laid_adds : (structs : List StructType) (block : Block) → PutAlong (block_laid structs (layout_of structs block) block)
+  struct_laid_adds structs block = grouped_adds (members_of (layout_of structs block)) (types_laid structs (members_of (layout_of structs block)) (member_types_of block.members)) (row_adds structs (members_of (layout_of structs block)) (member_types_of block.members))
+
+  block_adds : (target : Target) (structs : List StructType) (block : Block) → test (class_of target block.kind) ≡ false → PutAlong (block_put target structs block)
   unfolding block_put
-  block_adds target structs block known =
-      then_ (block_laid structs (layout_of structs block) block known) _
-      (grouped_adds (members_of (layout_of structs block)) (types_laid structs (members_of (layout_of structs block)) (member_types_of block.members)) (row_adds structs (members_of (layout_of structs block)) (member_types_of block.members)) known)
-      (λ r. aside_adds (block_by target block r.0) r.1 (block_by_adds target block r.0))
+  block_adds target structs block other known =
+      then_ (block_laid structs (layout_of structs block) block known) _ (struct_laid_adds structs block known)
+      (λ r. aside_adds (block_by target block r.0) r.1 (block_by_adds target block r.0 other))
 
   rule_adds : (b : Bool) (put : Known → Step (ℕ × Known)) → PutAlong put → (laid : LaidTypes) → Along (by_rule b put laid)
   rule_adds true put p laid = then_ (put laid.std140) (with_std140 laid) (p laid.std140) (λ r. gives (r.0, record laid { std140 = r.1 }))
   rule_adds false put p laid = then_ (put laid.std430) (with_std430 laid) (p laid.std430) (λ r. gives (r.0, record laid { std430 = r.1 }))
 
-  pub blocks_add : (target : Target) (structs : List StructType) (blocks : List Block) (laid : LaidTypes) → Along (blocks_put target structs blocks laid)
+  pub blocks_add : (target : Target) (structs : List StructType) (blocks : List Block) → ((kind : BlockKind) → test (class_of target kind) ≡ false) → (laid : LaidTypes) → Along (blocks_put target structs blocks laid)
   unfolding blocks_put block_in
-  blocks_add target structs [] laid = gives ([], laid)
-  blocks_add target structs (block ∷ blocks) laid =
-      then_ (by_rule block.std140 (block_put target structs block) laid) _ (rule_adds block.std140 (block_put target structs block) (block_adds target structs block) laid)
-      (λ r. then_ (blocks_put target structs blocks r.1) _ (blocks_add target structs blocks r.1) (λ rs. gives (r.0 ∷ rs.0, rs.1)))
+  blocks_add target structs [] other laid = gives ([], laid)
+  blocks_add target structs (block ∷ blocks) other laid =
+      then_ (by_rule block.std140 (block_put target structs block) laid) _ (rule_adds block.std140 (block_put target structs block) (block_adds target structs block (other block.kind)) laid)
+      (λ r. then_ (blocks_put target structs blocks r.1) _ (blocks_add target structs blocks other r.1) (λ rs. gives (r.0 ∷ rs.0, rs.1)))
 
   -- ---- types of values
 
@@ -374,11 +372,11 @@ module _ (R : Sections → Sections → Type 0) (walks : Walks R) where
     begins_adds t type None known = aside_adds (id_by (call.constant (of.Null type))) known (asks (call.constant (of.Null type)) (constant_grows (of.Null type)))
     begins_adds t type (Some v) known = value_constant_adds v t known
 
-    global_adds : (g : GlobalVar) → PutAlong (global_put structs g)
+    global_adds : test storage_class.PRIVATE ≡ false → (g : GlobalVar) → PutAlong (global_put structs g)
     unfolding global_put
-    global_adds g known =
+    global_adds other g known =
         then_ (value_type g.ty known) _ (value_adds g.ty known) (λ r. then_ (beginning structs g.ty r.0 g.value r.1) _ (begins_adds g.ty r.0 g.value r.1) (λ c.
-        aside_adds (variable_in storage_class.PRIVATE r.0 (Some c.0)) c.1 (variable_adds storage_class.PRIVATE r.0 (Some c.0) refl)))
+        aside_adds (variable_in storage_class.PRIVATE r.0 (Some c.0)) c.1 (variable_adds storage_class.PRIVATE r.0 (Some c.0) other)))
 
-    pub globals_add : (globals : List GlobalVar) → PutAlong (globals_put structs globals)
-    globals_add globals = each_adds (global_put structs) global_adds globals
+    pub globals_add : test storage_class.PRIVATE ≡ false → (globals : List GlobalVar) → PutAlong (globals_put structs globals)
+    globals_add other globals = each_adds (global_put structs) (global_adds other) globals

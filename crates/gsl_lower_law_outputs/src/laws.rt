@@ -6,7 +6,7 @@ ghost use Rattle.gsl_lower_follows.specs.Frames.{Frame};
 ghost use Rattle.gsl_lower_holders.specs.Flow.{Flow, Gives};
 ghost use Rattle.gsl_lower_law_inputs.specs.OfLawOutside.{HaveOutside};
 ghost use Rattle.gsl_lower_law_outputs.specs.Outputs.{DeclaresNoOutput};
-ghost use Rattle.gsl_lower_law_entered.specs.Modules.{IsFrame};
+ghost use Rattle.gsl_lower_law_inputs.specs.OfLawEntered.{IsFrame};
 ghost use Rattle.gsl_lower_law_main.specs.Ending.{HasOutputs};
 ghost use Rattle.gsl_spv.specs.Finished.{module_of};
 ghost use Rattle.gsl_spv.specs.Sections.{empty};

@@ -1,0 +1,5 @@
+pub mod Put
+pub mod Entered
+pub mod Needs
+pub mod Alike
+pub mod OfLawOutputs

@@ -1,0 +1,2 @@
+pub mod OfLawInputs
+pub mod OfLawOutside
