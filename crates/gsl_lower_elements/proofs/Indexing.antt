@@ -34,9 +34,9 @@ use Rattle.gsl_lower_law.specs.Values.{Keeps, Stands}
 use Rattle.gsl_lower_law.proofs.Joining.{does_then as step_then, given_does, grows_then}
 use Rattle.gsl_lower_law.proofs.Straying.{strays_before}
 use Rattle.gsl_spv.proofs.Extending.{extends_same}
-use Rattle.gsl_lower_law_members.specs.Parts.{IsRow, laid_as}
-use Rattle.gsl_lower_law_members.specs.Sizes.{size_of}
-use Rattle.gsl_lower_law_members.proofs.Laid.{element_laid, row_array, row_laid, row_short}
+use Rattle.gsl_lower_reaching.specs.OfLawMembers.{IsRow, laid_as}
+use Rattle.gsl_lower_reaching.specs.OfLawMembers.{size_of}
+use Rattle.gsl_lower_reaching.proofs.OfLawMembers.{element_laid, row_array, row_laid, row_short}
 use Rattle.gsl_lower_law_picks.specs.Outside.{HasPart}
 use Rattle.gsl_lower_holders.specs.Flow.{Flow, Gives, Lacks, Lowered, flow_of, lift}
 use Rattle.gsl_lower_expr.specs.Parts.{step_into}
@@ -80,7 +80,7 @@ module _ (m : Module) (input : Input) (sections : Sections) (f : Frame m input s
       → After m input sections f p around false b state (flow_of after b.place) s (record (leaving state (drawing state state.choices) l.ids) { rest = coming m input sections f after })
   after_step Is b s state a after good inside l =
       subst (λ t. After m input sections f p around false b state (flow_of after b.place) t (record (leaving state (drawing state state.choices) l.ids) { rest = coming m input sections f after })) (ap (left_with s) good.holds.choices)
-      (after_drawn m input sections f p around b s state l.ids state.choices after (choices_are m input sections f p around b s state good) good inside l.ready l.keeps)
+      (after_drawn m input sections f p around b s state l.ids state.choices after (choices_are m input sections f p around b s state good) good inside l.ready l.keeps l.reached)
 
   -- ---- the component of a swizzle at a word
 

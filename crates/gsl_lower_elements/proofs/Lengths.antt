@@ -49,9 +49,9 @@ use Rattle.gsl_lower_law_operators.proofs.Conversions.{converted_computes}
 use Rattle.gsl_lower_law_constructors.proofs.Shares.{converted_grows}
 use Rattle.gsl_lower_law_places.proofs.Reading.{word_converted}
 use Rattle.gsl_lower_law_blocks.proofs.Laid.{lengths_counted}
-use Rattle.gsl_lower_law_members.specs.Parts.{laid_as}
-use Rattle.gsl_lower_law_members.specs.Sizes.{size_of}
-use Rattle.gsl_lower_law_members.proofs.Laid.{IsMember, block_member_at, row_array, row_laid}
+use Rattle.gsl_lower_reaching.specs.OfLawMembers.{laid_as}
+use Rattle.gsl_lower_reaching.specs.OfLawMembers.{size_of}
+use Rattle.gsl_lower_reaching.proofs.OfLawMembers.{IsMember, block_member_at, row_array, row_laid}
 use Rattle.gsl_lower_holders.specs.Flow.{Flow, behind, id_at, lift, told}
 use Rattle.gsl_lower_holders.specs.declared.place.FlowPlace.{FlowPlace}
 use Rattle.gsl_lower_expr.specs.Parts.{block_length, counted_in}

@@ -11,3 +11,5 @@ pub mod Pointed
 pub mod Literal
 pub mod OfLawExpr
 pub mod OfReaching
+pub mod OfLawNames
+pub mod OfLawBlocks

@@ -29,7 +29,7 @@ use Rattle.gsl_lower_expr.specs.Parts.{Lower, after_index, before_index, index_b
 use Rattle.gsl_lower_follows.specs.Frames.{Frame}
 use Rattle.gsl_lower_follows.specs.Giving.{Does, GrownTo}
 use Rattle.gsl_lower_follows.proofs.Growing.{adds_lift}
-use Rattle.gsl_lower_law_expr.proofs.Short.{behind_assoc}
+use Rattle.gsl_lower_reaching.proofs.OfLawExpr.{behind_assoc}
 use Rattle.gsl_lower_elements.specs.Indexes.{Indexes, IsLiteral, indexed_means}
 use Rattle.gsl_lower_reaching.specs.Reaching.{GivesPlace, HasReached, HasStrayed, Start}
 use Rattle.gsl_lower_elements.proofs.Indexing.{MayIndex, step_in, step_out}

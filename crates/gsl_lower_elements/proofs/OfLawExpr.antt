@@ -1,5 +1,2 @@
 -- Passed on for crates above.
-pub use Rattle.gsl_lower_law_expr.proofs.Operands.{given_behind}
-pub use Rattle.gsl_lower_law_expr.proofs.Shapes.{value_shape}
-pub use Rattle.gsl_lower_law_expr.proofs.Short.{does_change}
-pub use Rattle.gsl_lower_law_expr.proofs.Steps.{Always, always_converted, always_given, always_giving, always_then, always_type}
+pub use Rattle.gsl_lower_reaching.proofs.OfLawExpr.{Always, always_converted, always_given, always_giving, always_then, always_type, does_change, given_behind, value_shape}

@@ -37,7 +37,7 @@ use Rattle.gsl_lower_law_places.proofs.Reading.{leads_on, numbers_on, several, s
 use Rattle.gsl_lower_law_picks.proofs.Along.{stray_on}
 use Rattle.gsl_lower_law_picks.proofs.Pointed.{component_pointed_out, path_pointed_out, pointed_does, whole_pointed_out}
 use Rattle.gsl_lower_law_blocks.proofs.Laid.{paths_lead}
-use Rattle.gsl_lower_law_members.proofs.Laid.{leads_further}
+use Rattle.gsl_lower_reaching.proofs.OfLawMembers.{leads_further}
 use Rattle.gsl_lower_law_layouts.proofs.Laid.{leaves_laid}
 use Rattle.gsl_lower_leaves.specs.Leaves.{leaves_of}
 use Rattle.gsl_lower_leaves.specs.declared.leaf.Leaf.{Leaf}

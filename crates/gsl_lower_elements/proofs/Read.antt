@@ -25,7 +25,7 @@ use Rattle.gsl_lower_law.specs.Values.{IsOf}
 use Rattle.gsl_lower_law_places.specs.Components.{AreWithin, Picks, picks_of}
 use Rattle.gsl_lower_law_places.proofs.Loads.{loaded_computes}
 use Rattle.gsl_lower_law_places.proofs.Reading.{converted_is, variables_read}
-use Rattle.gsl_lower_law_members.proofs.Told.{picks_told, whole_told}
+use Rattle.gsl_lower_reaching.proofs.OfLawMembers.{picks_told, whole_told}
 use Rattle.gsl_lower_holders.specs.Flow.{Flow}
 use Rattle.gsl_lower_follows.specs.Frames.{Frame, Good, HeldAs}
 use Rattle.gsl_lower_reaching.specs.Reaching.{IsBlockTrail, PicksBy, Start}

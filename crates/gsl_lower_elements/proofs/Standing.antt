@@ -42,12 +42,12 @@ use Rattle.gsl_lower_law_places.proofs.Variables.{parts_are}
 use Rattle.gsl_lower_law_blocks.proofs.Laid.{LeadsSo, leaf_held, paths_lead}
 use Rattle.gsl_lower_law_blocks.proofs.Lying.{run_lies}
 use Rattle.gsl_lower_law_blocks.proofs.Shown.{parts_shown}
-use Rattle.gsl_lower_law_members.specs.Parts.{IsRow, laid_as}
-use Rattle.gsl_lower_law_members.specs.Parts.IsRow.{counted, endless}
-use Rattle.gsl_lower_law_members.specs.Sizes.{size_of}
-use Rattle.gsl_lower_law_members.proofs.Laid.{row_laid, shape_laid}
-use Rattle.gsl_lower_law_members.proofs.Sized.{size_is}
-use Rattle.gsl_lower_law_members.proofs.Vectors.{vector_is}
+use Rattle.gsl_lower_reaching.specs.OfLawMembers.{IsRow, laid_as}
+use Rattle.gsl_lower_reaching.specs.OfLawMembers.{counted, endless}
+use Rattle.gsl_lower_reaching.specs.OfLawMembers.{size_of}
+use Rattle.gsl_lower_reaching.proofs.OfLawMembers.{row_laid, shape_laid}
+use Rattle.gsl_lower_reaching.proofs.OfLawMembers.{size_is}
+use Rattle.gsl_lower_reaching.proofs.OfLawMembers.{vector_is}
 use Rattle.gsl_lower_holders.specs.Flow.{Flow}
 use Rattle.gsl_lower_follows.specs.Frames.{AreBytes, Frame, Good, HeldAs}
 use Rattle.gsl_lower_reaching.specs.Reaching.{AtBlock, IsBlockTrail, NumberEachBy, Start}

@@ -25,8 +25,8 @@ use Rattle.gsl_lower_law_places.proofs.Outside.{loaded_strays}
 use Rattle.gsl_lower_law_picks.specs.Outside.{ArePositions as ArePositionsBy, CanPick, PicksOutside}
 use Rattle.gsl_lower_law_picks.proofs.Outside.{path_out, picked_out}
 use Rattle.gsl_lower_law_blocks.proofs.Laid.{elements_stray}
-use Rattle.gsl_lower_law_members.specs.Sizes.{size_of}
-use Rattle.gsl_lower_law_members.proofs.Vectors.{component_strays}
+use Rattle.gsl_lower_reaching.specs.OfLawMembers.{size_of}
+use Rattle.gsl_lower_reaching.proofs.OfLawMembers.{component_strays}
 use Rattle.gsl_lower_holders.specs.Flow.{Flow}
 use Rattle.gsl_lower_follows.specs.Frames.{Frame, Good, HeldAs}
 use Rattle.gsl_lower_reaching.specs.Reaching.{ChoosesBy, GoesBeyond, IsBlockTrail, PicksBy, Start}

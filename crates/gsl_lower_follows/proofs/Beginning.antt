@@ -36,6 +36,7 @@ use Rattle.gsl_lower_follows.proofs.Drawn.{after_drawn, choices_are, left_with}
 use Rattle.gsl_lower_follows.proofs.Holding.{Unchanged, seated_moved}
 use Rattle.gsl_lower_follows.proofs.Jumping.{begun_at, jumps}
 use Rattle.gsl_lower_follows.proofs.Placing.{coming_before, inside_between}
+use Rattle.gsl_lower_follows.proofs.Reached.{reached_by}
 use Rattle.gsl_lower_follows.proofs.Stretches.{stretch_one, stretch_then}
 
 module _ (m : Module) (input : Input) (whole : Sections) (f : Frame m input whole) where
@@ -44,8 +45,9 @@ module _ (m : Module) (input : Input) (whole : Sections) (f : Frame m input whol
 
   module _ (p : Program) (around : Around) where
     -- at the beginning of a block the state is that of the shader as well
-    pub good_begun : (b later : Flow) (s : shader.State) (state : State) → Good m input whole f p around b s state → Grown b later → Inside m input whole f later.sections → Good m input whole f p around later s (begun_at m input whole f state later.sections)
-    good_begun b later s state good grown inside = record {
+    pub good_begun : {lent back units left : ℕ} (b later : Flow) (s : shader.State) (state : State) → Good m input whole f p around b s state → Grown b later → Inside m input whole f later.sections
+        → Stretch m input lent back units state left (Going (begun_at m input whole f state later.sections)) → Good m input whole f p around later s (begun_at m input whole f state later.sections)
+    good_begun {lent} {back} {units} {left} b later s state good grown inside led = record {
       inside = inside;
       rest = refl;
       within = good.within;
@@ -55,6 +57,7 @@ module _ (m : Module) (input : Input) (whole : Sections) (f : Frame m input whol
       seated = seated_grown b later grown good.seated;
       holds = (let h = good.holds in record { values = h.values; blocks = h.blocks; buffers = h.buffers; choices = h.choices; count = h.count; outside = h.outside });
       typed = good.typed;
+      reached = reached_by m input good.reached led;
     }
 
     -- a step that only finds or takes an id
@@ -63,7 +66,7 @@ module _ (m : Module) (input : Input) (whole : Sections) (f : Frame m input whol
     does_aside Is units b s state step good does =
         does_lift m input whole f p around units b s state Is (drawing state state.choices) (Unchanged m input whole f p around b state) none_waits tt s step good does
         (λ a later l inside extends. subst (λ t. After m input whole f p around false b state (flow_of later b.place) t (record (leaving state (drawing state state.choices) l.ids) { rest = coming m input whole f later })) (ap (left_with s) good.holds.choices)
-        (after_drawn m input whole f p around b s state l.ids state.choices later (choices_are m input whole f p around b s state good) good inside l.ready l.keeps))
+        (after_drawn m input whole f p around b s state l.ids state.choices later (choices_are m input whole f p around b s state good) good inside l.ready l.keeps l.reached))
 
     pub does_fresh : (units : ℕ) (b : Flow) (s : shader.State) (state : State) → Good m input whole f p around b s state → Does m input whole f p 0 units state (Unchanged m input whole f p around b state) none_waits (Got tt s units) (fresh b)
     does_fresh units b s state good = does_aside (λ id ids. Unit {0}) units b s state (id_by take) good (asking_does m input whole (λ id ids. Unit {0}) take state b.sections (extends_take b.sections) refl (λ inside text keeps. tt))
@@ -118,9 +121,9 @@ module _ (m : Module) (input : Input) (whole : Sections) (f : Frame m input whol
     -- what is lowered behind a place that is reached
     pub does_behind : {A R : Type 0} (units : ℕ) (b between : Flow) (state mid : State) (Is : A → Flow → R → shader.State → State → Type 0) (ran : Ran R) (low : Lowered A) → Inside m input whole f b.sections → Grown b between → GrownTo between low
         → (Inside m input whole f between.sections → Stretch m input 0 0 units state units (Going mid))
-        → (Inside m input whole f between.sections → Does m input whole f p 0 units mid Is none_waits ran low)
+        → (Inside m input whole f between.sections → Stretch m input 0 0 units state units (Going mid) → Does m input whole f p 0 units mid Is none_waits ran low)
         → Does m input whole f p 0 units state Is none_waits ran low
     does_behind units b between state mid Is ran Lacks here grown more stretch does = tt
     does_behind units b between state mid Is ran (Gives a later) here grown more stretch does = λ inside.
         let there = inside_between m input whole f b.sections between.sections later.sections here inside grown.extends more.extends in
-        follows_behind m input p 0 0 units units state mid (Is a later) (none_waits a later) ran (stretch there) (omega arith) (does there inside)
+        follows_behind m input p 0 0 units units state mid (Is a later) (none_waits a later) ran (stretch there) (omega arith) (does there (stretch there) inside)

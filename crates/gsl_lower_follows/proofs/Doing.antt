@@ -21,9 +21,11 @@ use Rattle.gsl_lower_holders.specs.Flow.{Emit, Flow, Gives, Lacks, Lowered, behi
 use Rattle.gsl_lower_follows.specs.Following.Astray.{now}
 use Rattle.gsl_lower_follows.specs.Frames.{Frame, Good, Inside, coming}
 use Rattle.gsl_lower_follows.specs.Giving.{Adds, Does, Grown, GrownTo}
+use Rattle.gsl_lower_follows.specs.Reached.{Reached}
 use Rattle.gsl_lower_follows.specs.Stretching.{Stretch}
 use Rattle.gsl_lower_follows.proofs.Behind.{follows_then}
 use Rattle.gsl_lower_follows.proofs.Placing.{coming_before, inside_between, placed_length}
+use Rattle.gsl_lower_follows.proofs.Reached.{reached_then}
 use Rattle.gsl_lower_follows.proofs.Stretches.{stretch_of}
 
 module _ (m : Module) (input : Input) (whole : Sections) (f : Frame m input whole) where
@@ -58,12 +60,14 @@ module _ (m : Module) (input : Input) (whole : Sections) (f : Frame m input whol
       pub keeps : Keeps state.ids ids
       pub ready : Ready later.last f.own ids
       pub stretch : (units : ℕ) → Stretch m input 0 0 units state units (Going (record (leaving state left ids) { rest = coming m input whole f later }))
+      pub reached : Reached m input (record (leaving state left ids) { rest = coming m input whole f later })
 
     lifted_from : {A : Type 0} (Is : A → Ids → Type 0) (left : Left) (b : Flow) (s : shader.State) (state : State) (a : A) (later : Sections) → Good m input whole f p around b s state → Inside m input whole f later
         → Reaches m input Is left state b.sections a later → Lifted Is left b state a later
     lifted_from Is left b s state a later good inside r =
         let at = coming_before m input whole f b.sections later r.code good.inside inside r.puts in
         let rest : state.rest ≡ placed_from at.0 r.code ++ coming m input whole f later = good.rest ∙ at.1 in
+        let runs : run m input (length r.code) state ≡ Going (record (leaving state left r.ids) { rest = coming m input whole f later }) = ap (λ l. run m input (length r.code) (record state { rest = l })) rest ∙ r.leads at.0 (coming m input whole f later) in
         record {
           ids = r.ids;
           is = r.is;
@@ -71,7 +75,8 @@ module _ (m : Module) (input : Input) (whole : Sections) (f : Frame m input whol
           ready = subst (λ own. Ready later.last own r.ids) good.own r.ready;
           stretch = λ units. stretch_of m input (length r.code) units state (Going (record (leaving state left r.ids) { rest = coming m input whole f later }))
               (let long : length state.rest ≡ length r.code + length (coming m input whole f later) = ap length rest ∙ length-append (placed_from at.0 r.code) (coming m input whole f later) ∙ ap (λ n. n + length (coming m input whole f later)) (placed_length at.0 r.code) in omega (arith, long))
-              (ap (λ l. run m input (length r.code) (record state { rest = l })) rest ∙ r.leads at.0 (coming m input whole f later));
+              runs;
+          reached = reached_then m input (length r.code) state (record (leaving state left r.ids) { rest = coming m input whole f later }) good.reached runs;
         }
 
     -- What a step of the builder that was lifted does.

@@ -18,6 +18,7 @@ use Rattle.gsl_lower_law.specs.Values.{Keeps, Ready, Stands}
 use Rattle.gsl_lower_holders.specs.Flow.{Flow, flow_of, lift}
 use Rattle.gsl_lower_follows.specs.Frames.{AreTyped, Frame, Global, Good, HasType, Holder, Inside, Interface, Local, Name, Param, Stage, coming, type_named, value_of}
 use Rattle.gsl_lower_follows.specs.Giving.{After, Does, HasGiven, none_waits}
+use Rattle.gsl_lower_follows.specs.Reached.{Reached}
 use Rattle.gsl_lower_follows.proofs.Doing.{does_lift}
 
 -- a state of the shader with these choices left
@@ -39,8 +40,9 @@ module _ (m : Module) (input : Input) (whole : Sections) (f : Frame m input whol
 
   -- behind a step that stores nothing
   pub good_drawn : (b : Flow) (s : shader.State) (state : State) (ids : Ids) (choices : List ℕ) (later : Sections) → AreChoices choices → Good m input whole f p around b s state → Inside m input whole f later → Ready later.last f.own ids
+      → Reached m input (record (leaving state (drawing state choices) ids) { rest = coming m input whole f later })
       → Good m input whole f p around (flow_of later b.place) (left_with s choices) (record (leaving state (drawing state choices) ids) { rest = coming m input whole f later })
-  good_drawn b s state ids choices later are good inside ready = record {
+  good_drawn b s state ids choices later are good inside ready reached = record {
     inside = inside;
     rest = refl;
     within = good.within;
@@ -57,12 +59,14 @@ module _ (m : Module) (input : Input) (whole : Sections) (f : Frame m input whol
       outside = good.holds.outside;
     };
     typed = typed_left s choices are good.typed;
+    reached = reached;
   }
 
   pub after_drawn : (b : Flow) (s : shader.State) (state : State) (ids : Ids) (choices : List ℕ) (later : Sections) → AreChoices choices → Good m input whole f p around b s state → Inside m input whole f later → Ready later.last f.own ids → Keeps state.ids ids
+      → Reached m input (record (leaving state (drawing state choices) ids) { rest = coming m input whole f later })
       → After m input whole f p around false b state (flow_of later b.place) (left_with s choices) (record (leaving state (drawing state choices) ids) { rest = coming m input whole f later })
-  after_drawn b s state ids choices later are good inside ready keeps = record {
-    good = good_drawn b s state ids choices later are good inside ready;
+  after_drawn b s state ids choices later are good inside ready keeps reached = record {
+    good = good_drawn b s state ids choices later are good inside ready reached;
     held = record { same = λ holder number less is. refl };
     ids = λ e. keeps;
   }
@@ -80,5 +84,5 @@ module _ (m : Module) (input : Input) (whole : Sections) (f : Frame m input whol
       (λ id later l inside extends. record {
         given = inr ((typed s.choices good.typed.choices).typed, subst (λ choices. Stands l.ids id (answer choices).0) good.holds.choices l.is);
         after = subst (λ choices. After m input whole f p around false b state (flow_of later b.place) (left_with s (answer choices).1) (record (leaving state (drawing state (answer state.choices).1) l.ids) { rest = coming m input whole f later })) good.holds.choices
-            (after_drawn b s state l.ids (answer state.choices).1 later (typed state.choices (choices_are b s state good)).left good inside l.ready l.keeps);
+            (after_drawn b s state l.ids (answer state.choices).1 later (typed state.choices (choices_are b s state good)).left good inside l.ready l.keeps l.reached);
       })

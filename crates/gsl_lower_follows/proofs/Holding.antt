@@ -169,6 +169,7 @@ module _ (m : Module) (input : Input) (whole : Sections) (f : Frame m input whol
             seated = good.seated;
             holds = (let h = holds_held holder number v s state seat good.holds in record { values = h.values; blocks = h.blocks; buffers = h.buffers; choices = h.choices; count = h.count; outside = h.outside });
             typed = good.typed;
+            reached = l.reached;
           };
           place = refl;
           ids = l.keeps;
@@ -181,7 +182,7 @@ module _ (m : Module) (input : Input) (whole : Sections) (f : Frame m input whol
     using b = record b { place = record b.place { used = b.place.used + 1 } }
 
     pub good_using : (b : Flow) (s : shader.State) (state : State) → Good m input whole f p around b s state → Good m input whole f p around (using b) s state
-    good_using b s state good = record { inside = good.inside; rest = good.rest; within = good.within; own = good.own; waiting = good.waiting; ready = good.ready; seated = seated_moved b.place b.place.label (b.place.used + 1) good.seated; holds = good.holds; typed = good.typed }
+    good_using b s state good = record { inside = good.inside; rest = good.rest; within = good.within; own = good.own; waiting = good.waiting; ready = good.ready; seated = seated_moved b.place b.place.label (b.place.used + 1) good.seated; holds = good.holds; typed = good.typed; reached = good.reached }
 
     -- nothing has changed, and an id is that of a holder in which a value waits
     abbrev pub NowWaits : Value → Flow → State → ℕ → Flow → Unit {0} → shader.State → State → Type 0
@@ -235,7 +236,7 @@ module _ (m : Module) (input : Input) (whole : Sections) (f : Frame m input whol
         (giving_does m input whole op.LOAD (h ∷ []) type state v state.choices b.sections (λ text. loads m input type h (InVariable w.number []) v state (good.ready.lasting.same h _ w.points) (λ go. ap (λ o. on o (λ x. go (value_at x []))) w.value)))
         (λ id later l inside extends. (
           subst (λ t. After m input whole f p around false b state (flow_of later b.place) t (record (leaving state (drawing state state.choices) l.ids) { rest = coming m input whole f later })) (ap (left_with s) good.holds.choices)
-              (after_drawn m input whole f p around b s state l.ids state.choices later (choices_are m input whole f p around b s state good) good inside l.ready l.keeps),
+              (after_drawn m input whole f p around b s state l.ids state.choices later (choices_are m input whole f p around b s state good) good inside l.ready l.keeps l.reached),
           l.is,
         ))
 
@@ -254,7 +255,7 @@ module _ (m : Module) (input : Input) (whole : Sections) (f : Frame m input whol
         by (Some shape) =
             does_lift m input whole f p around units b s state (IsType m input whole shape) (drawing state state.choices) (Unchanged b state) none_waits tt s (type_of shape) good (type_does m input whole shape state b.sections)
             (λ type later l inside extends. subst (λ t. After m input whole f p around false b state (flow_of later b.place) t (record (leaving state (drawing state state.choices) l.ids) { rest = coming m input whole f later })) (ap (left_with s) good.holds.choices)
-            (after_drawn m input whole f p around b s state l.ids state.choices later (choices_are m input whole f p around b s state good) good inside l.ready l.keeps))
+            (after_drawn m input whole f p around b s state l.ids state.choices later (choices_are m input whole f p around b s state good) good inside l.ready l.keeps l.reached))
 
     -- ---- values that may have to wait
 

@@ -1,4 +1,5 @@
 pub mod Stretches
+pub mod Reached
 pub mod Behind
 pub mod Placing
 pub mod Growing
@@ -9,3 +10,6 @@ pub mod Fetching
 pub mod Jumping
 pub mod Beginning
 pub mod Meeting
+pub mod OfLawOperators
+pub mod OfLawPlaces
+pub mod OfLawConstructors

@@ -96,8 +96,8 @@ module _ (m : Module) (input : Input) (whole : Sections) where
             (λ there. jumps m input whole f (instr op.BRANCH (ways.end ∷ [])) ways.end between.sections (put op.BRANCH (ways.end ∷ []) between.sections) mid left inside
             (inside_between m input whole f between.sections (put op.BRANCH (ways.end ∷ []) between.sections) (branched ways.end ways.end between).sections inside there (extends_put op.BRANCH (ways.end ∷ []) between.sections) (extends_put op.LABEL (ways.end ∷ []) (put op.BRANCH (ways.end ∷ []) between.sections)))
             there is.good.rest is.good.within is.good.own [] refl (λ at more. refl))
-            (λ there. does_met count t ways.holder v left (branched ways.end ways.end between) u start (begun_at m input whole f mid (branched ways.end ways.end between).sections) (omega (arith, few, used, waits.among))
-            (good_begun m input whole f p around between (branched ways.end ways.end between) u mid is.good (grown_branched ways.end ways.end between) there)
+            (λ there led. does_met count t ways.holder v left (branched ways.end ways.end between) u start (begun_at m input whole f mid (branched ways.end ways.end between).sections) (omega (arith, few, used, waits.among))
+            (good_begun m input whole f p around between (branched ways.end ways.end between) u mid is.good (grown_branched ways.end ways.end between) there led)
             (record { same = λ holder number less seat. is.others number (λ same. apart holder number less seat same) ∙ kept.same holder number less seat })
             (record { holder = waits.holder; number = waits.number; among = omega (arith, used, waits.among); seat = waits.seat; points = waits.points; value = is.there }))
           where

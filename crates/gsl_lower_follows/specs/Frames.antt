@@ -27,6 +27,7 @@ use Rattle.gsl_spv.specs.Sections.{Sections}
 use Rattle.gsl_lower_law.specs.Values.{Ready, Stands, Text}
 use Rattle.gsl_lower_holders.specs.Flow.{Flow}
 use Rattle.gsl_lower_holders.specs.declared.place.FlowPlace.{FlowPlace}
+use Rattle.gsl_lower_follows.specs.Reached.{Reached}
 use Rattle.gsl_lower_follows.specs.Sizes.{IsShort}
 
 abbrev pub AreBytes : List ℕ → Type 0
@@ -171,7 +172,12 @@ module _ (m : Module) (input : Input) (whole : Sections) (f : Frame m input whol
       pub blocks : (number : ℕ) (block : Block) → slice_get p.blocks number ≡ Some block → IsSeen block (slice_get s.blocks number)
       pub stages : (number : ℕ) (t : Ty) (v : Value) → slice_get stage_types number ≡ Some t → value_of f.stages s (Stage number) ≡ Some v → is_value_of p.structs t v ≡ true
 
-    -- The function stands behind what a builder holds, and its state is that of the shader.
+    -- The state is that of the shader, whose variables have values of their types.
+    pub record Agrees (s : shader.State) (state : State) : Type 0 where
+      pub holds : Holds s state
+      pub typed : AreTyped s
+
+    -- The function stands behind what a builder holds, in a state that a run of the module comes to, and that state is that of the shader.
     pub record Good (b : Flow) (s : shader.State) (state : State) : Type 0 where
       pub inside : Inside b.sections
       pub rest : state.rest ≡ coming b.sections
@@ -182,6 +188,7 @@ module _ (m : Module) (input : Input) (whole : Sections) (f : Frame m input whol
       pub seated : Seated b.place
       pub holds : Holds s state
       pub typed : AreTyped s
+      pub reached : Reached m input state
 
   -- A value waits in one of the first holders, which has this id.
   pub record Waits (count id : ℕ) (v : Value) (state : State) : Type 0 where

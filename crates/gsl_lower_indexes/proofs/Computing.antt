@@ -34,9 +34,9 @@ use Rattle.gsl_lower_follows.proofs.Growing.{adds_given, adds_then}
 use Rattle.gsl_lower_follows.proofs.Holding.{after_then, does_so}
 use Rattle.gsl_lower_law_expr.proofs.Short.{behind_assoc}
 use Rattle.gsl_lower_reads.specs.OfElements.{Indexes, indexed_means}
-use Rattle.gsl_lower_reaching.specs.Reaching.{GivesPlace, HasReached, HasStrayed, IsTrail, Start, is_of_value}
-use Rattle.gsl_lower_reaching.specs.Reaching.Start.{OfBlock, OfValue, OfVariable}
-use Rattle.gsl_lower_reaching.specs.Trails.{IsInside, IsOutside, Trail}
+use Rattle.gsl_lower_reads.specs.OfReaching.{GivesPlace, HasReached, HasStrayed, IsTrail, Start, is_of_value}
+use Rattle.gsl_lower_reads.specs.OfReaching.{OfBlock, OfValue, OfVariable}
+use Rattle.gsl_lower_reads.specs.OfReaching.{IsInside, IsOutside, Trail}
 use Rattle.gsl_lower_reads.proofs.OfElements.{GoesOn, place_then}
 use Rattle.gsl_lower_reads.specs.Waiting.{IsKept}
 use Rattle.gsl_lower_reads.proofs.Probing.{adds_tested, kept_in as tested_in, kept_none as tested_none, kept_out as tested_out}

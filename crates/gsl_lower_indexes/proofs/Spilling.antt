@@ -33,13 +33,13 @@ use Rattle.gsl_lower_follows.proofs.Growing.{adds_given, adds_then}
 use Rattle.gsl_lower_follows.proofs.Holding.{NowWaits, after_same, after_then, does_keep, does_map}
 use Rattle.gsl_lower_law_expr.proofs.Operands.{given_value}
 use Rattle.gsl_lower_law_expr.proofs.Short.{does_change}
-use Rattle.gsl_lower_reaching.specs.Reaching.{Begins, IsOwnTrail, IsTrail, Start}
-use Rattle.gsl_lower_reaching.specs.Reaching.IsTrail.{own, in_block}
-use Rattle.gsl_lower_reaching.specs.Reaching.Start.{OfBlock, OfValue, OfVariable}
-use Rattle.gsl_lower_reaching.specs.Reaching.Begins.{variable, value, holder}
-use Rattle.gsl_lower_reaching.specs.Trails.{IsInside, MayStore, Trail}
+use Rattle.gsl_lower_reads.specs.OfReaching.{Begins, IsOwnTrail, IsTrail, Start}
+use Rattle.gsl_lower_reads.specs.OfReaching.{own, in_block}
+use Rattle.gsl_lower_reads.specs.OfReaching.{OfBlock, OfValue, OfVariable}
+use Rattle.gsl_lower_reads.specs.OfReaching.{variable, value, holder}
+use Rattle.gsl_lower_reads.specs.OfReaching.{IsInside, MayStore, Trail}
 use Rattle.gsl_lower_reads.proofs.OfElements.{none_shape}
-use Rattle.gsl_lower_reaching.proofs.Parts.{whole_picked}
+use Rattle.gsl_lower_reads.proofs.OfReaching.{whole_picked}
 use Rattle.gsl_lower_reads.proofs.Adding.{adds_reads}
 use Rattle.gsl_lower_reads.proofs.Found.{found_whole, read_found, read_typed}
 use Rattle.gsl_lower_reads.proofs.Taking.{taken}

@@ -37,11 +37,11 @@ use Rattle.gsl_lower_follows.proofs.Doing.{does_then}
 use Rattle.gsl_lower_follows.proofs.Growing.{adds_lift, adds_then}
 use Rattle.gsl_lower_follows.proofs.Holding.{after_then}
 use Rattle.gsl_lower_law_expr.proofs.Operands.{after_less, given_value}
-use Rattle.gsl_lower_reaching.specs.Reaching.{HasReached, HasStrayed, IsTrail, Start}
-use Rattle.gsl_lower_reaching.specs.Reaching.Start.{OfValue}
-use Rattle.gsl_lower_reaching.specs.Trails.{IsInside, IsOutside, Trail}
+use Rattle.gsl_lower_reads.specs.OfReaching.{HasReached, HasStrayed, IsTrail, Start}
+use Rattle.gsl_lower_reads.specs.OfReaching.{OfValue}
+use Rattle.gsl_lower_reads.specs.OfReaching.{IsInside, IsOutside, Trail}
 use Rattle.gsl_lower_reads.proofs.OfElements.{MayIndex, step_in, step_out}
-use Rattle.gsl_lower_reaching.proofs.Moving.{trail_after}
+use Rattle.gsl_lower_reads.proofs.OfReaching.{trail_after}
 use Rattle.gsl_lower_reads.proofs.OfElements.{does_both}
 use Rattle.gsl_lower_reads.specs.Waiting.{IsKept}
 use Rattle.gsl_lower_reads.proofs.Holds.{adds_fetched, is_fetched}

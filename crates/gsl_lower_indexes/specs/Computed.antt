@@ -9,8 +9,8 @@ use Rattle.gsl_meaning.specs.Accesses.{Access}
 use Rattle.gsl_meaning.specs.Running.{Ends, Goes, Got, Ran, Run, Strays}
 use Rattle.gsl_meaning.specs.State.{State}
 use Rattle.gsl_lower_expr.specs.Parts.{Lower}
-use Rattle.gsl_lower_reaching.specs.Reaching.{Start}
-use Rattle.gsl_lower_reaching.specs.Reaching.Start.{OfVariable}
+use Rattle.gsl_lower_reads.specs.OfReaching.{Start}
+use Rattle.gsl_lower_reads.specs.OfReaching.{OfVariable}
 
 -- A part of a shader came to something, or an index in it was out of bounds; the invocation has not ended, and no unit was wanting.
 abbrev pub Comes : Ran Value → Type 0

@@ -17,7 +17,7 @@ ghost use Rattle.gsl_lower_expr.specs.Parts.{Lower, indexed, known_of};
 ghost use Rattle.gsl_lower_follows.specs.Frames.{Frame};
 ghost use Rattle.gsl_lower_follows.specs.Giving.{GivesValue};
 ghost use Rattle.gsl_lower_reads.specs.OfElements.{Indexes, indexed_means};
-ghost use Rattle.gsl_lower_reaching.specs.Reaching.{GivesPlace, Start, is_of_value};
+ghost use Rattle.gsl_lower_reads.specs.OfReaching.{GivesPlace, Start, is_of_value};
 ghost use Rattle.gsl_lower_indexes.specs.Computed.{CanTest, IsComputed, MayCall, spilled_to};
 
 /// An index that is computed, and calls no function of the program, leads to that element or component of what the array or vector leads to, which is held where the

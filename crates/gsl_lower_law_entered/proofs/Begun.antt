@@ -22,11 +22,12 @@ use Rattle.gsl_lower_holders.specs.Flow.{Flow}
 use Rattle.gsl_lower_holders.specs.declared.place.FlowPlace.{FlowPlace}
 use Rattle.gsl_lower_text.specs.Written.{Written}
 use Rattle.gsl_lower_follows.specs.Frames.{AreTyped, Frame, Global, Good, HasType, Holder, Inside, Interface, Local, Name, Param, Stage, coming, type_named, type_of_global, type_of_interface, value_if, value_of}
+use Rattle.gsl_lower_follows.specs.Reached.{Reached}
 use Rattle.gsl_lower_frames.specs.Named.{number_at, number_in, seat_in}
 use Rattle.gsl_lower_frames.specs.Standing.{place_in}
 use Rattle.gsl_lower_law_returns.specs.Calling.{AreAlike, is_shared}
 use Rattle.gsl_lower_law_returns.proofs.Untouched.{get_in_front}
-use Rattle.gsl_lower_law_entered.specs.Modules.{AreShared, Declared, IsFrame, IsFunction, variable_of}
+use Rattle.gsl_lower_law_entered.specs.Modules.{Declared, IsFrame, IsFunction, variable_of}
 use Rattle.gsl_lower_law_entered.specs.Entering.{Argument, AreHeld, values_of}
 use Rattle.gsl_lower_law_entered.proofs.Given.{map_there, mapped}
 use Rattle.gsl_lower_law_entered.proofs.Framed.{frame_of, own, own_points, param_seat, seat_kept, seated, variables_are}
@@ -108,8 +109,8 @@ module _ (m : Module) (input : Input) (whole : Sections) (f : Frame m input whol
   abbrev pub begun_state : List Waiting → State
   begun_state waiting = record state { rest = coming m input whole (frame waiting) begin.sections; body = placed_from (place_in m function fn.code fn.stands) fn.code; ids = lasting; own = lasting; variables = state.variables ++ more; waiting = waiting }
 
-  pub begins_good : (waiting : List Waiting) → Good m input whole (frame waiting) p inner begin now (begun_state waiting)
-  begins_good waiting = record {
+  pub begins_good : (waiting : List Waiting) → Reached m input (begun_state waiting) → Good m input whole (frame waiting) p inner begin now (begun_state waiting)
+  begins_good waiting reached = record {
     inside = begins_inside waiting;
     rest = refl;
     within = refl;
@@ -126,6 +127,7 @@ module _ (m : Module) (input : Input) (whole : Sections) (f : Frame m input whol
       outside = λ number none. refl;
     };
     typed = typed_begun waiting;
+    reached = reached;
   }
 
   -- each variable has what its instruction stores

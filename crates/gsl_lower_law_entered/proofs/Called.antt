@@ -26,11 +26,12 @@ use Rattle.gsl_lower_text.specs.Written.{Written}
 use Rattle.gsl_lower_follows.specs.Frames.{Frame, Good, HasType, Inside, Param, coming, type_named}
 use Rattle.gsl_lower_follows.specs.Stretching.{Stretch, room_behind}
 use Rattle.gsl_lower_follows.proofs.Placing.{coming_before, coming_is, placed_join, placed_length}
+use Rattle.gsl_lower_follows.proofs.Reached.{reached_then}
 use Rattle.gsl_lower_frames.proofs.Found.{code_found, code_short}
 use Rattle.gsl_lower_frames.proofs.Texts.{valid_once}
 use Rattle.gsl_lower_law_returns.specs.Calling.{AreAlike, call_of}
 use Rattle.gsl_lower_law_returns.proofs.Returned.{given_by, put_here}
-use Rattle.gsl_lower_law_entered.specs.Modules.{AreShared, IsFrame, IsFunction, declares}
+use Rattle.gsl_lower_law_entered.specs.Modules.{IsFrame, IsFunction, declares}
 use Rattle.gsl_lower_law_entered.specs.Entering.{Argument, AreHeld, HasEntered, ids_of, values_of}
 use Rattle.gsl_lower_law_entered.proofs.Begun.{begins_good, begins_inside, begun_state, each_there, frame}
 use Rattle.gsl_lower_law_entered.proofs.Framed.{frame_is, held_of, helds, param_argument, param_seat, was_called}
@@ -133,7 +134,7 @@ module _ (m : Module) (input : Input) (whole : Sections) (f : Frame m input whol
     params = param_seat m input whole f p.structs place inner.locals stages result function begin fn valid written of_module first state args good.holds.count held enough;
     passed = param_argument m input whole f p.structs place inner.locals stages result function begin fn valid written of_module first state args good.holds.count held enough;
     begun = begun;
-    good = begins_good m input whole f p around inner place stages result function begin b fn valid written of_module first s state args good held enough alike typed_args waiting;
+    good = begins_good m input whole f p around inner place stages result function begin b fn valid written of_module first s state args good held enough alike typed_args waiting (reached_then m input (suc (length opened)) state begun good.reached runs);
     stretch = entering;
   }
 

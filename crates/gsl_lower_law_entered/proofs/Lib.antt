@@ -4,3 +4,5 @@ pub mod Framed
 pub mod Opening
 pub mod Begun
 pub mod Called
+pub mod OfLawReturns
+pub mod OfLawStmt

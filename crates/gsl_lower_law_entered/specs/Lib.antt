@@ -1,2 +1,4 @@
 pub mod Modules
 pub mod Entering
+pub mod OfLawStmt
+pub mod OfLawReturns

@@ -7,3 +7,5 @@ mod Forms
 mod Quiet
 pub mod Lengths
 pub mod Whole
+pub mod Gathered
+pub mod Unread

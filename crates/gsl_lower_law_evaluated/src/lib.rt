@@ -3,4 +3,6 @@
 
 mod laws;
 
-pub use laws::expressions_evaluate;
+pub use laws::{
+    expressions_evaluate, expressions_that_read_wholes_evaluate, wholes_in_blocks_give,
+};

@@ -37,8 +37,8 @@ use Rattle.gsl_lower_law.proofs.Constants.{scalar_stands}
 use Rattle.gsl_lower_law_leaves.specs.Equal.{told}
 use Rattle.gsl_lower_law_leaves.proofs.Compared.{whole_computes}
 use Rattle.gsl_lower_law_leaves.proofs.Structs.{values_agree}
-use Rattle.gsl_lower_law_operators.proofs.Binaries.{binary_computes}
-use Rattle.gsl_lower_law_places.proofs.Loads.{extracted_grows}
+use Rattle.gsl_lower_follows.proofs.OfLawOperators.{binary_computes}
+use Rattle.gsl_lower_follows.proofs.OfLawPlaces.{extracted_grows}
 use Rattle.gsl_lower_holders.specs.Flow.{Flow, lift}
 use Rattle.gsl_lower_expr.specs.Parts.{Lower, binary, binary_by, binary_of, shape_or}
 use Rattle.gsl_lower_follows.specs.Frames.{Frame, Good}

@@ -20,7 +20,7 @@ use Rattle.gsl_lower_values.specs.Types.{scalar_constant, vector_constant}
 use Rattle.gsl_lower_law.specs.Computing.{Computes}
 use Rattle.gsl_lower_law.specs.Values.{AreWords, IsOf}
 use Rattle.gsl_lower_law.proofs.Constants.{scalar_stands, vector_stands}
-use Rattle.gsl_lower_law_constructors.proofs.Shares.{words_in}
+use Rattle.gsl_lower_follows.proofs.OfLawConstructors.{words_in}
 use Rattle.gsl_lower_holders.specs.Flow.{lift}
 use Rattle.gsl_lower_expr.specs.Parts.{constant_by}
 use Rattle.gsl_lower_follows.specs.Frames.{Frame}

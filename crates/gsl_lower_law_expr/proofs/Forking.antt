@@ -117,10 +117,10 @@ module _ (m : Module) (input : Input) (whole : Sections) (f : Frame m input whol
             (λ inside8. jumps m input whole f (instr op.BRANCH (end ∷ [])) end b5.sections (put op.BRANCH (end ∷ []) (put op.STORE (h ∷ id ∷ []) b7.sections)) mid5 units before.good.inside
             (inside_between m input whole f b5.sections (put op.BRANCH (end ∷ []) (put op.STORE (h ∷ id ∷ []) b7.sections)) (stored_end h id end b7).sections before.good.inside inside8 (extends_then (extends_put op.BRANCH (end ∷ []) b5.sections) jumped) label_on)
             inside8 before.good.rest before.good.within before.good.own jumped.functions.more (jumped.functions.is ∙ append_assoc b5.sections.functions (instr op.BRANCH (end ∷ []) ∷ []) jumped.functions.more) (λ at more. refl))
-            (λ inside8. does_change m input whole f p around units units (begun_at m input whole f mid5 (stored_end h id end b7).sections) (Met m input whole f p around b0.place.used v state0) (HasGiven m input whole f p around true t b0 state0) tt v s ((type_id t >>= take_back h) (stored_end h id end b7))
+            (λ inside8 led. does_change m input whole f p around units units (begun_at m input whole f mid5 (stored_end h id end b7).sections) (Met m input whole f p around b0.place.used v state0) (HasGiven m input whole f p around true t b0 state0) tt v s ((type_id t >>= take_back h) (stored_end h id end b7))
             (λ got later last met. met_given m input whole f p around b0 state0 got later v s last t typed met)
             (does_met m input whole f p around b0.place.used t h v units (stored_end h id end b7) s state0 (begun_at m input whole f mid5 (stored_end h id end b7).sections) (omega (arith, before.grown.used, grown58.used))
-            (good_begun m input whole f p around b5 (stored_end h id end b7) s mid5 before.good grown58 inside8)
+            (good_begun m input whole f p around b5 (stored_end h id end b7) s mid5 before.good grown58 inside8 led)
             (record { same = λ holder number less seat. before.held.same holder number less seat })
             (record { holder = waits.holder; number = waits.number; among = omega (arith, waits.among, grown58.used); seat = waits.seat; points = waits.points; value = waits.value })))
 
@@ -159,12 +159,12 @@ module _ (m : Module) (input : Input) (whole : Sections) (f : Frame m input whol
         does_behind m input whole f p units b3 (first_at i yes_ no_ end b3) mid3 (begun_at m input whole f mid3 (first_at i yes_ no_ end b3).sections) (HasGiven m input whole f p around true t b0 state0) (x s units) (both_ways (fork h no_ end) (first_at i yes_ no_ end b3))
         before.good.inside (grown_chosen end (i ∷ yes_ ∷ no_ ∷ []) yes_ b3) (adds_both (fork h no_ end) (first_at i yes_ no_ end b3))
         (λ inside4. chooses m input whole f b3.sections end i yes_ no_ w yes_ (put op.BRANCH_CONDITIONAL (i ∷ yes_ ∷ no_ ∷ []) (put op.SELECTION_MERGE (end ∷ 0 ∷ []) b3.sections)) mid3 units (ap (λ b. if b then no_ else yes_) so) stands before.good.inside inside4 (extends_same _) before.good.rest before.good.within before.good.own)
-        (λ inside4.
+        (λ inside4 led.
         subst (λ ran. Does m input whole f p 0 units (begun_at m input whole f mid3 (first_at i yes_ no_ end b3).sections) (HasGiven m input whole f p around true t b0 state0) none_waits ran (both_ways (fork h no_ end) (first_at i yes_ no_ end b3))) (behind_given (x s units))
         (subst (Does m input whole f p 0 units (begun_at m input whole f mid3 (first_at i yes_ no_ end b3).sections) (HasGiven m input whole f p around true t b0 state0) none_waits (shader_run.behind (x s units) shader_given)) (sym (behind_assoc (first (first_at i yes_ no_ end b3)) (other_way (fork h no_ end)) (other (fork h no_ end))))
         (does_then m input whole f p 0 units (first_at i yes_ no_ end b3) (begun_at m input whole f mid3 (first_at i yes_ no_ end b3).sections) (HasGiven m input whole f p around sa t (first_at i yes_ no_ end b3) (begun_at m input whole f mid3 (first_at i yes_ no_ end b3).sections)) none_waits (HasGiven m input whole f p around true t b0 state0) none_waits
         (x s units) shader_given (first (first_at i yes_ no_ end b3)) (λ id. other_way (fork h no_ end) id >>= other (fork h no_ end)) inside4 (does_first.adds (first_at i yes_ no_ end b3)) (λ id. adds_then (other_way (fork h no_ end) id) (other (fork h no_ end)) (adds_other (fork h no_ end) id) (λ done. adds_meet (fork h no_ end)))
-        (does_first.does (first_at i yes_ no_ end b3) s units (begun_at m input whole f mid3 (first_at i yes_ no_ end b3).sections) (good_begun m input whole f p around b3 (first_at i yes_ no_ end b3) s mid3 before.good (grown_chosen end (i ∷ yes_ ∷ no_ ∷ []) yes_ b3) inside4))
+        (does_first.does (first_at i yes_ no_ end b3) s units (begun_at m input whole f mid3 (first_at i yes_ no_ end b3).sections) (good_begun m input whole f p around b3 (first_at i yes_ no_ end b3) s mid3 before.good (grown_chosen end (i ∷ yes_ ∷ no_ ∷ []) yes_ b3) inside4 led))
         (λ id b5 v u left mid5 inside5 grown45 g less.
         let real = given_value m input whole f p around mid5.ids id t v real_t g.given in
         store_first b0 b5 state0 mid5 u left h no_ end id v old (record {
@@ -194,11 +194,11 @@ module _ (m : Module) (input : Input) (whole : Sections) (f : Frame m input whol
             (extends_then (extends_put op.LABEL (yes_ ∷ []) (put op.BRANCH_CONDITIONAL (i ∷ yes_ ∷ no_ ∷ []) (put op.SELECTION_MERGE (end ∷ 0 ∷ []) b3.sections)))
             (extends_then grown.extends (extends_then (extends_put op.STORE (h ∷ id ∷ []) b5.sections) (extends_put op.BRANCH (end ∷ []) (put op.STORE (h ∷ id ∷ []) b5.sections)))))
             before.good.rest before.good.within before.good.own)
-            (λ inside6.
+            (λ inside6 led.
             subst (λ ran. Does m input whole f p 0 units (begun_at m input whole f mid3 b6.sections) (HasGiven m input whole f p around true t b0 state0) none_waits ran (meet (fork h no_ end) b6)) (behind_given (y s units))
             (does_then m input whole f p 0 units b6 (begun_at m input whole f mid3 b6.sections) (HasGiven m input whole f p around sb t b6 (begun_at m input whole f mid3 b6.sections)) none_waits (HasGiven m input whole f p around true t b0 state0) none_waits (y s units) shader_given (second b6) (join t (fork h no_ end)) inside6
             (does_second.adds b6) (λ id. adds_join m input whole t (fork h no_ end) id)
-            (does_second.does b6 s units (begun_at m input whole f mid3 b6.sections) (good_begun m input whole f p around b3 b6 s mid3 before.good grown36 inside6))
+            (does_second.does b6 s units (begun_at m input whole f mid3 b6.sections) (good_begun m input whole f p around b3 b6 s mid3 before.good grown36 inside6 led))
             (λ j b7 v u left mid7 inside7 grown67 g less.
             let real = given_value m input whole f p around mid7.ids j t v real_t g.given in
             let wide = before.grown.used in

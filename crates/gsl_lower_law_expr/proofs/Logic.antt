@@ -30,7 +30,7 @@ use Rattle.gsl_spv.specs.Sections.{Sections}
 use Rattle.gsl_lower_values.specs.Operators.{logical}
 use Rattle.gsl_lower_law.specs.Operands.{logic_answer}
 use Rattle.gsl_lower_law.specs.Values.{Stands}
-use Rattle.gsl_lower_law_operators.proofs.Straights.{logical_computes}
+use Rattle.gsl_lower_follows.proofs.OfLawOperators.{logical_computes}
 use Rattle.gsl_lower_holders.specs.Flow.{Flow, lift}
 use Rattle.gsl_lower_expr.specs.Parts.{Lower, both}
 use Rattle.gsl_lower_follows.specs.Frames.{AreTyped, Frame, Good}

@@ -15,7 +15,7 @@ use Rattle.gsl_tree.specs.Values.{is_value_of, word_in}
 use Rattle.gsl_tree.specs.declared.expr.LogicOp.{LogicOp}
 use Rattle.gsl_tree.specs.declared.expr.LogicOp.TheVariants as logic
 use Rattle.gsl_tree.specs.declared.program.Program.{Program}
-use Rattle.gsl_meaning.specs.Running.{Got, Ran, Run, given as shader_given}
+use Rattle.gsl_meaning.specs.Running.{Got, Run, given as shader_given}
 use Rattle.gsl_meaning.specs.Running as shader_run
 use Rattle.gsl_meaning.specs.State as shader
 use Rattle.gsl_machine.specs.State.{State}
@@ -182,12 +182,12 @@ module _ (m : Module) (input : Input) (whole : Sections) (f : Frame m input whol
         before.good.inside (grown_entered which x right end b3) (adds_meet (fork h right end) (entered_at which x right end b3))
         (λ inside4. chooses m input whole f b3.sections end x (on_true which right end) (on_false which right end) v right (put op.BRANCH_CONDITIONAL (x ∷ on_true which right end ∷ on_false which right end ∷ []) (put op.SELECTION_MERGE (end ∷ 0 ∷ []) b3.sections)) mid3 units
         (goes_to which is (word_in v) right end false no_) stands before.good.inside inside4 (extends_same _) before.good.rest before.good.within before.good.own)
-        (λ inside4.
+        (λ inside4 led.
         does_then m input whole f p 0 units (entered_at which x right end b3) (begun_at m input whole f mid3 (entered_at which x right end b3).sections) (HasGiven m input whole f p around sb boolean (entered_at which x right end b3) (begun_at m input whole f mid3 (entered_at which x right end b3).sections)) none_waits
         (HasGiven m input whole f p around true boolean b0 state0) none_waits (y s units) (λ w. shader_given (Word (logic_word which (word_in v) (word_in w)))) (second (entered_at which x right end b3)) (join (One Boolean) (fork h right end)) inside4
         (does_second.adds (entered_at which x right end b3)) (λ id. adds_join m input whole (One Boolean) (fork h right end) id)
         (does_second.does (entered_at which x right end b3) s units (begun_at m input whole f mid3 (entered_at which x right end b3).sections)
-        (good_begun m input whole f p around b3 (entered_at which x right end b3) s mid3 before.good (grown_entered which x right end b3) inside4))
+        (good_begun m input whole f p around b3 (entered_at which x right end b3) s mid3 before.good (grown_entered which x right end b3) inside4 led))
         (λ id b5 w t left mid5 inside5 grown45 g less. met_second b0 (entered_at which x right end b3) b5 state0 (begun_at m input whole f mid3 (entered_at which x right end b3).sections) mid5 h right end id v w (word_in v) t left inside5
         (grown_then before.grown (grown_entered which x right end b3)) grown45
         (record { same = λ holder number less seat. before.held.same holder number less seat })
@@ -212,10 +212,10 @@ module _ (m : Module) (input : Input) (whole : Sections) (f : Frame m input whol
             (extends_then (extends_put op.LABEL (right ∷ []) (put op.BRANCH_CONDITIONAL (x ∷ on_true which right end ∷ on_false which right end ∷ []) (put op.SELECTION_MERGE (end ∷ 0 ∷ []) b3.sections)))
             (extends_then grown.extends (extends_then (extends_put op.STORE (h ∷ id ∷ []) b5.sections) (extends_put op.BRANCH (end ∷ []) (put op.STORE (h ∷ id ∷ []) b5.sections)))))
             before.good.rest before.good.within before.good.own)
-            (λ inside6. does_change units units (begun_at m input whole f mid3 (stored_end h id end b5).sections) (Met m input whole f p around b0.place.used v state0) (HasGiven m input whole f p around true boolean b0 state0) tt v s ((type_id (One Boolean) >>= take_back h) (stored_end h id end b5))
+            (λ inside6 led. does_change units units (begun_at m input whole f mid3 (stored_end h id end b5).sections) (Met m input whole f p around b0.place.used v state0) (HasGiven m input whole f p around true boolean b0 state0) tt v s ((type_id (One Boolean) >>= take_back h) (stored_end h id end b5))
             (λ got later last met. met_given b0 state0 got later v s last boolean typed met)
             (does_met m input whole f p around b0.place.used (One Boolean) h v units (stored_end h id end b5) s state0 (begun_at m input whole f mid3 (stored_end h id end b5).sections) (omega (arith, before.grown.used, grown36.used))
-            (good_begun m input whole f p around b3 (stored_end h id end b5) s mid3 before.good grown36 inside6)
+            (good_begun m input whole f p around b3 (stored_end h id end b5) s mid3 before.good grown36 inside6 led)
             (record { same = λ holder number less seat. before.held.same holder number less seat })
             (record { holder = before.waits.holder; number = before.waits.number; among = omega (arith, before.waits.among, grown36.used); seat = before.waits.seat; points = before.waits.points; value = before.waits.value })))
 

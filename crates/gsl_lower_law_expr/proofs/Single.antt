@@ -25,8 +25,8 @@ use Rattle.gsl_lower_law.specs.Computing.{Computes}
 use Rattle.gsl_lower_law.specs.Operands.{converted_value}
 use Rattle.gsl_lower_law.specs.Values.{IsOf}
 use Rattle.gsl_lower_law.proofs.Unaries.{unary_computes}
-use Rattle.gsl_lower_law_constructors.proofs.Shares.{words_in}
-use Rattle.gsl_lower_law_operators.proofs.Conversions.{converted_computes}
+use Rattle.gsl_lower_follows.proofs.OfLawConstructors.{words_in}
+use Rattle.gsl_lower_follows.proofs.OfLawOperators.{converted_computes}
 use Rattle.gsl_lower_holders.specs.Flow.{Emit, lift, ◌>>=◌}
 use Rattle.gsl_lower_expr.specs.Parts.{Lower, of_type}
 use Rattle.gsl_lower_follows.specs.Frames.{Frame}

@@ -1,3 +1,4 @@
 pub mod Known
 pub mod Coded
 pub mod Rows
+pub mod OfExpr

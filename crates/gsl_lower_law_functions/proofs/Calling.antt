@@ -46,7 +46,7 @@ use Rattle.gsl_lower_follows.proofs.Growing.{adds_given, adds_lift, adds_then, g
 use Rattle.gsl_lower_follows.proofs.Holding.{Unchanged, does_type_id}
 use Rattle.gsl_lower_follows.proofs.Placing.{inside_between}
 use Rattle.gsl_lower_law_expr.specs.Known.{AllGive}
-use Rattle.gsl_lower_law_returns.specs.Calling.{AreAlike}
+use Rattle.gsl_lower_law_entered.specs.OfLawReturns.{AreAlike}
 use Rattle.gsl_lower_law_entered.specs.Modules.{IsFrame}
 use Rattle.gsl_lower_law_entered.specs.Entering.{Argument, AreHeld, values_of}
 use Rattle.gsl_lower_law_functions.specs.Functions.{FunctionDoes, HasReturned}

@@ -34,13 +34,13 @@ use Rattle.gsl_lower_follows.specs.Frames.{AreTyped, Frame, Good, HasType, Insid
 use Rattle.gsl_lower_follows.specs.Giving.{Does, IsGiven, none_waits}
 use Rattle.gsl_lower_follows.proofs.Behind.{follows_behind, follows_then}
 use Rattle.gsl_lower_follows.proofs.Stretches.{lasts_at_once}
-use Rattle.gsl_lower_law_returns.specs.Calling.{AreAlike, IsBack}
-use Rattle.gsl_lower_law_returns.proofs.Returned.{given_by, put_here, returned_back}
+use Rattle.gsl_lower_law_entered.specs.OfLawReturns.{AreAlike, IsBack}
+use Rattle.gsl_lower_law_entered.proofs.OfLawReturns.{given_by, put_here, returned_back}
 use Rattle.gsl_lower_law_entered.specs.Modules.{AreShared, IsFrame, IsFunction}
 use Rattle.gsl_lower_law_entered.specs.Entering.{Argument, AreHeld, HasEntered, ids_of, values_of}
 use Rattle.gsl_lower_law_entered.proofs.Called.{call_enters}
 use Rattle.gsl_lower_law_functions.specs.Bodies.{AtResult, DoesBody}
-use Rattle.gsl_lower_law_stmt.specs.Doing.{AtReturn, IsResult}
+use Rattle.gsl_lower_law_entered.specs.OfLawStmt.{AtReturn, IsResult}
 use Rattle.gsl_lower_law_functions.proofs.Valued.{void_or_parts}
 use Rattle.gsl_lower_law_functions.specs.Functions.{FunctionDoes, HasReturned, IsLowered, running_body}
 

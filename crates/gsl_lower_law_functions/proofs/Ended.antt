@@ -42,8 +42,8 @@ use Rattle.gsl_lower_follows.proofs.Behind.{reaches_behind}
 use Rattle.gsl_lower_follows.proofs.Fetching.{adds_type_id}
 use Rattle.gsl_lower_follows.proofs.Growing.{adds_given, adds_lift, adds_then, grown_behind}
 use Rattle.gsl_lower_follows.proofs.Placing.{coming_before, inside_between}
-use Rattle.gsl_lower_law_stmt.specs.Doing.{AtReturn, DoesStatement, IsDone, IsResult, LeadBehind, UnderExits}
-use Rattle.gsl_lower_law_stmt.proofs.Exits.{adds_putting, return_nothing_does}
+use Rattle.gsl_lower_law_entered.specs.OfLawStmt.{AtReturn, DoesStatement, IsDone, IsResult, LeadBehind, UnderExits}
+use Rattle.gsl_lower_law_entered.proofs.OfLawStmt.{adds_putting, return_nothing_does}
 use Rattle.gsl_lower_law_functions.specs.Bodies.{AtResult, DoesBody, GivesZeros, bodied, ending, no_exits, zeros_returned}
 
 -- ---- types
@@ -120,7 +120,7 @@ module _ (m : Module) (input : Input) (whole : Sections) (f : Frame m input whol
               is = after.rest ∙ at.1;
               gives = inr (id, refl, stands q.later id q.is.given);
               typed = typed q.later id q.is.given;
-              state_is = record { within = after.within; own = after.own; waiting = after.waiting; holds = after.holds; typed = after.typed };
+              state_is = record { within = after.within; own = after.own; waiting = after.waiting; holds = after.holds; typed = after.typed; reached = after.reached };
             };
             less = q.less;
             stretch = q.stretch;

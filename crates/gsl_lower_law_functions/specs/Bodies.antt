@@ -20,7 +20,7 @@ use Rattle.gsl_lower_expr.specs.Calls.{zeros}
 use Rattle.gsl_lower_stmt.specs.declared.exits.Exits.{Exits}
 use Rattle.gsl_lower_follows.specs.Frames.{Frame, Good}
 use Rattle.gsl_lower_follows.specs.Giving.{Does, Grown, GrownTo, HasGiven, none_waits}
-use Rattle.gsl_lower_law_stmt.specs.Doing.{AtReturn}
+use Rattle.gsl_lower_law_entered.specs.OfLawStmt.{AtReturn}
 
 -- ---- what is put behind the statements of a body
 

@@ -24,7 +24,7 @@ use Rattle.gsl_lower_holders.specs.declared.place.FlowPlace.{FlowPlace}
 use Rattle.gsl_lower_follows.specs.Following.{Follows}
 use Rattle.gsl_lower_follows.specs.Frames.{Frame, Good, HasType, Holder, Inside, Kept, type_of_param}
 use Rattle.gsl_lower_follows.specs.Giving.{IsGiven}
-use Rattle.gsl_lower_law_returns.specs.Calling.{AreAlike}
+use Rattle.gsl_lower_law_entered.specs.OfLawReturns.{AreAlike}
 use Rattle.gsl_lower_law_entered.specs.Modules.{AreShared, IsFrame}
 use Rattle.gsl_lower_law_entered.specs.Entering.{Argument, AreHeld, ids_of, values_of}
 

@@ -200,8 +200,9 @@ module _ (m : Module) (input : Input) (sections : Sections) (f : Frame m input s
       -- from before the loop to its head
       from_before : (s : shader.State) (units : ℕ) (state : State) → Good m input sections f p around before s state → (ran : Ran statement.Flow) → ((now : State) → Good m input sections f p around head s now → Follows m input p 0 units now Is Waits ran) → Follows m input p 0 units state Is Waits ran
       from_before s units state good ran on =
-          follows_behind m input p 0 0 units units state (begun_at m input sections f state head.sections) Is Waits ran (to_head l.head l.first l.next l.end before m input sections f lie.inside (inside_first body.leaves l.head l.first l.next l.end before entered turned stepped tested m input sections f lie) p around s units state good) (omega arith)
-          (on (begun_at m input sections f state head.sections) (good_on m input sections f p around head s state (turn.seated_head body.leaves l.head l.first l.next l.end before entered turned stepped tested m input sections f lie) (inside_head l.head l.first l.next l.end before m input sections f lie.inside (inside_first body.leaves l.head l.first l.next l.end before entered turned stepped tested m input sections f lie)) (within_good m input sections f p around before s state good)))
+          let led = to_head l.head l.first l.next l.end before m input sections f lie.inside (inside_first body.leaves l.head l.first l.next l.end before entered turned stepped tested m input sections f lie) p around s units state good in
+          follows_behind m input p 0 0 units units state (begun_at m input sections f state head.sections) Is Waits ran led (omega arith)
+          (on (begun_at m input sections f state head.sections) (good_on m input sections f p around head s state (turn.seated_head body.leaves l.head l.first l.next l.end before entered turned stepped tested m input sections f lie) (inside_head l.head l.first l.next l.end before m input sections f lie.inside (inside_first body.leaves l.head l.first l.next l.end before entered turned stepped tested m input sections f lie)) (within_good m input sections f p around before s state good) led))
 
       -- a branch back to the head behind the step
       back : tested.sections.functions ≡ stepped.sections.functions ++ instr op.BRANCH (l.head ∷ []) ∷ [] → (u : shader.State) (units : ℕ) (state : State) → Good m input sections f p around stepped u state → (ran : Ran statement.Flow)

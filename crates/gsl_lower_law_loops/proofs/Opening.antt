@@ -46,4 +46,5 @@ module _ (m : Module) (input : Input) (sections : Sections) (f : Frame m input s
     seated = seated_grown m input sections f b later grown good.seated;
     holds = good.holds;
     typed = good.typed;
+    reached = good.reached;
   }

@@ -39,7 +39,7 @@ use Rattle.gsl_lower_follows.proofs.Growing.{grown_then}
 use Rattle.gsl_lower_follows.proofs.Jumping.{begun_at, jumps}
 use Rattle.gsl_lower_follows.proofs.Placing.{coming_before, inside_between}
 use Rattle.gsl_lower_follows.proofs.Stretches.{lasts_at_once, lent_through, loan_unused, stretch_none}
-use Rattle.gsl_lower_law_expr.proofs.Operands.{given_value}
+use Rattle.gsl_lower_law_stmt.proofs.OfLawExpr.{given_value}
 use Rattle.gsl_lower_law_stmt.specs.Doing.{IsDone}
 use Rattle.gsl_lower_law_stmt.proofs.Exits.{within_good}
 use Rattle.gsl_lower_law_stmt.proofs.Ways.{block_at, extends_sealed, grown_block, sealed}
@@ -176,11 +176,11 @@ module _ (leaves : Bool) (head first next end : ℕ) (before entered turned step
           where
             goes : (flow : statement.Flow) (t : shader.State) (left : ℕ) (mid : State) → left ≤ units → IsDone m input sections f p around leaves leading tt turned flow t mid → Follows m input p (worth m) left mid Is Waits (behind_body go flow t left)
             goes Normal t left mid less is =
+                let led = jumps m input sections f (instr op.BRANCH (next ∷ [])) next turned.sections (sealed leaves next turned.sections) mid left inside_turned inside_sealed inside_step is.1.rest is.1.within is.1.own []
+                (ap (λ l. (sealed l next turned.sections).functions) is.0) (λ at more. refl) in
                 follows_behind m input p (worth m) (worth m) left left mid (begun_at m input sections f mid at_step.sections) Is Waits (go t left)
-                (lent_through m input (worth m) left left mid _
-                (jumps m input sections f (instr op.BRANCH (next ∷ [])) next turned.sections (sealed leaves next turned.sections) mid left inside_turned inside_sealed inside_step is.1.rest is.1.within is.1.own []
-                (ap (λ l. (sealed l next turned.sections).functions) is.0) (λ at more. refl))) (omega arith)
-                (on t left (begun_at m input sections f mid at_step.sections) less (good_on m input sections f p around at_step t mid seated_step inside_step (within_good m input sections f p around turned t mid is.1)))
+                (lent_through m input (worth m) left left mid _ led) (omega arith)
+                (on t left (begun_at m input sections f mid at_step.sections) less (good_on m input sections f p around at_step t mid seated_step inside_step (within_good m input sections f p around turned t mid is.1) led))
             goes Broke t left mid less is = reaches_lent left mid (Is Normal t) (refl, good_at m input sections f p around tested.sections end tested t mid seated_behind inside_tested lie.whole is)
             goes Continued t left mid less is = on t left mid less (good_at m input sections f p around (sealed leaves next turned.sections) next turned t mid seated_step inside_sealed inside_step is)
             goes (Returned v) t left mid less is = reaches_lent left mid (Is (Returned v) t) is
@@ -201,11 +201,12 @@ module _ (leaves : Bool) (head first next end : ℕ) (before entered turned step
             → ((state : State) → Good m input sections f p around (at_head head first next end before) t state → Follows m input p 0 left state Is Waits ran)
             → Follows m input p (worth m) left mid Is Waits ran
         back_by i from inside_from puts ran t left mid good acts on_head =
+            let led = jumps_back m input sections f i head (put op.BRANCH (head ∷ []) before.sections) mid left at.0 (coming m input sections f tested.sections) (inside_before_head head first next end before m input sections f lie.inside inside_first)
+            (inside_head head first next end before m input sections f lie.inside inside_first) (good.rest ∙ at.1) good.within good.own (acts at.0) in
             follows_behind m input p (worth m) 0 left left mid (begun_at m input sections f mid (at_head head first next end before).sections) Is Waits ran
-            (jumps_back m input sections f i head (put op.BRANCH (head ∷ []) before.sections) mid left at.0 (coming m input sections f tested.sections) (inside_before_head head first next end before m input sections f lie.inside inside_first)
-            (inside_head head first next end before m input sections f lie.inside inside_first) (good.rest ∙ at.1) good.within good.own (acts at.0)) (omega arith)
+            led (omega arith)
             (on_head (begun_at m input sections f mid (at_head head first next end before).sections) (good_on m input sections f p around (at_head head first next end before) t mid seated_head
-            (inside_head head first next end before m input sections f lie.inside inside_first) (within_good m input sections f p around from t mid good)))
+            (inside_head head first next end before m input sections f lie.inside inside_first) (within_good m input sections f p around from t mid good) led))
           where
             at : (at : ℕ) × (coming m input sections f from.sections ≡ record { at = at; instr = i } ∷ coming m input sections f tested.sections)
             at = coming_before m input sections f from.sections tested.sections (i ∷ []) inside_from inside_tested puts
@@ -214,16 +215,19 @@ module _ (leaves : Bool) (head first next end : ℕ) (before entered turned step
         pub out_by : (i : Instr) (from : Flow) → Inside m input sections f from.sections → tested.sections.functions ≡ from.sections.functions ++ i ∷ [] → (t : shader.State) (left : ℕ) (mid : State) → Good m input sections f p around from t mid
             → ((at : ℕ) (more : List Placed) → on (read i) (act m input at (record mid { rest = more })) ≡ branching (record mid { rest = more }) end)
             → Reaches m input (worth m) left mid (Is Normal t) left
-        out_by i from inside_from puts t left mid good acts = record {
-          later = begun_at m input sections f mid behind.sections;
-          is = (refl, good_on m input sections f p around behind t mid seated_behind lie.whole (within_good m input sections f p around from t mid good));
-          less = omega arith;
-          stretch = loan_unused m input (worth m) left left mid _ (jumps m input sections f i end from.sections tested.sections mid left inside_from inside_tested lie.whole good.rest good.within good.own [] puts acts);
-        }
+        out_by i from inside_from puts t left mid good acts =
+            let led = jumps m input sections f i end from.sections tested.sections mid left inside_from inside_tested lie.whole good.rest good.within good.own [] puts acts in
+            record {
+              later = begun_at m input sections f mid behind.sections;
+              is = (refl, good_on m input sections f p around behind t mid seated_behind lie.whole (within_good m input sections f p around from t mid good) led);
+              less = omega arith;
+              stretch = loan_unused m input (worth m) left left mid _ led;
+            }
 
         -- from the head to the first block
         pub first_good : (s : shader.State) (state : State) → Good m input sections f p around (at_head head first next end before) s state → Good m input sections f p around (at_first head first next end before) s (begun_at m input sections f state (at_first head first next end before).sections)
         first_good s state good = good_on m input sections f p around (at_first head first next end before) s state seated_first inside_first (within_good m input sections f p around (at_head head first next end before) s state good)
+            (from_head head first next end before m input sections f lie.inside inside_first p around s 0 state good)
 
         -- ---- tests
 
@@ -284,13 +288,13 @@ module _ (leaves : Bool) (head first next end : ℕ) (before entered turned step
 
             -- the body is entered
             pub enters_body : (t : shader.State) (units : ℕ) (mid : State) → AtChoice t mid → (last : State) × Stretch m input 0 (worth m) (suc units) mid units (Going last) × Good m input sections f p around entered t last
-            enters_body t units mid c = (
+            enters_body t units mid c = let led = chooses m input sections f valued.sections inner i inner end c.0 inner choice mid units (ap (λ z. if z then end else inner) c.3) c.2 inside_valued inside_block (extends_same choice) c.1.rest c.1.within c.1.own in (
               begun_at m input sections f mid (put op.LABEL (inner ∷ []) choice),
               unit_taken m input units mid (begun_at m input sections f mid (put op.LABEL (inner ∷ []) choice))
                   (let less = coming_less m input sections f valued.sections choice inner inside_valued inside_choice inside_block extends_choice in let long : length mid.rest ≡ length (coming m input sections f valued.sections) = ap length c.1.rest in omega (arith, less, long))
-                  (chooses m input sections f valued.sections inner i inner end c.0 inner choice mid units (ap (λ z. if z then end else inner) c.3) c.2 inside_valued inside_block (extends_same choice) c.1.rest c.1.within c.1.own),
+                  led,
               subst (λ (e : Flow). Good m input sections f p around e t (begun_at m input sections f mid (put op.LABEL (inner ∷ []) choice))) (sym entered_is)
-                  (good_on m input sections f p around (block_at inner choice valued) t mid seated_block inside_block (within_good m input sections f p around valued t mid c.1)),
+                  (good_on m input sections f p around (block_at inner choice valued) t mid seated_block inside_block (within_good m input sections f p around valued t mid c.1) led),
             )
 
             pub test_before : (go : Run statement.Flow) (u : shader.State) (units : ℕ) (state : State)
@@ -308,13 +312,15 @@ module _ (leaves : Bool) (head first next end : ℕ) (before entered turned step
 
                 by : (v : Value) (t : shader.State) (left : ℕ) (mid : State) → left ≤ units → HasGiven m input sections f p around splits ty (at_first head first next end before) state i valued v t mid → (z : Bool) → (word_in v == 0) ≡ z
                     → Follows m input p 0 left mid Is Waits (again_if go (if z then false else true) t left)
-                by v t left mid less g true which = record {
-                  later = begun_at m input sections f mid behind.sections;
-                  is = (refl, good_on m input sections f p around behind t mid seated_behind lie.whole (within_good m input sections f p around valued t mid g.after.good));
-                  less = omega arith;
-                  stretch = chooses m input sections f valued.sections inner i inner end v end tested.sections mid left (ap (λ z. if z then end else inner) which) (given_value m input sections f p around mid.ids i ty v real g.given).1
-                      inside_valued lie.whole to_end g.after.good.rest g.after.good.within g.after.good.own;
-                }
+                by v t left mid less g true which =
+                    let led = chooses m input sections f valued.sections inner i inner end v end tested.sections mid left (ap (λ z. if z then end else inner) which) (given_value m input sections f p around mid.ids i ty v real g.given).1
+                    inside_valued lie.whole to_end g.after.good.rest g.after.good.within g.after.good.own in
+                    record {
+                      later = begun_at m input sections f mid behind.sections;
+                      is = (refl, good_on m input sections f p around behind t mid seated_behind lie.whole (within_good m input sections f p around valued t mid g.after.good) led);
+                      less = omega arith;
+                      stretch = led;
+                    }
                 by v t left mid less g false which = on_choice t left mid less (v, g.after.good, (given_value m input sections f p around mid.ids i ty v real g.given).1, which)
 
             -- from the head on

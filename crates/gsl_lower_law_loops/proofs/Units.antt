@@ -26,6 +26,7 @@ use Rattle.gsl_lower_follows.specs.Frames.{Frame, Good, Inside, Seated, body, co
 use Rattle.gsl_lower_follows.specs.Stretching.{Stretch, room, room_of, worth}
 use Rattle.gsl_lower_follows.proofs.Jumping.{begun_at, label_found}
 use Rattle.gsl_lower_follows.proofs.Placing.{coming_before, coming_is, placed_length}
+use Rattle.gsl_lower_follows.proofs.Reached.{reached_by}
 use Rattle.gsl_lower_law_stmt.specs.Doing.{AtLabel, StandsBehind, Within}
 use Rattle.gsl_lower_law_stmt.proofs.Ways.{block_at}
 
@@ -92,9 +93,9 @@ module _ (m : Module) (input : Input) where
 
     module _ (p : Program) (around : Around) where
       -- At the beginning of a block the state is that of the shader, as wherever control is in the function.
-      pub good_on : (later : Flow) (s : shader.State) (state : State) → Seated m input sections f later.place → Inside m input sections f later.sections → Within m input sections f p around s state
-          → Good m input sections f p around later s (begun_at m input sections f state later.sections)
-      good_on later s state seated inside within = record {
+      pub good_on : {lent back units left : ℕ} (later : Flow) (s : shader.State) (state : State) → Seated m input sections f later.place → Inside m input sections f later.sections → Within m input sections f p around s state
+          → Stretch m input lent back units state left (Going (begun_at m input sections f state later.sections)) → Good m input sections f p around later s (begun_at m input sections f state later.sections)
+      good_on later s state seated inside within led = record {
         inside = inside;
         rest = refl;
         within = within.within;
@@ -104,6 +105,7 @@ module _ (m : Module) (input : Input) where
         seated = seated;
         holds = (let h = within.holds in record { values = h.values; blocks = h.blocks; buffers = h.buffers; choices = h.choices; count = h.count; outside = h.outside });
         typed = within.typed;
+        reached = reached_by m input within.reached led;
       }
 
       -- Control that is behind a label is where the code stands that was lowered there.
@@ -119,4 +121,5 @@ module _ (m : Module) (input : Input) where
         seated = seated;
         holds = at.state_is.holds;
         typed = at.state_is.typed;
+        reached = at.state_is.reached;
       }

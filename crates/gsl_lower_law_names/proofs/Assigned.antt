@@ -15,8 +15,8 @@ use Rattle.gsl_meaning.specs.State as shader
 use Rattle.gsl_spv.specs.Sections.{Sections}
 use Rattle.gsl_lower_places.specs.Reached.{is_block_class}
 use Rattle.gsl_lower_traits.specs.declared.traits.Traits.{Traits}
-use Rattle.gsl_lower_expr.specs.Lowering.{leading}
-use Rattle.gsl_lower_expr.specs.Parts.{Lower, assigned, class_by, interface_class, named}
+use Rattle.gsl_lower_law_expr.specs.OfExpr.{leading}
+use Rattle.gsl_lower_law_expr.specs.OfExpr.{Lower, assigned, class_by, interface_class, named}
 use Rattle.gsl_lower_follows.specs.Frames.{Frame, Global, Holder, Interface as Passed, Local, Name, Param, Stage, value_of}
 use Rattle.gsl_lower_follows.specs.Giving.{GivesValue}
 use Rattle.gsl_lower_law_names.specs.Named.{IsNamed, assign_means}

@@ -13,14 +13,14 @@ use Rattle.gsl_tree.specs.Shapes.{Shape, shape_of}
 use Rattle.gsl_tree.specs.Values.{is_value_of}
 use Rattle.gsl_tree.specs.declared.program.Program.{Program}
 use Rattle.gsl_meaning.specs.Accesses as access
-use Rattle.gsl_meaning.specs.Running.{Got, Ran, Run}
+use Rattle.gsl_meaning.specs.Running.{Got, Run}
 use Rattle.gsl_meaning.specs.Running as shader_run
 use Rattle.gsl_meaning.specs.State as shader
 use Rattle.gsl_machine.specs.State.{InVariable, Points, State}
 use Rattle.gsl_spv.specs.Sections.{Sections}
 use Rattle.gsl_spv.proofs.Extending.{extends_same}
 use Rattle.gsl_lower_values.specs.Building as steps
-use Rattle.gsl_lower_values.specs.Building.{Step, putting}
+use Rattle.gsl_lower_values.specs.Building.{putting}
 use Rattle.gsl_lower_values.specs.Constructors.{operand}
 use Rattle.gsl_lower_values.specs.Types.{type_of}
 use Rattle.gsl_lower_places.specs.declared.reached.Base.TheVariants.{Variable}
@@ -31,20 +31,20 @@ use Rattle.gsl_lower_places.specs.Reading.{pointer}
 use Rattle.gsl_lower_places.specs.Writing.{in_class, put_at, stored}
 use Rattle.gsl_lower_traits.specs.declared.traits.Traits.{Traits}
 use Rattle.gsl_lower_law.specs.Computing as law
-use Rattle.gsl_lower_law.specs.Computing.{Acts, leaving}
+use Rattle.gsl_lower_law.specs.Computing.{Acts}
 use Rattle.gsl_lower_law.specs.Operands.{converted_value}
 use Rattle.gsl_lower_law.specs.Values.{IsOf, Stands}
 use Rattle.gsl_lower_law.proofs.Adding.{extends_put}
 use Rattle.gsl_lower_law.proofs.Joining.{does_then as step_then, given_does, keeps_then}
 use Rattle.gsl_lower_law.proofs.Plain.{IsType, type_does}
-use Rattle.gsl_lower_law_places.specs.Storing.{Stores}
-use Rattle.gsl_lower_law_places.proofs.Chains.{pointer_grows}
-use Rattle.gsl_lower_law_places.proofs.Stored.{put_acts, stored_left}
+use Rattle.gsl_lower_follows.specs.OfLawPlaces.{Stores}
+use Rattle.gsl_lower_follows.proofs.OfLawPlaces.{pointer_grows}
+use Rattle.gsl_lower_follows.proofs.OfLawPlaces.{put_acts, stored_left}
 use Rattle.gsl_lower_holders.specs.Flow.{Emit, Flow, Gives, Lacks, Lowered, behind, built_in, each, flow_of, given, id_at, lift, ◌>>=◌}
 use Rattle.gsl_lower_holders.specs.Waiting.{fetch_reached, hold_reached}
 use Rattle.gsl_lower_holders.specs.declared.place.FlowPlace.{FlowPlace}
-use Rattle.gsl_lower_expr.specs.Lowering.{leading}
-use Rattle.gsl_lower_expr.specs.Parts.{Lower, after_assign, assigned, before_assign, named, probe, probe_by, store_by, stores}
+use Rattle.gsl_lower_law_expr.specs.OfExpr.{leading}
+use Rattle.gsl_lower_law_expr.specs.OfExpr.{Lower, after_assign, assigned, before_assign, named, probe, probe_by, store_by, stores}
 use Rattle.gsl_lower_follows.specs.Frames.{Frame, Good, HasType, Holder, Inside, Name, id_of, value_of}
 use Rattle.gsl_lower_follows.specs.Giving.{Adds, After, Does, GivesValue, Grown, GrownTo, HasGiven, none_waits}
 use Rattle.gsl_lower_follows.proofs.Behind.{reaches_here}
@@ -154,6 +154,7 @@ module _ (m : Module) (input : Input) (sections : Sections) where
                 seated = after.good.seated;
                 holds = (let h = holds_set m input sections f p around kind number seated.0 v s (access.stored (access.whole root) v s) state others (sets v s).blocks (sets v s).choices seated.1 after.good.holds in record { values = h.values; blocks = h.blocks; buffers = h.buffers; choices = h.choices; count = h.count; outside = h.outside });
                 typed = typed_set m input sections f p around kind number t v s (access.stored (access.whole root) v s) (sets v s).blocks (sets v s).choices others known.typed typed after.good.typed;
+                reached = l.reached;
               };
               held = record { same = λ holder n less at. kept_set m input sections f p around b0.place.used seated.0 (kind number) v state state.variables no_holder seated.1 holder n at ∙ after.held.same holder n less at };
               ids = λ e. keeps_then (after.ids e) l.keeps;

@@ -3,3 +3,4 @@ pub mod Names
 pub mod Storing
 pub mod Assigning
 pub mod Assigned
+pub mod OfLawExpr

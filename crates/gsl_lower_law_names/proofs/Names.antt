@@ -20,7 +20,7 @@ use Rattle.gsl_lower_places.specs.declared.reached.Base.TheVariants.{Variable}
 use Rattle.gsl_lower_places.specs.Reached.{is_block_class, whole}
 use Rattle.gsl_lower_holders.specs.Flow.{Flow, behind, given, id_at, told}
 use Rattle.gsl_lower_holders.specs.declared.place.FlowPlace.{FlowPlace}
-use Rattle.gsl_lower_expr.specs.Parts.{accessed, class_by, interface_class, named, reads}
+use Rattle.gsl_lower_law_expr.specs.OfExpr.{accessed, class_by, interface_class, named, reads}
 use Rattle.gsl_lower_follows.specs.Frames.{Frame, Global, Good, HasType, Interface as Passed, Local, Name, Param, id_of, value_of}
 use Rattle.gsl_lower_follows.specs.Giving.{Adds, Does, GivesValue, GrownTo, HasGiven, none_waits}
 use Rattle.gsl_lower_follows.proofs.Growing.{adds_given, adds_then}

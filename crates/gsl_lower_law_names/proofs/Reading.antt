@@ -29,13 +29,13 @@ use Rattle.gsl_lower_law.specs.Computing.{Computes, drawing, leaving}
 use Rattle.gsl_lower_law.specs.Operands.{converted_value}
 use Rattle.gsl_lower_law.specs.Values.{AreWords, IsOf, Stands}
 use Rattle.gsl_lower_law.proofs.Giving.{giving_does}
-use Rattle.gsl_lower_law_constructors.proofs.Shares.{words_in}
-use Rattle.gsl_lower_law_places.specs.Leading.{HoldsValue}
-use Rattle.gsl_lower_law_places.proofs.Chains.{pointer_grows}
-use Rattle.gsl_lower_law_places.proofs.Loads.{loaded_computes, loads}
+use Rattle.gsl_lower_follows.proofs.OfLawConstructors.{words_in}
+use Rattle.gsl_lower_follows.specs.OfLawPlaces.{HoldsValue}
+use Rattle.gsl_lower_follows.proofs.OfLawPlaces.{pointer_grows}
+use Rattle.gsl_lower_follows.proofs.OfLawPlaces.{loaded_computes, loads}
 use Rattle.gsl_lower_holders.specs.Flow as flow
-use Rattle.gsl_lower_holders.specs.Flow.{Emit, Flow, Gives, Lacks, Lowered, flow_of, giving_here, lift, type_id}
-use Rattle.gsl_lower_expr.specs.Parts.{read_block, read_by, read_own, reads}
+use Rattle.gsl_lower_holders.specs.Flow.{Flow, flow_of, giving_here, lift, type_id}
+use Rattle.gsl_lower_law_expr.specs.OfExpr.{read_block, read_by, read_own, reads}
 use Rattle.gsl_lower_follows.specs.Frames.{Frame, Good, Name, coming, value_of}
 use Rattle.gsl_lower_follows.specs.Giving.{Adds, After, Does, HasGiven, none_waits}
 use Rattle.gsl_lower_follows.proofs.Doing.{does_lift, does_then}
@@ -106,7 +106,7 @@ module _ (m : Module) (input : Input) (whole_sections : Sections) where
         (λ given later l inside extends. record {
           given = inr (typed, l.is);
           after = subst (λ t. After m input whole_sections f p around false b state (flow_of later b.place) t (record (leaving state (drawing state state.choices) l.ids) { rest = coming m input whole_sections f later })) (ap (left_with s) good.holds.choices)
-              (after_drawn m input whole_sections f p around b s state l.ids state.choices later (choices_are m input whole_sections f p around b s state good) good inside l.ready l.keeps);
+              (after_drawn m input whole_sections f p around b s state l.ids state.choices later (choices_are m input whole_sections f p around b s state good) good inside l.ready l.keeps l.reached);
         })
 
     some_same : {a b : ℕ} → Some a ≡ Some b → a ≡ b

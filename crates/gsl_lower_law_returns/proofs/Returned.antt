@@ -23,10 +23,11 @@ use Rattle.gsl_lower_law.specs.Values.{Keeps, Ready, Stands}
 use Rattle.gsl_lower_law.proofs.Giving.{give_ready, give_same}
 use Rattle.gsl_lower_law.proofs.Joining.{keeps_same}
 use Rattle.gsl_lower_holders.specs.Flow.{Flow, Gives, built_in, flow_of, giving_here}
-use Rattle.gsl_lower_follows.specs.Following.{Reaches}
-use Rattle.gsl_lower_follows.specs.Frames.{Frame, Good, Inside, coming}
-use Rattle.gsl_lower_follows.specs.Stretching.{room, room_behind}
-use Rattle.gsl_lower_follows.proofs.Stretches.{stretch_one}
+use Rattle.gsl_lower_law_stmt.specs.OfFollows.{Reaches}
+use Rattle.gsl_lower_law_stmt.specs.OfFollows.{Frame, Good, Inside, coming}
+use Rattle.gsl_lower_law_stmt.specs.OfFollows.{room, room_behind}
+use Rattle.gsl_lower_law_stmt.proofs.OfFollows.{reached_by}
+use Rattle.gsl_lower_law_stmt.proofs.OfFollows.{stretch_one}
 use Rattle.gsl_lower_law_stmt.specs.Doing.{AtReturn}
 use Rattle.gsl_lower_law_returns.specs.Calling.{AreAlike, IsBack, IsCalled, call_of}
 use Rattle.gsl_lower_law_returns.proofs.Untouched.{holders_stay, others_stay, holds_back, params_are, typed_back}
@@ -67,8 +68,14 @@ module _ (m : Module) (input : Input) (whole : Sections) (f g : Frame m input wh
   waits : last.waiting ≡ call ∷ f.waiting
   waits = at.state_is.waiting ∙ called.waiting
 
-  back : (ids : Ids) → Keeps state.ids ids → Ready id f.own ids → (v ≡ nothing) ⊎ Stands ids id v → IsBack m input whole f g p around first id state later s v t (end ids)
-  back ids keeps ready given = record {
+  shorter : (ids : Ids) → suc (room (end ids)) ≤ room last
+  shorter ids =
+      let here : length last.rest ≡ suc (length at.rest) = ap length at.is in
+      let waiting : room_behind last.waiting ≡ length rest + room_behind f.waiting = ap room_behind waits in
+      omega (arith, here, waiting)
+
+  back : (ids : Ids) → Keeps state.ids ids → Ready id f.own ids → (v ≡ nothing) ⊎ Stands ids id v → step m input last ≡ Going (end ids) → IsBack m input whole f g p around first id state later s v t (end ids)
+  back ids keeps ready given one = record {
     good = record {
       inside = inside;
       rest = refl;
@@ -79,6 +86,7 @@ module _ (m : Module) (input : Input) (whole : Sections) (f g : Frame m input wh
       seated = good.seated;
       holds = holds_back m input whole f g p around inner first id b rest s t state last alike good called at.state_is.holds at.state_is.typed rest state.body ids state.own f.waiting;
       typed = typed_back m input whole f g p around inner first id b rest s t state last alike good called at.state_is.holds at.state_is.typed;
+      reached = reached_by m input at.state_is.reached (stretch_one m input 0 last (Going (end ids)) (shorter ids) one);
     };
     ids = keeps;
     given = given;
@@ -86,12 +94,6 @@ module _ (m : Module) (input : Input) (whole : Sections) (f g : Frame m input wh
     others = others_stay m input whole f g p around inner first id b rest s t state last alike good called at.state_is.holds at.state_is.typed;
     params = params_are m input whole f g p around inner first id b rest s t state last alike good called at.state_is.holds at.state_is.typed;
   }
-
-  shorter : (ids : Ids) → suc (room (end ids)) ≤ room last
-  shorter ids =
-      let here : length last.rest ≡ suc (length at.rest) = ap length at.is in
-      let waiting : room_behind last.waiting ≡ length rest + room_behind f.waiting = ap room_behind waits in
-      omega (arith, here, waiting)
 
   reached : (ids : Ids) (units : ℕ) → step m input last ≡ Going (end ids) → IsBack m input whole f g p around first id state later s v t (end ids) → Reaches m input 0 units last (IsBack m input whole f g p around first id state later s v t) units
   reached ids units is back = record { later = end ids; is = back; less = omega arith; stretch = stretch_one m input units last (Going (end ids)) (shorter ids) is }
@@ -107,12 +109,12 @@ module _ (m : Module) (input : Input) (whole : Sections) (f g : Frame m input wh
       by (inl e) =
           let one : step m input last ≡ Going (end state.ids) =
           ap (λ l. step m input (record last { rest = l })) (at.is ∙ ap (λ i. record { at = at.place; instr = i } ∷ at.rest) e.0) ∙ ap (λ w. returning m here w without_value) waits in
-          reached state.ids units one (back state.ids (keeps_same state.ids) (record { lasting = good.ready.lasting; later = λ other less. good.ready.later other (omega (arith, less)) }) (inl e.1))
+          reached state.ids units one (back state.ids (keeps_same state.ids) (record { lasting = good.ready.lasting; later = λ other less. good.ready.later other (omega (arith, less)) }) (inl e.1) one)
       by (inr e) =
           let both = give_ready state.ids f.own b.sections.last (Whole v) none good.ready in
           let one : step m input last ≡ Going (end (give state.ids id (Whole v))) =
           ap (λ l. step m input (record last { rest = l })) (at.is ∙ ap (λ i. record { at = at.place; instr = i } ∷ at.rest) e.1) ∙ ap (λ o. on_whole o (λ u. returning m here last.waiting (with_value u))) e.2 ∙ ap (λ w. returning m here w (with_value v)) waits in
-          reached (give state.ids id (Whole v)) units one (back (give state.ids id (Whole v)) both.0 both.1 (inr (give_same state.ids id (Whole v))))
+          reached (give state.ids id (Whole v)) units one (back (give state.ids id (Whole v)) both.0 both.1 (inr (give_same state.ids id (Whole v))) one)
 
 pub returned_back : (m : Module) (input : Input) (whole : Sections) (f g : Frame m input whole) (p : Program) (around inner : Around) (b later : Flow) (operands : List ℕ) (type id first : ℕ) (s t : shader.State) (state last : State) (v : Value) (units : ℕ) → AreAlike around inner → Good m input whole f p around b s state
     → giving_here op.FUNCTION_CALL operands type b ≡ Gives id later → Inside m input whole f later.sections → f.own id ≡ None → IsCalled m input whole f g first id state (coming m input whole f later.sections) → AtReturn m input whole g p inner v t last

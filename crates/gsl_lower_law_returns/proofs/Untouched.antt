@@ -13,8 +13,8 @@ use Rattle.gsl_valid.specs.Placed.{Placed}
 use Rattle.gsl_machine.specs.State.{Ids, State, Waiting}
 use Rattle.gsl_spv.specs.Sections.{Sections}
 use Rattle.gsl_lower_holders.specs.Flow.{Flow}
-use Rattle.gsl_lower_follows.specs.Frames.{AreTyped, Frame, Global, Good, HasType, Holder, Holds, Interface, Local, Name, Param, Stage, type_named, type_of_global, type_of_interface, value_if, value_of}
-use Rattle.gsl_lower_follows.proofs.Holding.{holder_number}
+use Rattle.gsl_lower_law_stmt.specs.OfFollows.{AreTyped, Frame, Global, Good, HasType, Holder, Holds, Interface, Local, Name, Param, Stage, type_named, type_of_global, type_of_interface, value_if, value_of}
+use Rattle.gsl_lower_law_stmt.proofs.OfFollows.{holder_number}
 use Rattle.gsl_lower_law_returns.specs.Calling.{AreAlike, IsCalled, back_with, is_own, is_shared}
 
 -- ---- the first items of a list

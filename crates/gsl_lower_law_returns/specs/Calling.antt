@@ -13,7 +13,7 @@ use Rattle.gsl_machine.specs.State.{State, Waiting}
 use Rattle.gsl_spv.specs.Sections.{Sections}
 use Rattle.gsl_lower_law.specs.Values.{Keeps, Stands}
 use Rattle.gsl_lower_holders.specs.Flow.{Flow}
-use Rattle.gsl_lower_follows.specs.Frames.{Frame, Global, Good, Holder, Interface, Kept, Local, Name, Param, Stage}
+use Rattle.gsl_lower_law_stmt.specs.OfFollows.{Frame, Global, Good, Holder, Interface, Kept, Local, Name, Param, Stage}
 
 -- whether a name is that of a variable of the module, which all functions know
 abbrev pub is_shared : Name → Bool

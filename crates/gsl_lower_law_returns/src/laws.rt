@@ -11,8 +11,8 @@ ghost use Rattle.gsl_meaning.specs.State as shader;
 ghost use Rattle.gsl_machine.specs.State.{State};
 ghost use Rattle.gsl_spv.specs.Sections.{Sections};
 ghost use Rattle.gsl_lower_holders.specs.Flow.{Flow, Gives, giving_here};
-ghost use Rattle.gsl_lower_follows.specs.Following.{Reaches};
-ghost use Rattle.gsl_lower_follows.specs.Frames.{Frame, Good, Inside, coming};
+ghost use Rattle.gsl_lower_law_stmt.specs.OfFollows.{Reaches};
+ghost use Rattle.gsl_lower_law_stmt.specs.OfFollows.{Frame, Good, Inside, coming};
 ghost use Rattle.gsl_lower_law_stmt.specs.Doing.{AtReturn};
 ghost use Rattle.gsl_lower_law_returns.specs.Calling.{AreAlike, IsBack, IsCalled};
 

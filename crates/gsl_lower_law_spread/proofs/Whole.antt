@@ -48,7 +48,7 @@ use Rattle.gsl_lower_law_blocks.proofs.Lying.{LieSeen, leaves_lie}
 use Rattle.gsl_lower_law_blocks.proofs.Placed.{leaves_seen as filled_seen}
 use Rattle.gsl_lower_law_layouts.proofs.Laid.{leaves_laid}
 use Rattle.gsl_lower_law_members.specs.Parts.{laid_as}
-use Rattle.gsl_lower_follows.specs.Frames.{Frame, Good, coming}
+use Rattle.gsl_lower_follows.specs.Frames.{Agrees, Frame, Good, coming}
 use Rattle.gsl_lower_follows.specs.Giving.{After, Does, none_waits}
 use Rattle.gsl_lower_follows.proofs.Doing.{does_lift}
 use Rattle.gsl_lower_law_written.specs.OfLawStored.{HasBuffer, IsBound, KnowsBuffers, with_bytes_of, with_value}
@@ -185,7 +185,7 @@ module _ (m : Module) (input : Input) (sections : Sections) (f : Frame m input s
 
   -- ---- both
 
-  then_good : Good m input sections f p around b (with_value s x.begins.number (words_in p.structs block fresh)) (with_bytes_of m state x.begins.id fresh)
+  then_good : Agrees m input sections f p around (with_value s x.begins.number (words_in p.structs block fresh)) (with_bytes_of m state x.begins.id fresh)
   then_good = renewed m input sections f p around knows x.begins.number x.begins.id block x.begins.knows.known x.begins.knows.seat own b s state good buffer.given fresh buffer.has then_told.small then_told.told
 
   pub leaves_written : (units : ℕ) → Does m input sections f p 0 units state (λ done later one u last. After m input sections f p around false b state later u last) none_waits (Got (tt {0}) (means_stored a v s) units) (lift (store_block p.structs t x.begins.id x.begins.class r.path value) b)
@@ -205,6 +205,7 @@ module _ (m : Module) (input : Input) (sections : Sections) (f : Frame m input s
           seated = good.seated;
           holds = (let h = then_good.holds in record { values = h.values; blocks = h.blocks; buffers = h.buffers; choices = h.choices; count = h.count; outside = h.outside });
           typed = then_good.typed;
+          reached = q.reached;
         };
         held = record { same = λ holder n less at. refl };
         ids = λ e. q.keeps;

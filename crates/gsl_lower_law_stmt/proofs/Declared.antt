@@ -18,11 +18,11 @@ use Rattle.gsl_machine.specs.State.{InVariable, Points, State}
 use Rattle.gsl_spv.specs.Sections.{Sections}
 use Rattle.gsl_lower_values.specs.Building.{putting}
 use Rattle.gsl_lower_law.specs.Values.{Stands}
-use Rattle.gsl_lower_law_places.proofs.Stored.{store_acts, stored_left}
+use Rattle.gsl_lower_follows.proofs.OfLawPlaces.{store_acts, stored_left}
 use Rattle.gsl_lower_holders.specs.Flow.{Emit, Flow, Gives, Lacks, Lowered, behind, id_at, putting_here, ◌>>=◌}
 use Rattle.gsl_lower_stmt.specs.Parts.{begins_with}
 use Rattle.gsl_lower_stmt.specs.declared.exits.Exits.{Exits}
-use Rattle.gsl_lower_follows.specs.Frames.{Frame, Good, HasType, Holder, Inside, Local, Name, id_of, value_of}
+use Rattle.gsl_lower_follows.specs.Frames.{Frame, Good, HasType, Holder, Local, Name, value_of}
 use Rattle.gsl_lower_follows.specs.Frames as name
 use Rattle.gsl_lower_follows.specs.Giving.{Adds, Does, GivesValue, GrownTo, HasGiven, none_waits}
 use Rattle.gsl_lower_follows.proofs.Behind.{follows_then}
@@ -30,7 +30,7 @@ use Rattle.gsl_lower_follows.proofs.Doing.{does_lift}
 use Rattle.gsl_lower_follows.proofs.Growing.{adds_then}
 use Rattle.gsl_lower_follows.proofs.Holding.{seat_known, stores_whole}
 use Rattle.gsl_lower_follows.proofs.Placing.{inside_between}
-use Rattle.gsl_lower_law_expr.proofs.Operands.{given_value}
+use Rattle.gsl_lower_law_names.proofs.OfLawExpr.{given_value}
 use Rattle.gsl_lower_law_names.specs.Named.{IsNamed}
 use Rattle.gsl_lower_law_names.proofs.Storing.{IsSet, Other, each_name, holds_set, typed_set}
 use Rattle.gsl_lower_law_stmt.specs.Doing.{DoesHere, DoesStatement, IsDone, declared_means}
@@ -86,6 +86,7 @@ module _ (m : Module) (input : Input) (sections : Sections) (f : Frame m input s
           seated = good.seated;
           holds = (let h = holds_set m input sections f p around Local number seated.0 v s (now v s) state others refl refl seated.1 good.holds in record { values = h.values; blocks = h.blocks; buffers = h.buffers; choices = h.choices; count = h.count; outside = h.outside });
           typed = typed_set m input sections f p around Local number t v s (now v s) refl refl others known.typed typed good.typed;
+          reached = l.reached;
         },
       ))
     where

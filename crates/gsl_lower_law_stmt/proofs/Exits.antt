@@ -34,6 +34,7 @@ use Rattle.gsl_lower_follows.specs.Giving.{Adds, Does, GivesValue, GrownTo, HasG
 use Rattle.gsl_lower_follows.proofs.Behind.{follows_then, reaches_here}
 use Rattle.gsl_lower_follows.proofs.Growing.{adds_given, adds_then}
 use Rattle.gsl_lower_follows.proofs.Placing.{coming_before, inside_between}
+use Rattle.gsl_lower_follows.proofs.Reached.{reached_then}
 use Rattle.gsl_lower_follows.proofs.Stretches.{stretch_of}
 use Rattle.gsl_lower_law_stmt.specs.Doing.{AtLabel, AtReturn, DoesHere, DoesStatement, IsDone, IsResult, StandsBehind, Within}
 
@@ -43,7 +44,7 @@ adds_putting code operands b = record { extends = extends_put code operands b.se
 
 module _ (m : Module) (input : Input) (sections : Sections) (f : Frame m input sections) (p : Program) (around : Around) where
   pub within_good : (b : Flow) (s : shader.State) (state : State) → Good m input sections f p around b s state → Within m input sections f p around s state
-  within_good b s state good = record { within = good.within; own = good.own; waiting = good.waiting; holds = good.holds; typed = good.typed }
+  within_good b s state good = record { within = good.within; own = good.own; waiting = good.waiting; holds = good.holds; typed = good.typed; reached = good.reached }
 
   -- ---- an expression whose value is not used
 
@@ -124,7 +125,7 @@ module _ (m : Module) (input : Input) (sections : Sections) (f : Frame m input s
   unfolding form_of
   leads label b s units state good inside stands = record {
     later = last;
-    is = record { place = stands.place; found = stands.found; ids = refl; state_is = record { within = good.within; own = good.own; waiting = good.waiting; holds = (let h = good.holds in record { values = h.values; blocks = h.blocks; buffers = h.buffers; choices = h.choices; count = h.count; outside = h.outside }); typed = good.typed } };
+    is = record { place = stands.place; found = stands.found; ids = refl; state_is = record { within = good.within; own = good.own; waiting = good.waiting; holds = (let h = good.holds in record { values = h.values; blocks = h.blocks; buffers = h.buffers; choices = h.choices; count = h.count; outside = h.outside }); typed = good.typed; reached = reached_then m input 2 state last good.reached runs } };
     less = omega arith;
     stretch = stretch_of m input 2 units state (Going last) (let ahead = stands.ahead in omega (arith, long, ahead)) runs;
   }

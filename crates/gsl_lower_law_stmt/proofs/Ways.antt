@@ -94,13 +94,15 @@ module _ (m : Module) (input : Input) (sections : Sections) (f : Frame m input s
   to_end : (end : ℕ) (before : Sections) (b from : Flow) (s : shader.State) (units : ℕ) (state : State) → Good m input sections f p around b s state → Grown b (block_at end before from) → Extends (put op.BRANCH (end ∷ []) b.sections) before
       → Inside m input sections f before → Inside m input sections f (put op.LABEL (end ∷ []) before) → Reaches m input 0 units state (Good m input sections f p around (block_at end before from) s) units
   unfolding form_of
-  to_end end before b from s units state good grown extends inside_before inside = record {
-    later = begun_at m input sections f state (put op.LABEL (end ∷ []) before);
-    is = good_begun m input sections f p around b (block_at end before from) s state good grown inside;
-    less = omega arith;
-    stretch = jumps m input sections f (instr op.BRANCH (end ∷ [])) end b.sections before state units good.inside inside_before inside good.rest good.within good.own extends.functions.more
-        (extends.functions.is ∙ append_assoc b.sections.functions (instr op.BRANCH (end ∷ []) ∷ []) extends.functions.more) (λ at more. refl);
-  }
+  to_end end before b from s units state good grown extends inside_before inside =
+      let led = jumps m input sections f (instr op.BRANCH (end ∷ [])) end b.sections before state units good.inside inside_before inside good.rest good.within good.own extends.functions.more
+      (extends.functions.is ∙ append_assoc b.sections.functions (instr op.BRANCH (end ∷ []) ∷ []) extends.functions.more) (λ at more. refl) in
+      record {
+        later = begun_at m input sections f state (put op.LABEL (end ∷ []) before);
+        is = good_begun m input sections f p around b (block_at end before from) s state good grown inside led;
+        less = omega arith;
+        stretch = led;
+      }
 
   -- A way is done, and where it comes to its end, to where both meet.
   way_done : (left : Bool) (exits : Exits) (end : ℕ) (before : Sections) (b from : Flow) (units : ℕ) (state : State) (ran : Ran statement.Flow) → Grown b (block_at end before from) → Extends (sealed left end b.sections) before
@@ -209,17 +211,19 @@ module _ (m : Module) (input : Input) (sections : Sections) (f : Frame m input s
 
           by : (is_zero : Bool) → (word_in v == 0) ≡ is_zero → Follows m input p 0 units state (IsDone m input sections f p around false exits tt (b8_of b7)) (none_waits {A = Unit {0}} tt (b8_of b7)) (chosen_run is_zero s units)
           by false which =
+              let led = chooses m input sections f b3.sections e i t n v t (chosen_at i t n e b3.sections) state units (ap (λ w. if w then n else t) which) stands inside3 inside4 (extends_same _) rest_is good.within good.own in
               follows_behind m input p 0 0 units units state (begun_at m input sections f state b4.sections) (IsDone m input sections f p around false exits tt (b8_of b7)) (none_waits {A = Unit {0}} tt (b8_of b7)) (x s units)
-              (chooses m input sections f b3.sections e i t n v t (chosen_at i t n e b3.sections) state units (ap (λ w. if w then n else t) which) stands inside3 inside4 (extends_same _) rest_is good.within good.own) (omega arith)
+              led (omega arith)
               (way_done first_leaves exits e (sealed other_leaves e b7.sections) b5 b7 units (begun_at m input sections f state b4.sections) (x s units) grown58
               (extends_then (extends_put op.LABEL (n ∷ []) (sealed first_leaves e b5.sections)) (extends_then grown67.extends (extends_sealed other_leaves e b7.sections))) inside_before inside8
-              (do_first (good_begun m input sections f p around b1 b4 s state good (grown_then grown3 grown34) inside4) inside5 (lead_before m input sections f b5.sections (b8_of b7).sections exits inside5 inside8 extends58 lead8)))
+              (do_first (good_begun m input sections f p around b1 b4 s state good (grown_then grown3 grown34) inside4 led) inside5 (lead_before m input sections f b5.sections (b8_of b7).sections exits inside5 inside8 extends58 lead8)))
           by true which =
+              let led = chooses m input sections f b3.sections e i t n v n (sealed first_leaves e b5.sections) state units (ap (λ w. if w then n else t) which) stands inside3 inside6
+              (extends_then (extends_put op.LABEL (t ∷ []) (chosen_at i t n e b3.sections)) (extends_then grown45.extends (extends_sealed first_leaves e b5.sections))) rest_is good.within good.own in
               follows_behind m input p 0 0 units units state (begun_at m input sections f state (b6_of b5).sections) (IsDone m input sections f p around false exits tt (b8_of b7)) (none_waits {A = Unit {0}} tt (b8_of b7)) (y s units)
-              (chooses m input sections f b3.sections e i t n v n (sealed first_leaves e b5.sections) state units (ap (λ w. if w then n else t) which) stands inside3 inside6
-              (extends_then (extends_put op.LABEL (t ∷ []) (chosen_at i t n e b3.sections)) (extends_then grown45.extends (extends_sealed first_leaves e b5.sections))) rest_is good.within good.own) (omega arith)
+              led (omega arith)
               (way_done other_leaves exits e (sealed other_leaves e b7.sections) b7 b7 units (begun_at m input sections f state (b6_of b5).sections) (y s units) grown78 (extends_same _) inside_before inside8
-              (do_other (good_begun m input sections f p around b1 (b6_of b5) s state good grown16 inside6) inside7 (lead_before m input sections f b7.sections (b8_of b7).sections exits inside7 inside8 extends78 lead8)))
+              (do_other (good_begun m input sections f p around b1 (b6_of b5) s state good grown16 inside6 led) inside7 (lead_before m input sections f b7.sections (b8_of b7).sections exits inside7 inside8 extends78 lead8)))
 
       both_ways : (is_zero : Bool) → (word_in v == 0) ≡ is_zero → Result is_zero (ways (begin_else (record { other = n; end = e }) first_leaves) (end_if (record { other = n; end = e }) other_leaves) exits b4)
       both_ways is_zero which = by (first exits b4) (does_first.adds exits b4) (λ good4. does_first.does exits b4 s units (begun_at m input sections f state b4.sections) good4)

@@ -30,6 +30,7 @@ use Rattle.gsl_lower_stmt.specs.declared.exits.Exits.{Exits}
 use Rattle.gsl_lower_follows.specs.Following.{Follows}
 use Rattle.gsl_lower_follows.specs.Frames.{AreTyped, Frame, Good, Holds, Inside, body, coming}
 use Rattle.gsl_lower_follows.specs.Giving.{Adds, none_waits}
+use Rattle.gsl_lower_follows.specs.Reached.{Reached}
 
 -- what an expression whose value is not used is lowered to, and what it does
 abbrev pub evaluated : Emit ℕ → Exits → Emit (Unit {0})
@@ -75,13 +76,14 @@ module _ (m : Module) (input : Input) (sections : Sections) (f : Frame m input s
     pub continued : ForLabel (StandsBehind b) exits.continue_to
 
   module _ (p : Program) (around : Around) where
-    -- What is so wherever control is in the function: its state is the shader's.
+    -- What is so wherever control is in the function: its state is the shader's, and a run of the module comes to it.
     pub record Within (s : shader.State) (state : State) : Type 0 where
       pub within : state.body ≡ body m input sections f
       pub own : state.own ≡ f.own
       pub waiting : state.waiting ≡ f.waiting
       pub holds : Holds m input sections f p around s state
       pub typed : AreTyped m input sections f p around s
+      pub reached : Reached m input state
 
     -- Control is behind a label.
     pub record AtLabel (label : ℕ) (s : shader.State) (state : State) : Type 0 where

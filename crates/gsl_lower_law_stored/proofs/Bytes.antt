@@ -5,7 +5,7 @@ use Rattle.std.proofs.lemmas.Bool.{and_parts, eqb-true}
 use Rattle.gsl_base.specs.declared.input.Buffer.{Buffer}
 use Rattle.gsl_tree.specs.declared.unit.Block.{Block}
 use Rattle.gsl_views.specs.Buffers.{bytes_at, is_at, with_bytes}
-use Rattle.gsl_lower_law_bytes.specs.Apart.{AreApart, IsApart, StandsAlone}
+use Rattle.gsl_lower_law_members.specs.OfLawBytes.{AreApart, IsApart, StandsAlone}
 
 module _ (set binding : ℕ) (fresh : List ℕ) where
   pub here_again : (old : List ℕ) (buffers : List Buffer) → bytes_at buffers set binding ≡ Some old → bytes_at (with_bytes buffers set binding fresh) set binding ≡ Some fresh

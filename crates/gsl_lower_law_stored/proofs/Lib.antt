@@ -1,3 +1,4 @@
 pub mod Bytes
 pub mod Renewed
 pub mod Put
+pub mod OfLawMembers

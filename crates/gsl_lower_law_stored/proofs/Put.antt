@@ -21,10 +21,10 @@ use Rattle.gsl_machine.specs.Memory.{bytes_of}
 use Rattle.gsl_machine.specs.State.{State}
 use Rattle.gsl_spv.specs.Sections.{Sections}
 use Rattle.gsl_lower_holders.specs.Flow.{Flow}
-use Rattle.gsl_lower_follows.specs.Frames.{AreBytes, Frame, Good}
-use Rattle.gsl_lower_law_bytes.proofs.Buffers.{value_bytes}
-use Rattle.gsl_lower_law_bytes.proofs.Parts.{AreTold, PartsTold, parts_told}
-use Rattle.gsl_lower_law_bytes.proofs.Told.{bytes_told, small_words}
+use Rattle.gsl_lower_follows.specs.Frames.{Agrees, AreBytes, Frame, Good}
+use Rattle.gsl_lower_law_members.proofs.OfLawBytes.{value_bytes}
+use Rattle.gsl_lower_law_members.proofs.OfLawBytes.{AreTold, PartsTold, parts_told}
+use Rattle.gsl_lower_law_members.proofs.OfLawBytes.{bytes_told, small_words}
 use Rattle.gsl_lower_law_components.specs.Putting.{put_components}
 use Rattle.gsl_lower_law_members.specs.Sizes.{size_of}
 use Rattle.gsl_lower_law_members.proofs.Sized.{size_is}
@@ -80,9 +80,9 @@ module _ (m : Module) (input : Input) (whole : Sections) (f : Frame m input whol
     room = subst (λ n. need l ≤ n) as_given buffer.room
 
     pub words_stored : (words : List ℕ) → length words ≡ components → AllByRecursion (λ word. word < 2 ^ 32) words
-        → Good m input whole f p around b (with_value s number (with_value_at (words_in p.structs block bytes) path (of_components words))) (with_bytes_of m state id (put_words offset words bytes))
+        → Agrees m input whole f p around (with_value s number (with_value_at (words_in p.structs block bytes) path (of_components words))) (with_bytes_of m state id (put_words offset words bytes))
     words_stored words many below =
-        subst (λ v. Good m input whole f p around b (with_value s number v) (with_bytes_of m state id (put_words offset words bytes))) seen_is
+        subst (λ v. Agrees m input whole f p around (with_value s number v) (with_bytes_of m state id (put_words offset words bytes))) seen_is
         (renewed m input whole f p around knows number id block known seat stored b s state good given (put_words offset words bytes) buffer.has (small_words offset words bytes small)
         (ap (λ v. put_value l 0 v given) seen_is ∙ bytes_told l components offset path words given bytes (knows.laid number block known) room as_given small told leads_in some many below))
       where
@@ -90,10 +90,10 @@ module _ (m : Module) (input : Input) (whole : Sections) (f : Frame m input whol
         seen_is = all_seen l 0 offset components path (knows.laid number block known) words bytes (omega (arith, room)) leads_in some many below
 
     pub components_stored : (positions words : List ℕ) → AllByRecursion (λ position. position < components) positions → AllByRecursion (λ word. word < 2 ^ 32) words
-        → Good m input whole f p around b (with_value s number (with_value_at (words_in p.structs block bytes) path (of_components (set_each positions words (map (λ k. word_at bytes (offset + 4 * k)) (range_with_len 0 components))))))
+        → Agrees m input whole f p around (with_value s number (with_value_at (words_in p.structs block bytes) path (of_components (set_each positions words (map (λ k. word_at bytes (offset + 4 * k)) (range_with_len 0 components))))))
         (with_bytes_of m state id (put_components offset positions words bytes))
     components_stored positions words less below =
-        subst (λ v. Good m input whole f p around b (with_value s number v) (with_bytes_of m state id (put_components offset positions words bytes))) parts.is_seen
+        subst (λ v. Agrees m input whole f p around (with_value s number v) (with_bytes_of m state id (put_components offset positions words bytes))) parts.is_seen
         (renewed m input whole f p around knows number id block known seat stored b s state good given (put_components offset positions words bytes) buffer.has parts.later.small parts.later.told)
       where
         before : AreTold l components offset path given (knows.laid number block known) some bytes

@@ -20,11 +20,11 @@ use Rattle.gsl_machine.specs.Memory.{bytes_if, bytes_of, with_bytes_if}
 use Rattle.gsl_machine.specs.State.{State}
 use Rattle.gsl_spv.specs.Sections.{Sections}
 use Rattle.gsl_lower_holders.specs.Flow.{Flow}
-use Rattle.gsl_lower_follows.specs.Frames.{AreBytes, Frame, Global, Good, HasType, Holder, Interface, IsSeen, Local, Name, Param, Stage, type_named, value_of}
+use Rattle.gsl_lower_follows.specs.Frames.{Agrees, AreBytes, Frame, Global, Good, HasType, Holder, Interface, IsSeen, Local, Name, Param, Stage, type_named, value_of}
 use Rattle.gsl_lower_follows.proofs.Holding.{set_elsewhere, set_there}
 use Rattle.gsl_lower_follows.specs.Sizes.{IsShort}
-use Rattle.gsl_lower_law_bytes.proofs.Buffers.{value_set}
-use Rattle.gsl_lower_law_bytes.proofs.Sized.{value_length}
+use Rattle.gsl_lower_law_members.proofs.OfLawBytes.{value_set}
+use Rattle.gsl_lower_law_members.proofs.OfLawBytes.{value_length}
 use Rattle.gsl_lower_law_members.proofs.Sized.{few_at}
 use Rattle.gsl_lower_law_places.specs.Storing.{buffers_with}
 use Rattle.gsl_lower_law_stored.specs.Buffers.{HasBuffer, IsBound, KnowsBuffers, with_bytes_of, with_value}
@@ -142,15 +142,8 @@ module _ (m : Module) (input : Input) (whole : Sections) (f : Frame m input whol
         ∙ ap (with_bytes (put_blocks p.structs p.blocks s.blocks input.buffers) block.set block.binding) (sym told)
         ∙ sym (value_set p.structs block.set block.binding block (stored, refl, refl) given p.blocks number s.blocks (words_in p.structs block old.0) value input.buffers buffer.alone buffer.only has old.2)
 
-    pub renewed : Good m input whole f p around b then_s then_state
+    pub renewed : Agrees m input whole f p around then_s then_state
     renewed = record {
-      inside = good.inside;
-      rest = good.rest;
-      within = good.within;
-      own = good.own;
-      waiting = good.waiting;
-      ready = good.ready;
-      seated = good.seated;
       holds = record {
         values = λ name v is. good.holds.values name v (sym (values_same f.stages s then_s.blocks name) ∙ is);
         blocks = blocks_then;

@@ -16,7 +16,7 @@ use Rattle.gsl_machine.specs.Memory.{is_push}
 use Rattle.gsl_machine.specs.State.{State}
 use Rattle.gsl_spv.specs.Sections.{Sections}
 use Rattle.gsl_lower_follows.specs.Frames.{Frame}
-use Rattle.gsl_lower_law_bytes.specs.Apart.{IsOnly, StandsAlone}
+use Rattle.gsl_lower_law_members.specs.OfLawBytes.{IsOnly, StandsAlone}
 use Rattle.gsl_lower_law_places.specs.Storing.{buffers_with}
 
 -- The bytes that are given for a block are those of the one buffer at its set and binding, where no other block has its own; they are as many as

@@ -153,11 +153,12 @@ module _ (m : Module) (input : Input) (sections : Sections) (f : Frame m input s
             goes : (flow : statement.Flow) (t : shader.State) (left : ℕ) (mid : State) → IsDone m input sections f p around arm.leaves (in_switch end exits) tt done flow t mid → Follows m input p 0 left mid Is Waits (then_if_normal rest flow t left)
             goes Normal t left mid is =
                 let grown = open_end is.0 in
+                let led = jumps m input sections f (instr op.BRANCH (next ∷ [])) next done.sections more.from.sections mid left inside_done more.inside more.inside_label is.1.rest is.1.within is.1.own grown.functions.more
+                (grown.functions.is ∙ append_assoc done.sections.functions (instr op.BRANCH (next ∷ []) ∷ []) grown.functions.more) (λ at more. refl) in
                 follows_behind m input p 0 0 left left mid (begun_at m input sections f mid (put op.LABEL (next ∷ []) more.from.sections)) Is Waits (rest t left)
-                (jumps m input sections f (instr op.BRANCH (next ∷ [])) next done.sections more.from.sections mid left inside_done more.inside more.inside_label is.1.rest is.1.within is.1.own grown.functions.more
-                (grown.functions.is ∙ append_assoc done.sections.functions (instr op.BRANCH (next ∷ []) ∷ []) grown.functions.more) (λ at more. refl)) (omega arith)
+                led (omega arith)
                 (more.does t left (begun_at m input sections f mid (put op.LABEL (next ∷ []) more.from.sections))
-                (good_on m input sections f p around (block_at next more.from.sections more.from) t mid more.seated more.inside_label (within_good m input sections f p around done t mid is.1)))
+                (good_on m input sections f p around (block_at next more.from.sections more.from) t mid more.seated more.inside_label (within_good m input sections f p around done t mid is.1) led))
             goes Broke t left mid is = reaches_here m input left mid (Is Broke t) is
             goes Continued t left mid is = reaches_here m input left mid (Is Continued t) is
             goes (Returned v) t left mid is = reaches_here m input left mid (Is (Returned v) t) is

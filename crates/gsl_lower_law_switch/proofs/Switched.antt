@@ -264,10 +264,11 @@ module _ (m : Module) (input : Input) (sections : Sections) (f : Frame m input s
           by l =
               let label = label_for (word_in v) (default_of (defaults_of arms) labels end) (targets (words_of arms) labels) in
               let entered = begun_at m input sections f state (put op.LABEL (label ∷ []) l.from.sections) in
+              let led = leads_to s units state v good stands label refl l.from.sections l.extends l.inside l.inside_label in
               follows_behind m input p 0 0 units units state entered Out Waits (shader_run.behind (statement.falling (arms_for (word_in v) means) s units) behind_switch)
-              (leads_to s units state v good stands label refl l.from.sections l.extends l.inside l.inside_label) (omega arith)
+              led (omega arith)
               (leaves_arms (statement.falling (arms_for (word_in v) means)) s units entered inside_last (seated_grown m input sections f before behind_it grown_later seated)
-              (l.does s units entered (good_on m input sections f p around (block_at label l.from.sections l.from) s state l.seated l.inside_label (within_good m input sections f p around before s state good))))
+              (l.does s units entered (good_on m input sections f p around (block_at label l.from.sections l.from) s state l.seated l.inside_label (within_good m input sections f p around before s state good) led)))
 
   -- ---- the whole `switch`
 

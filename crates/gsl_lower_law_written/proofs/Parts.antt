@@ -40,11 +40,11 @@ use Rattle.gsl_lower_law.proofs.Components.{components_of}
 use Rattle.gsl_lower_law_expr.proofs.Shapes.{value_shape}
 use Rattle.gsl_lower_law_components.specs.Putting.{put_components}
 use Rattle.gsl_lower_law_components.proofs.Parted.{blocks_stored}
-use Rattle.gsl_lower_law_members.specs.Sizes.{size_of}
-use Rattle.gsl_lower_law_members.proofs.Vectors.{vector_is}
+use Rattle.gsl_lower_law_stored.specs.OfLawMembers.{size_of}
+use Rattle.gsl_lower_law_stored.proofs.OfLawMembers.{vector_is}
 use Rattle.gsl_lower_law_places.specs.Storing.{AreStored, IsVectorType, buffers_with, goes_to, set_each}
 use Rattle.gsl_lower_law_places.proofs.Stored.{Nothing, stored_left}
-use Rattle.gsl_lower_follows.specs.Frames.{Frame, Good, HeldAs, coming}
+use Rattle.gsl_lower_follows.specs.Frames.{Agrees, Frame, Good, HeldAs, coming}
 use Rattle.gsl_lower_follows.specs.Giving.{After, Does, none_waits}
 use Rattle.gsl_lower_follows.proofs.Doing.{does_lift}
 use Rattle.gsl_lower_law_stored.specs.Buffers.{KnowsBuffers, with_bytes_of, with_value}
@@ -175,7 +175,7 @@ module _ (m : Module) (input : Input) (sections : Sections) (f : Frame m input s
   leads_run : Leads (size_of m input x.begins.id) (layout_of p.structs x.begins.block) 0 l.front (Leaf c.shape.1) x.begins.offset
   leads_run = subst (λ layout. Leads (size_of m input x.begins.id) (layout_of p.structs x.begins.block) 0 l.front layout x.begins.offset) (run m input sections f p around are start b s state r l good x c.shape of_type) x.begins.leads
 
-  then_good : Good m input sections f p around b (with_value s x.begins.number anew) (with_bytes_of m state x.begins.id now)
+  then_good : Agrees m input sections f p around (with_value s x.begins.number anew) (with_bytes_of m state x.begins.id now)
   then_good = components_stored m input sections f p around knows x.begins.number x.begins.id x.begins.block x.begins.knows.known x.begins.knows.seat own b s state good it (held m input sections f p around are start b s state r l good x).1 c.shape.1 x.begins.offset l.front leads_run (let z = many in omega (arith, z)) goes words
       (goes_below c.shape.1 c.word c.positions y.within once y.some) (lying_below x.begins.class x.begins.inside (c.shape.0, length c.positions) v of)
 
@@ -199,6 +199,7 @@ module _ (m : Module) (input : Input) (sections : Sections) (f : Frame m input s
           seated = good.seated;
           holds = (let h = then_good.holds in record { values = h.values; blocks = h.blocks; buffers = h.buffers; choices = h.choices; count = h.count; outside = h.outside });
           typed = then_good.typed;
+          reached = q.reached;
         };
         held = record { same = λ holder n less at. refl };
         ids = λ e. q.keeps;

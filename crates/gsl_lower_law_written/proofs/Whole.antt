@@ -34,11 +34,11 @@ use Rattle.gsl_lower_law.specs.Computing.{Acts, leaving}
 use Rattle.gsl_lower_law.specs.Operands.{converted_value}
 use Rattle.gsl_lower_law.specs.Values.{IsOf, Stands}
 use Rattle.gsl_lower_law_expr.proofs.Shapes.{value_shape}
-use Rattle.gsl_lower_law_members.specs.Sizes.{size_of}
+use Rattle.gsl_lower_law_stored.specs.OfLawMembers.{size_of}
 use Rattle.gsl_lower_law_places.specs.Storing.{buffers_with}
 use Rattle.gsl_lower_law_places.proofs.Blocks.{block_stores}
 use Rattle.gsl_lower_law_places.proofs.Stored.{Nothing, put_acts, stored_left}
-use Rattle.gsl_lower_follows.specs.Frames.{Frame, Good, HeldAs, coming}
+use Rattle.gsl_lower_follows.specs.Frames.{Agrees, Frame, Good, HeldAs, coming}
 use Rattle.gsl_lower_follows.specs.Giving.{After, Does, none_waits}
 use Rattle.gsl_lower_follows.proofs.Doing.{does_lift}
 use Rattle.gsl_lower_law_stored.specs.Buffers.{KnowsBuffers, with_bytes_of, with_value}
@@ -110,7 +110,7 @@ module _ (m : Module) (input : Input) (sections : Sections) (f : Frame m input s
   leads_run : Leads (size_of m input x.begins.id) (layout_of p.structs x.begins.block) 0 l.front (Leaf shape.1) x.begins.offset
   leads_run = subst (λ layout. Leads (size_of m input x.begins.id) (layout_of p.structs x.begins.block) 0 l.front layout x.begins.offset) (run m input sections f p around are start b s state r l good x shape of_type) x.begins.leads
 
-  then_good : Good m input sections f p around b (with_value s x.begins.number anew) (with_bytes_of m state x.begins.id (put_words x.begins.offset words it))
+  then_good : Agrees m input sections f p around (with_value s x.begins.number anew) (with_bytes_of m state x.begins.id (put_words x.begins.offset words it))
   then_good = words_stored m input sections f p around knows x.begins.number x.begins.id x.begins.block x.begins.knows.known x.begins.knows.seat own b s state good it (held m input sections f p around are start b s state r l good x).1 shape.1 x.begins.offset l.front leads_run some words
       (lying_many x.begins.class x.begins.inside shape v of) (lying_below x.begins.class x.begins.inside shape v of)
 
@@ -134,6 +134,7 @@ module _ (m : Module) (input : Input) (sections : Sections) (f : Frame m input s
           seated = good.seated;
           holds = (let h = then_good.holds in record { values = h.values; blocks = h.blocks; buffers = h.buffers; choices = h.choices; count = h.count; outside = h.outside });
           typed = then_good.typed;
+          reached = q.reached;
         };
         held = record { same = λ holder n less at. refl };
         ids = λ e. q.keeps;

@@ -48,7 +48,7 @@ use Rattle.gsl_lower_follows.proofs.Drawn.{after_drawn, choices_are, left_with}
 use Rattle.gsl_lower_follows.proofs.Fetching.{adds_type_id}
 use Rattle.gsl_lower_follows.proofs.Growing.{adds_lift, adds_then}
 use Rattle.gsl_lower_follows.proofs.Holding.{after_same, after_then, does_so}
-use Rattle.gsl_lower_law_names.specs.Named.{IsNamed}
+use Rattle.gsl_lower_law_stmt.specs.OfLawNames.{IsNamed}
 use Rattle.gsl_lower_law_stmt.specs.Doing.{DoesStatement, declared, declared_means}
 use Rattle.gsl_lower_law_stmt.proofs.Declared.{declared_does}
 use Rattle.gsl_lower_law_zeros.specs.Nulls.{KnowsZeros, Nulls}
@@ -124,7 +124,7 @@ module _ (m : Module) (input : Input) (whole : Sections) (f : Frame m input whol
           does_lift m input whole f p around units b s state (ZeroIs (zero_of shape)) (drawing state state.choices) (IsTyped t b state) none_waits tt s (type_of shape) good (shape_does shape state b.sections)
           (λ type later l inside extends. (
             subst (λ u. After m input whole f p around false b state (flow_of later b.place) u (record (leaving state (drawing state state.choices) l.ids) { rest = coming m input whole f later })) (ap (left_with s) good.holds.choices)
-                (after_drawn m input whole f p around b s state l.ids state.choices later (choices_are m input whole f p around b s state good) good inside l.ready l.keeps),
+                (after_drawn m input whole f p around b s state l.ids state.choices later (choices_are m input whole f p around b s state good) good inside l.ready l.keeps l.reached),
             l.is ∙ sym (zero_is p.structs t shape sound e),
           ))
 
@@ -139,7 +139,7 @@ module _ (m : Module) (input : Input) (whole : Sections) (f : Frame m input whol
       (λ id later l inside extends. record {
         given = inr (typed, l.is);
         after = subst (λ u. After m input whole f p around false b state (flow_of later b.place) u (record (leaving state (drawing state state.choices) l.ids) { rest = coming m input whole f later })) (ap (left_with s) good.holds.choices)
-            (after_drawn m input whole f p around b s state l.ids state.choices later (choices_are m input whole f p around b s state good) good inside l.ready l.keeps);
+            (after_drawn m input whole f p around b s state l.ids state.choices later (choices_are m input whole f p around b s state good) good inside l.ready l.keeps l.reached);
       })
 
   zeros_do : (t : Ty) → IsSound (length p.structs) t → is_value_of p.structs t (zero_value p.structs t) ≡ true → (b : Flow) (s : shader.State) (units : ℕ) (state : State) → Good m input whole f p around b s state → (shape_of t ≡ None → KnowsZeros m p.structs t f.place)

@@ -18,7 +18,7 @@ ghost use Rattle.gsl_lower_text.specs.Written.{Lasts, Written};
 ghost use Rattle.gsl_lower_follows.specs.Frames as name;
 ghost use Rattle.gsl_lower_follows.specs.Frames.{Frame};
 ghost use Rattle.gsl_lower_follows.specs.Giving.{GivesValue};
-ghost use Rattle.gsl_lower_law_names.specs.Named.{IsNamed};
+ghost use Rattle.gsl_lower_law_stmt.specs.OfLawNames.{IsNamed};
 ghost use Rattle.gsl_lower_law_stmt.specs.Doing.{DoesStatement, declared, declared_means};
 ghost use Rattle.gsl_lower_law_zeros.specs.Nulls.{KnowsZeros, Nulls};
 

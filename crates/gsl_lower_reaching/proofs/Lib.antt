@@ -5,3 +5,6 @@ pub mod Parts
 pub mod Blocks
 pub mod Places
 pub mod Seen
+pub mod OfLawMembers
+pub mod OfLawExpr
+pub mod OfLawNames

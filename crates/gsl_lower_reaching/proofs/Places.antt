@@ -43,8 +43,8 @@ use Rattle.gsl_lower_follows.proofs.Doing.{does_then}
 use Rattle.gsl_lower_follows.proofs.Fetching.{adds_type_id}
 use Rattle.gsl_lower_follows.proofs.Growing.{adds_given, adds_then}
 use Rattle.gsl_lower_follows.proofs.Holding.{Unchanged, after_same, after_then, does_type_id, seat_known}
-use Rattle.gsl_lower_law_expr.proofs.Operands.{after_less, given_value}
-use Rattle.gsl_lower_law_expr.proofs.Binary.{shape_is}
+use Rattle.gsl_lower_law_names.proofs.OfLawExpr.{after_less, given_value}
+use Rattle.gsl_lower_law_names.proofs.OfLawExpr.{shape_is}
 use Rattle.gsl_lower_law_members.specs.Parts.{laid_as}
 use Rattle.gsl_lower_law_members.specs.Sizes.{size_of}
 use Rattle.gsl_lower_law_members.proofs.Laid.{block_member_laid}

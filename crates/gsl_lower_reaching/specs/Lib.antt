@@ -1,3 +1,4 @@
 pub mod Trails
 pub mod Reaching
 pub mod Stepping
+pub mod OfLawMembers

@@ -12,3 +12,4 @@ pub mod Probing
 pub mod OfElements
 pub mod OfLawNames
 pub mod OfReaching
+pub mod OfLawBlocks

@@ -34,7 +34,7 @@ use Rattle.gsl_lower_law_places.proofs.Reading.{values_read, variables_read}
 use Rattle.gsl_lower_law_places.proofs.Variables.{value_on, variable_components}
 use Rattle.gsl_lower_law_picks.proofs.Along.{words_lead}
 use Rattle.gsl_lower_elements.proofs.OfLawExpr.{value_shape}
-use Rattle.gsl_lower_law_names.proofs.Reading.{outside_blocks, value_as_it_is}
+use Rattle.gsl_lower_elements.proofs.OfLawNames.{outside_blocks, value_as_it_is}
 use Rattle.gsl_lower_holders.specs.Flow as flow
 use Rattle.gsl_lower_holders.specs.Flow.{Flow, behind, find_type, giving_here, id_at, lift, type_by, type_id}
 use Rattle.gsl_lower_expr.specs.Parts.{read_block, read_by, read_composite, read_loose, read_own, reads}

@@ -61,7 +61,7 @@ module _ (m : Module) (input : Input) (sections : Sections) (f : Frame m input s
           subst (λ o. Does m input sections f p 0 units state (IsWritten m input sections f p around b state) none_waits (Got tt (stored a v s) units) (store_by p.structs t to value o b)) (sym shaped)
           (does_lift m input sections f p around units b s state Nothing (stored_left m input sections state _ state.buffers) (IsWritten m input sections f p around b state) none_waits tt (stored a v s) (stored_step shape to value) good
           (serving.stores b s state value v typed good keeps stands)
-          (λ done later q inside_later extends. after_stored m input sections f p around are loose t sound_t b s state r a l good x inside v typed q.ids later inside_later q.ready q.keeps));
+          (λ done later q inside_later extends. after_stored m input sections f p around are loose t sound_t b s state r a l good x inside v typed q.ids later inside_later q.ready q.keeps q.reached));
     }
 
   -- ---- in both

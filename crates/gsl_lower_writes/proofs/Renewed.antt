@@ -30,6 +30,7 @@ use Rattle.gsl_lower_reads.proofs.OfLawNames.{Other, holds_set, kept_set, typed_
 use Rattle.gsl_lower_holders.specs.Flow.{Flow, flow_of}
 use Rattle.gsl_lower_follows.specs.Frames.{Frame, Good, Inside, Name, coming}
 use Rattle.gsl_lower_follows.specs.Giving.{After}
+use Rattle.gsl_lower_follows.specs.Reached as machine
 use Rattle.gsl_lower_reads.specs.OfReaching.{AtVariable, Start}
 use Rattle.gsl_lower_reads.specs.OfReaching.{Chosen, IsInside, IsPicked, MayWrite, Trail}
 use Rattle.gsl_lower_reads.proofs.OfReaching.{has_part}
@@ -130,8 +131,9 @@ module _ (m : Module) (input : Input) (sections : Sections) (f : Frame m input s
 
       -- The state behind a store of it.
       pub after_stored : (ids : Ids) (later : Sections) → Inside m input sections f later → Ready later.last f.own ids → Keeps state.ids ids
+          → machine.Reached m input (record (leaving state (stored_left m input sections state (set state.variables x.number all) state.buffers) ids) { rest = coming m input sections f later })
           → After m input sections f p around false b state (flow_of later b.place) (stored a v s) (record (leaving state (stored_left m input sections state (set state.variables x.number all) state.buffers) ids) { rest = coming m input sections f later })
-      after_stored ids later inside_later ready keeps =
+      after_stored ids later inside_later ready keeps reached =
           let stay = others_stay x.name l.root all s x.begins in
           subst (λ u. After m input sections f p around false b state (flow_of later b.place) u (record (leaving state (stored_left m input sections state (set state.variables x.number all) state.buffers) ids) { rest = coming m input sections f later })) (sym stored_is)
           (record {
@@ -145,6 +147,7 @@ module _ (m : Module) (input : Input) (sections : Sections) (f : Frame m input s
               seated = good.seated;
               holds = (let h = holds_set m input sections f p around (λ k. x.name) 0 x.number all s (with_root l.root all s) state others stay.0 stay.1 x.seat good.holds in record { values = h.values; blocks = h.blocks; buffers = h.buffers; choices = h.choices; count = h.count; outside = h.outside });
               typed = typed_set m input sections f p around (λ k. x.name) 0 l.ty all s (with_root l.root all s) stay.0 stay.1 others x.typed all_typed good.typed;
+              reached = reached;
             };
             held = record { same = λ holder n less at. kept_set m input sections f p around b.place.used x.number x.name all state state.variables (no_holder x.name l.root x.begins) x.seat holder n at };
             ids = λ e. keeps;

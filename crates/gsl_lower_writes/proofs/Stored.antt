@@ -135,7 +135,7 @@ module _ (m : Module) (input : Input) (sections : Sections) (f : Frame m input s
         shape_stored : (shape : Shape) → shape_of t ≡ Some shape → Stored (lift (stored shape r value) b)
         shape_stored shape shaped =
             does_lift m input sections f p around units b s state Nothing (stored_left m input sections state (set state.variables x.number anew) state.buffers) (IsDone b state) none_waits tt (means_stored a v s) (stored shape r value) good (shape_acts shape shaped)
-            (λ done later q inside_later extends. after_stored m input sections f p around are loose t sound_t b s state r a l good x inside v typed q.ids later inside_later q.ready q.keeps)
+            (λ done later q inside_later extends. after_stored m input sections f p around are loose t sound_t b s state r a l good x inside v typed q.ids later inside_later q.ready q.keeps q.reached)
 
         -- ---- what is no scalar and no vector
 
@@ -156,7 +156,7 @@ module _ (m : Module) (input : Input) (sections : Sections) (f : Frame m input s
             does_lift m input sections f p around units b s state Nothing (stored_left m input sections state (set state.variables x.number anew) state.buffers) (IsDone b state) none_waits tt (means_stored a v s) (putting op.STORE (to ∷ value ∷ [])) good
             (store_acts m input sections to value (InVariable x.number l.words) v (set state.variables x.number anew) state.buffers state b.sections to_there stands
             (subst (λ o. Stores m input state (InVariable x.number l.words) v (Having (renewed place o v)) state.buffers) (sym w.none) (puts v)))
-            (λ done later q inside_later extends. after_stored m input sections f p around are loose t sound_t b s state r a l good x inside v typed q.ids later inside_later q.ready q.keeps)
+            (λ done later q inside_later extends. after_stored m input sections f p around are loose t sound_t b s state r a l good x inside v typed q.ids later inside_later q.ready q.keeps q.reached)
 
     module _ (b : Flow) (s : shader.State) (units : ℕ) (state : State) (r : Reached) (good : Good m input sections f p around b s state) (is : IsOwnTrail m input sections f p around false loose b state r l) (stands : Stands state.ids value v) where
       -- a pointer to it is there, and nothing has changed

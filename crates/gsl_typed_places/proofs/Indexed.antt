@@ -19,14 +19,16 @@ use Rattle.gsl_values.specs.declared.op.BinaryOp.{BinaryOp}
 use Rattle.gsl_values.specs.declared.value.Value.{Value}
 use Rattle.gsl_tree.specs.Around.{Around, stage_var_type}
 use Rattle.gsl_tree.specs.Expressions.{HasType, IsBinary, IsConst, IsExpr, IsNode, MayBeRead, element_kind, element_of, is_runtime_layer, is_value_layer, is_value_type, last_type}
-use Rattle.gsl_tree.specs.Paths.{read_parts}
+use Rattle.gsl_tree.specs.Paths.{in_block, in_block_by, kind_in, read_parts}
 use Rattle.gsl_tree.specs.Shapes.{Shape, of_shape, shape_kind, shape_of}
 use Rattle.gsl_tree.specs.Trees.{Throughout, ThroughoutAll, form_of, parts_of, type_of}
 use Rattle.gsl_tree.specs.Values.{is_value_of, zero_value}
 use Rattle.gsl_tree.specs.WellTyped.{AreWellTyped, IsInterface, IsPrototype, IsResult, IsStructDeclared, IsVariableType, Lists, around_body, is_member_kind}
 use Rattle.gsl_tree.specs.declared.expr.Expr.{Expr}
 use Rattle.gsl_tree.specs.declared.expr.ExprKind.{ExprKind}
+use Rattle.gsl_tree.specs.declared.expr.ExprKind.TheFolds.{fold-ExprKind, fold-roll-Expr, fold-roll-ExprKind, map-ExprKind}
 use Rattle.gsl_tree.specs.declared.expr.ExprKind.TheOpen.{ExprKind-F}
+use Rattle.gsl_tree.specs.declared.expr.ExprKind.TheViews.{out-Expr, roll-out-Expr, roll-out-ExprKind}
 use Rattle.gsl_tree.specs.declared.expr.StageVar.{StageVar}
 use Rattle.gsl_tree.specs.declared.expr.StageVar.TheVariants.{NumWorkGroups, WorkGroupId, LocalInvocationId, GlobalInvocationId, LocalInvocationIndex, VertexIndex, InstanceIndex}
 use Rattle.gsl_typed_law.proofs.Zeros.{declared_plain, zero_typed}
@@ -196,3 +198,26 @@ module _ (lists : Lists) (params : List (Direction × Ty)) (locals : List Ty) (t
       by (inl void) = absurd (void_elementless (type_of e) t void has)
       by (inr (inl plain)) = inl (zero_value lists.structs (type_of e), zero_typed lists.structs typed.structs (declared_plain lists.structs typed.declared) (type_of e) sound plain)
       by (inr (inr (one, held))) = inr one
+
+  -- what stands in a block has a type that is made of values, unless it is a runtime array
+  abbrev is_blocked : ExprKind-F ExprKind Expr → Bool
+  is_blocked form = in_block_by (map-ExprKind ExprKind Expr Bool Bool (fold-ExprKind Bool Bool in_block_by kind_in) in_block form)
+
+  blocked_is : (e : Expr) → in_block e ≡ is_blocked (form_of e)
+  blocked_is e =
+      ap in_block (sym (roll-out-Expr e)) ∙ fold-roll-Expr Bool Bool in_block_by kind_in (out-Expr e)
+      ∙ ap (fold-ExprKind Bool Bool in_block_by kind_in) (sym (roll-out-ExprKind (out-Expr e).kind)) ∙ fold-roll-ExprKind Bool Bool in_block_by kind_in (form_of e)
+
+  blocked_by : (form : ExprKind-F ExprKind Expr) (t : Ty) → HasType around form t → AllByRecursion IsSettled (parts_of form) → is_blocked form ≡ true → IsTrue (not (is_runtime_layer (out-Ty t))) → IsTrue (is_plain t)
+  blocked_by (ExprKind-F.BlockMember b n) t is all in_one read =
+      let held : Held t = subst Held is.2 (member_held lists params locals typed of_params of_locals (slice_get lists.blocks b) b n is.0 refl is.1) in
+      held_plain t held (held_value (out-Ty t) held read)
+  blocked_by (ExprKind-F.Member a n) t is all in_one read =
+      let struct = at_place (IsStructDeclared lists.structs) lists.structs is.0 is.1 typed.declared is.4 in
+      back is.6 (at_place (λ (m : Member). IsVariableType lists.structs m.ty) is.1.members n is.2 struct.types is.5).plain
+  blocked_by (ExprKind-F.Index a i) t is all in_one read = indexed_plain (form_of a) (type_of a) t all.0 is.0
+  blocked_by (ExprKind-F.Swizzle a lanes) t is all in_one read = back is.4 (shape_plain (is.0.0, lanes.count))
+  blocked_by _ t is all in_one read = absurd (false≢true in_one)
+
+  pub blocked_plain : (e : Expr) → IsExpr around e → in_block e ≡ true → is_runtime_layer (out-Ty (type_of e)) ≡ false → IsTrue (is_plain (type_of e))
+  blocked_plain _ (Throughout.whole e node parts) in_one read = blocked_by (form_of e) (type_of e) node.type (all_settled (parts_of (form_of e)) parts) (sym (blocked_is e) ∙ in_one) (ap not read)

@@ -3,4 +3,4 @@
 
 mod laws;
 
-pub use laws::{indexed_have_values, places_have_values};
+pub use laws::{indexed_have_values, parts_of_blocks_are_plain, places_have_values};

@@ -1,0 +1,6 @@
+pub mod Formed
+pub mod Types
+pub mod Loaded
+pub mod Gathered
+pub mod Outside
+pub mod Given

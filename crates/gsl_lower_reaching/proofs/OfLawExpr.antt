@@ -1,0 +1,2 @@
+-- Passed on for crates above.
+pub use Rattle.gsl_lower_law_names.proofs.OfLawExpr.{Always, always_converted, always_given, always_giving, always_then, always_type, behind_assoc, does_change, given_behind, value_shape}
