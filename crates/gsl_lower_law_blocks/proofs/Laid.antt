@@ -23,7 +23,7 @@ use Rattle.gsl_owed.specs.Types.{array_lies, has_size, is_number, lies, members_
 use Rattle.gsl_lower_law_places.specs.Leading.{HoldsValue, StraysFrom}
 use Rattle.gsl_lower_law_places.proofs.Blocks.{held_value}
 use Rattle.gsl_lower_law_places.proofs.Reading.{leads_on}
-use Rattle.gsl_lower_law_picks.proofs.Along.{block_strays, stray_behind, stray_on}
+use Rattle.gsl_lower_law_copies.proofs.OfLawPicks.{block_strays, stray_behind, stray_on}
 use Rattle.gsl_lower_law_copies.specs.Copying.{LeadsIn}
 
 -- ---- what decorations say

@@ -18,7 +18,7 @@ use Rattle.gsl_lower_law.specs.Operands.{converted_value}
 use Rattle.gsl_lower_law.specs.Values.{AreWords, IsOf}
 use Rattle.gsl_lower_law.proofs.Components.{components_of}
 use Rattle.gsl_lower_law_constructors.proofs.Shares.{words_in}
-use Rattle.gsl_lower_law_leaves.specs.Equal.{HasLeaves, leaf_in}
+use Rattle.gsl_lower_law_copies.specs.OfLawLeaves.{HasLeaves, leaf_in}
 use Rattle.gsl_lower_law_places.proofs.Each.{converted_of}
 use Rattle.gsl_lower_law_views.proofs.Stored.{all_seen}
 use Rattle.gsl_lower_law_copies.specs.Copying.{Place, numbers_of, put_leaves}

@@ -7,7 +7,7 @@ use Rattle.gsl_views.specs.Paths.{Leads}
 use Rattle.gsl_lower_places.specs.Reached.{stored_shape}
 use Rattle.gsl_lower_leaves.specs.declared.leaf.Leaf.{Leaf}
 use Rattle.gsl_lower_law.specs.Operands.{converted_value}
-use Rattle.gsl_lower_law_leaves.specs.Equal.{leaf_in}
+use Rattle.gsl_lower_law_copies.specs.OfLawLeaves.{leaf_in}
 use Rattle.gsl_lower_law_copies.specs.Copying.{Place, numbers_of}
 
 -- In so many bytes, the numbers of leaves lead from a layout to runs at the offsets of places, in their order.

@@ -20,7 +20,7 @@ ghost use Rattle.gsl_lower_places.specs.Reached.{is_block_class};
 ghost use Rattle.gsl_lower_places.specs.Reading.{number_in};
 ghost use Rattle.gsl_lower_places.specs.declared.reached.Part.TheVariants.{Fixed};
 ghost use Rattle.gsl_lower_leaves.specs.declared.leaf.Leaf.{Leaf};
-ghost use Rattle.gsl_lower_law_leaves.specs.Equal.{HasLeaves};
+ghost use Rattle.gsl_lower_law_copies.specs.OfLawLeaves.{HasLeaves};
 ghost use Rattle.gsl_lower_law_places.specs.Leading.{HoldsValue, StraysFrom};
 ghost use Rattle.gsl_lower_law_copies.specs.Copying.{LeadsIn, LieEach, Place, ShowEach, put_leaves};
 ghost use Rattle.gsl_lower_law_blocks.specs.Placing.{ArePlaced, with_leaves};

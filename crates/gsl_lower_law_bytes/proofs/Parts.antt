@@ -15,7 +15,7 @@ use Rattle.gsl_views.specs.Seen.{seen}
 use Rattle.gsl_views.proofs.Kept.{run_same}
 use Rattle.gsl_views.proofs.Words.{word_is}
 use Rattle.gsl_meaning.specs.Blocks.{put_value, value_of}
-use Rattle.gsl_lower_law_places.specs.Storing.{set_each}
+use Rattle.gsl_lower_law_components.specs.OfLawPlaces.{set_each}
 use Rattle.gsl_lower_law_components.specs.Putting.{put_components}
 use Rattle.gsl_lower_law_views.proofs.Stored.{all_seen, put_twice, run_changed}
 use Rattle.gsl_lower_law_bytes.proofs.Told.{AreSmall, bytes_told, small_words}

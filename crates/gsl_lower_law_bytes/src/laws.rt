@@ -16,7 +16,7 @@ ghost use Rattle.gsl_views.specs.Buffers.{bytes_at, put_words, with_bytes};
 ghost use Rattle.gsl_views.specs.Paths.{Leads};
 ghost use Rattle.gsl_views.specs.Seen.{seen};
 ghost use Rattle.gsl_meaning.specs.Blocks.{put_blocks, put_value, value_of};
-ghost use Rattle.gsl_lower_law_places.specs.Storing.{set_each};
+ghost use Rattle.gsl_lower_law_components.specs.OfLawPlaces.{set_each};
 ghost use Rattle.gsl_lower_law_components.specs.Putting.{put_components};
 ghost use Rattle.gsl_lower_law_bytes.specs.Apart.{IsOnly, StandsAlone};
 

@@ -1,2 +1,4 @@
 pub mod Parted
 pub mod Served
+pub mod OfLawPlaces
+pub mod OfLawPicks

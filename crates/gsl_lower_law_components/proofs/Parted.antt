@@ -32,18 +32,18 @@ use Rattle.gsl_lower_law.specs.Values.{IsOf, Keeps, Stands}
 use Rattle.gsl_lower_law.proofs.Components.{components_of}
 use Rattle.gsl_lower_law.proofs.Joining.{acts_then, given_does}
 use Rattle.gsl_lower_law.proofs.Picking.{one_word}
-use Rattle.gsl_lower_law_constructors.proofs.Shares.{words_in}
-use Rattle.gsl_lower_law_places.specs.Components.{AreWithin, Chooses, Picks}
-use Rattle.gsl_lower_law_places.specs.Leading.{LeadsTo, NumberEach, Numbers}
-use Rattle.gsl_lower_law_places.specs.Storing.{AreStored, IsVectorType, buffers_with, goes_to}
-use Rattle.gsl_lower_law_places.proofs.Again.{block_big, block_put, block_twice, leads_again}
-use Rattle.gsl_lower_law_places.proofs.Blocks.{block_stores, component_led}
-use Rattle.gsl_lower_law_places.proofs.Chains.{still_number}
-use Rattle.gsl_lower_law_places.proofs.Each.{converted_of, each_grows, one_acts}
-use Rattle.gsl_lower_law_places.proofs.Kept.{front_is}
-use Rattle.gsl_lower_law_places.proofs.Picked.{converted_words}
-use Rattle.gsl_lower_law_places.proofs.Reading.{leads_on, numbers_on, word_converted}
-use Rattle.gsl_lower_law_places.proofs.Stored.{Nothing, put_acts}
+use Rattle.gsl_lower_law_picks.proofs.OfLawConstructors.{words_in}
+use Rattle.gsl_lower_law_picks.specs.OfLawPlaces.{AreWithin, Chooses, Picks}
+use Rattle.gsl_lower_law_picks.specs.OfLawPlaces.{LeadsTo, NumberEach, Numbers}
+use Rattle.gsl_lower_law_picks.specs.OfLawPlaces.{AreStored, IsVectorType, buffers_with, goes_to}
+use Rattle.gsl_lower_law_picks.proofs.OfLawPlaces.{block_big, block_put, block_twice, leads_again}
+use Rattle.gsl_lower_law_picks.proofs.OfLawPlaces.{block_stores, component_led}
+use Rattle.gsl_lower_law_picks.proofs.OfLawPlaces.{still_number}
+use Rattle.gsl_lower_law_picks.proofs.OfLawPlaces.{converted_of, each_grows, one_acts}
+use Rattle.gsl_lower_law_picks.proofs.OfLawPlaces.{front_is}
+use Rattle.gsl_lower_law_picks.proofs.OfLawPlaces.{converted_words}
+use Rattle.gsl_lower_law_picks.proofs.OfLawPlaces.{leads_on, numbers_on, word_converted}
+use Rattle.gsl_lower_law_picks.proofs.OfLawPlaces.{Nothing, put_acts}
 use Rattle.gsl_lower_law_picks.proofs.Outside.{not_one}
 use Rattle.gsl_lower_law_components.specs.Putting.{put_components}
 

@@ -18,12 +18,12 @@ use Rattle.gsl_lower_places.specs.declared.reached.Reached.{Reached}
 use Rattle.gsl_lower_law.specs.Computing.{Acts, Does}
 use Rattle.gsl_lower_law.specs.Operands.{converted_value}
 use Rattle.gsl_lower_law.specs.Values.{IsOf, Stands}
-use Rattle.gsl_lower_law_places.specs.Components.{AreWithin, Chooses, HoldsComponents, Picks}
-use Rattle.gsl_lower_law_places.specs.Leading.{LeadsTo, NumberEach}
-use Rattle.gsl_lower_law_places.specs.Storing.{AreStored, IsVectorType, buffers_with, goes_to}
-use Rattle.gsl_lower_law_places.proofs.Blocks.{component_led}
-use Rattle.gsl_lower_law_places.proofs.Kept.{one_position}
-use Rattle.gsl_lower_law_places.proofs.Stored.{Nothing}
+use Rattle.gsl_lower_law_picks.specs.OfLawPlaces.{AreWithin, Chooses, HoldsComponents, Picks}
+use Rattle.gsl_lower_law_picks.specs.OfLawPlaces.{LeadsTo, NumberEach}
+use Rattle.gsl_lower_law_picks.specs.OfLawPlaces.{AreStored, IsVectorType, buffers_with, goes_to}
+use Rattle.gsl_lower_law_picks.proofs.OfLawPlaces.{component_led}
+use Rattle.gsl_lower_law_picks.proofs.OfLawPlaces.{one_position}
+use Rattle.gsl_lower_law_picks.proofs.OfLawPlaces.{Nothing}
 use Rattle.gsl_lower_law_picks.specs.Serving.{IsAt}
 use Rattle.gsl_lower_law_picks.proofs.Parted.{part_is}
 use Rattle.gsl_lower_law_picks.proofs.Pointed.{leads_nowhere, pointed_gives}

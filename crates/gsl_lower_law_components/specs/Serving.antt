@@ -14,7 +14,7 @@ use Rattle.gsl_lower_places.specs.declared.reached.Reached.{Reached}
 use Rattle.gsl_lower_law.specs.Computing.{Acts}
 use Rattle.gsl_lower_law.specs.Operands.{converted_value}
 use Rattle.gsl_lower_law.specs.Values.{IsOf, Keeps, Stands}
-use Rattle.gsl_lower_law_places.specs.Storing.{buffers_with, goes_to}
+use Rattle.gsl_lower_law_picks.specs.OfLawPlaces.{buffers_with, goes_to}
 use Rattle.gsl_lower_law_components.specs.Putting.{put_components}
 
 -- Whenever ids still stand for the same, what is stored in what was given leaves the words of the components that are picked at an offset of a

@@ -18,9 +18,9 @@ ghost use Rattle.gsl_lower_places.specs.declared.reached.Picked.{Picked};
 ghost use Rattle.gsl_lower_law.specs.Computing.{Acts, Does};
 ghost use Rattle.gsl_lower_law.specs.Operands.{converted_value};
 ghost use Rattle.gsl_lower_law.specs.Values.{IsOf, Stands};
-ghost use Rattle.gsl_lower_law_places.specs.Components.{HoldsComponents, Picks};
-ghost use Rattle.gsl_lower_law_places.specs.Leading.{LeadsTo, NumberEach};
-ghost use Rattle.gsl_lower_law_places.specs.Storing.{AreStored, IsVectorType, buffers_with, goes_to};
+ghost use Rattle.gsl_lower_law_picks.specs.OfLawPlaces.{HoldsComponents, Picks};
+ghost use Rattle.gsl_lower_law_picks.specs.OfLawPlaces.{LeadsTo, NumberEach};
+ghost use Rattle.gsl_lower_law_picks.specs.OfLawPlaces.{AreStored, IsVectorType, buffers_with, goes_to};
 ghost use Rattle.gsl_lower_law_components.specs.Putting.{put_components};
 ghost use Rattle.gsl_lower_law_components.specs.Serving.{Puts};
 

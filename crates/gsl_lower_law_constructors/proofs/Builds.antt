@@ -13,20 +13,20 @@ use Rattle.gsl_values.specs.declared.value.Value.TheVariants.{Word, Many}
 use Rattle.gsl_tree.specs.Operations.{all_components, build_kind, build_value, converted as converted_word, filled, scalar_from, spread, vector_from}
 use Rattle.gsl_tree.specs.Shapes.{Shape, of_shape}
 use Rattle.gsl_tree.specs.Values.{components_in, of_components}
-use Rattle.gsl_machine.specs.State.{Ids, State, Whole}
+use Rattle.gsl_lower_law_operators.specs.OfMachine.{Ids, State, Whole}
 use Rattle.gsl_spv.specs.Sections.{Sections}
 use Rattle.gsl_lower_values.specs.Building.{given}
 use Rattle.gsl_lower_values.specs.Constructors.{as_operand, built, component, construct, filled_with, first_of, in_row, parts, picked, put_together, scalar, vector}
 use Rattle.gsl_lower_values.specs.Operators.{converted}
 use Rattle.gsl_lower_values.specs.declared.operand.Operand.{Operand}
-use Rattle.gsl_lower_law.specs.Computing.{Computes, Does, Grows}
-use Rattle.gsl_lower_law.specs.Operands.{AllStand, converted_value}
-use Rattle.gsl_lower_law.specs.Values.{AreWords, IsOf, Stands, StandEach}
-use Rattle.gsl_lower_law.proofs.Components.{components_of, words_replicated}
-use Rattle.gsl_lower_law.proofs.Gathers.{construct_does, each_stands}
-use Rattle.gsl_lower_law.proofs.Joining.{does_then, given_does}
-use Rattle.gsl_lower_law.proofs.Picking.{one_word, picked_computes}
-use Rattle.gsl_lower_law.proofs.Typed.{typed_grows}
+use Rattle.gsl_lower_law_operators.specs.OfLaw.{Computes, Does, Grows}
+use Rattle.gsl_lower_law_operators.specs.OfLaw.{AllStand, converted_value}
+use Rattle.gsl_lower_law_operators.specs.OfLaw.{AreWords, IsOf, Stands, StandEach}
+use Rattle.gsl_lower_law_operators.proofs.OfLaw.{components_of, words_replicated}
+use Rattle.gsl_lower_law_operators.proofs.OfLaw.{construct_does, each_stands}
+use Rattle.gsl_lower_law_operators.proofs.OfLaw.{does_then, given_does}
+use Rattle.gsl_lower_law_operators.proofs.OfLaw.{one_word, picked_computes}
+use Rattle.gsl_lower_law_operators.proofs.OfLaw.{typed_grows}
 use Rattle.gsl_lower_law_operators.proofs.Conversions.{converted_computes}
 use Rattle.gsl_instr.specs.declared.op.TheConstants as op
 use Rattle.gsl_lower_law_constructors.specs.Supply.{Serve, supplied}

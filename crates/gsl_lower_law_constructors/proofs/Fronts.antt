@@ -7,7 +7,7 @@ use Rattle.gsl_types.specs.declared.ty.Scalar.{Scalar}
 use Rattle.gsl_types.specs.declared.ty.Scalar.TheVariants.{Bool as Boolean, Int, Uint}
 use Rattle.gsl_values.specs.declared.value.Value.TheVariants.{Word, Many}
 use Rattle.gsl_tree.specs.Values.{is_word_of, of_components}
-use Rattle.gsl_lower_law.specs.Values.{AreWords}
+use Rattle.gsl_lower_law_operators.specs.OfLaw.{AreWords}
 
 -- ---- lists
 

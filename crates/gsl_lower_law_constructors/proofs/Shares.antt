@@ -12,18 +12,18 @@ use Rattle.gsl_values.specs.declared.value.Value.{Value}
 use Rattle.gsl_tree.specs.Operations.{all_components, converted as converted_word}
 use Rattle.gsl_tree.specs.Shapes.{Shape}
 use Rattle.gsl_tree.specs.Values.{components_in, of_components}
-use Rattle.gsl_machine.specs.State.{Ids, State, Whole}
+use Rattle.gsl_lower_law_operators.specs.OfMachine.{Ids, State, Whole}
 use Rattle.gsl_spv.specs.Sections.{Sections}
 use Rattle.gsl_lower_values.specs.Building.{Step, given, in_order, ◌>>=◌}
 use Rattle.gsl_lower_values.specs.Constructors.{as_operand, cut, operand, picked, share, shares}
 use Rattle.gsl_lower_values.specs.Operators.{converted}
 use Rattle.gsl_lower_values.specs.declared.operand.Operand.{Operand}
-use Rattle.gsl_lower_law.specs.Computing.{Computes, Does, Grows}
-use Rattle.gsl_lower_law.specs.Operands.{AllStand, converted_value}
-use Rattle.gsl_lower_law.specs.Values.{AreWords, IsOf, Keeps, Stands, StandEach}
-use Rattle.gsl_lower_law.proofs.Components.{components_of, length_replicated}
-use Rattle.gsl_lower_law.proofs.Joining.{does_then, given_does, grows_then}
-use Rattle.gsl_lower_law.proofs.Picking.{picked_computes}
+use Rattle.gsl_lower_law_operators.specs.OfLaw.{Computes, Does, Grows}
+use Rattle.gsl_lower_law_operators.specs.OfLaw.{AllStand, converted_value}
+use Rattle.gsl_lower_law_operators.specs.OfLaw.{AreWords, IsOf, Keeps, Stands, StandEach}
+use Rattle.gsl_lower_law_operators.proofs.OfLaw.{components_of, length_replicated}
+use Rattle.gsl_lower_law_operators.proofs.OfLaw.{does_then, given_does, grows_then}
+use Rattle.gsl_lower_law_operators.proofs.OfLaw.{picked_computes}
 use Rattle.gsl_lower_law_operators.proofs.Conversions.{converted_computes}
 use Rattle.gsl_lower_law_constructors.proofs.Fronts.{front_fits, map_row, picked_front, positions_below, take_row, zeros_fit}
 

@@ -1,1 +1,3 @@
 pub mod Supply
+pub mod OfMachine
+pub mod OfLaw

@@ -6,12 +6,12 @@ ghost use Rattle.gsl_words.specs.declared.module.Module.{Module};
 ghost use Rattle.gsl_values.specs.declared.value.Value.{Value};
 ghost use Rattle.gsl_tree.specs.Operations.{build_value};
 ghost use Rattle.gsl_tree.specs.Shapes.{Shape, of_shape};
-ghost use Rattle.gsl_machine.specs.State.{State};
+ghost use Rattle.gsl_lower_law_operators.specs.OfMachine.{State};
 ghost use Rattle.gsl_spv.specs.Sections.{Sections};
 ghost use Rattle.gsl_lower_values.specs.Constructors.{built};
 ghost use Rattle.gsl_lower_values.specs.declared.operand.Operand.{Operand};
-ghost use Rattle.gsl_lower_law.specs.Computing.{Computes};
-ghost use Rattle.gsl_lower_law.specs.Operands.{AllStand};
+ghost use Rattle.gsl_lower_law_operators.specs.OfLaw.{Computes};
+ghost use Rattle.gsl_lower_law_operators.specs.OfLaw.{AllStand};
 ghost use Rattle.gsl_lower_law_constructors.specs.Supply.{Serve};
 
 /// A constructor of a scalar or vector from arguments that serve all of its components.

@@ -1,3 +1,4 @@
 pub mod Copied
 pub mod Told
 pub mod ToldStructs
+pub mod OfLawPicks

@@ -19,15 +19,15 @@ use Rattle.gsl_lower_values.specs.Types.{type_of}
 use Rattle.gsl_lower_places.specs.Reading.{extracted}
 use Rattle.gsl_lower_leaves.specs.Copies.{all_compared, compared, compared_whole, joined_by, one_more}
 use Rattle.gsl_lower_leaves.specs.declared.leaf.Leaf.{Leaf}
-use Rattle.gsl_lower_law.specs.Computing.{Computes, Grows}
-use Rattle.gsl_lower_law.specs.Operands.{logic_answer}
-use Rattle.gsl_lower_law.specs.Values.{IsOf, Stands}
-use Rattle.gsl_lower_law.proofs.Constants.{scalar_stands}
-use Rattle.gsl_lower_law.proofs.Joining.{does_then, given_does, grows_then}
-use Rattle.gsl_lower_law.proofs.Plain.{IsType, type_does}
-use Rattle.gsl_lower_law_constructors.proofs.Shares.{where_all_stand, zeros_are, zeros_of}
-use Rattle.gsl_lower_law_operators.proofs.Binaries.{binary_computes}
-use Rattle.gsl_lower_law_operators.proofs.Straights.{logical_computes}
+use Rattle.gsl_lower_law_places.specs.OfLaw.{Computes, Grows}
+use Rattle.gsl_lower_law_places.specs.OfLaw.{logic_answer}
+use Rattle.gsl_lower_law_places.specs.OfLaw.{IsOf, Stands}
+use Rattle.gsl_lower_law_places.proofs.OfLaw.{scalar_stands}
+use Rattle.gsl_lower_law_places.proofs.OfLaw.{does_then, given_does, grows_then}
+use Rattle.gsl_lower_law_places.proofs.OfLaw.{IsType, type_does}
+use Rattle.gsl_lower_law_places.proofs.OfLawConstructors.{where_all_stand, zeros_are, zeros_of}
+use Rattle.gsl_lower_law_places.proofs.OfLawOperators.{binary_computes}
+use Rattle.gsl_lower_law_places.proofs.OfLawOperators.{logical_computes}
 use Rattle.gsl_lower_law_places.proofs.Loads.{extracted_does, extracted_grows}
 use Rattle.gsl_lower_law_leaves.specs.Equal.{HasLeaves, leaf_in, same_leaves, told}
 

@@ -20,7 +20,7 @@ use Rattle.gsl_tree.specs.Values.{all_pass, has_parts, has_parts_layer, is_scala
 use Rattle.gsl_compute.proofs.Loops.{member_of_many, same_of_many}
 use Rattle.gsl_lower_leaves.specs.Leaves.{element_leaves, leaves_meaning, within}
 use Rattle.gsl_lower_leaves.specs.declared.leaf.Leaf.{Leaf}
-use Rattle.gsl_lower_law.specs.Values.{AreWords}
+use Rattle.gsl_lower_law_places.specs.OfLaw.{AreWords}
 use Rattle.gsl_lower_law_leaves.specs.Equal.{HasLeaves, leaf_in, same_leaves}
 
 -- What passes a test has these leaves, and two such values are equal where all of them are.

@@ -8,7 +8,7 @@ use Rattle.gsl_tree.specs.Operations.{value_at}
 use Rattle.gsl_tree.specs.Values.{same_value}
 use Rattle.gsl_lower_places.specs.Reading.{number_in}
 use Rattle.gsl_lower_leaves.specs.declared.leaf.Leaf.{Leaf}
-use Rattle.gsl_lower_law.specs.Values.{IsOf}
+use Rattle.gsl_lower_law_places.specs.OfLaw.{IsOf}
 
 -- the scalar or vector to which the numbers of a leaf lead
 abbrev pub leaf_in : Value → Leaf → Value

@@ -16,8 +16,8 @@ ghost use Rattle.gsl_spv.specs.Sections.{Sections};
 ghost use Rattle.gsl_lower_leaves.specs.Copies.{compared_whole};
 ghost use Rattle.gsl_lower_leaves.specs.Leaves.{leaves_of};
 ghost use Rattle.gsl_lower_leaves.specs.declared.leaf.Leaf.{Leaf};
-ghost use Rattle.gsl_lower_law.specs.Computing.{Computes};
-ghost use Rattle.gsl_lower_law.specs.Values.{Stands};
+ghost use Rattle.gsl_lower_law_places.specs.OfLaw.{Computes};
+ghost use Rattle.gsl_lower_law_places.specs.OfLaw.{Stands};
 ghost use Rattle.gsl_lower_law_leaves.specs.Equal.{HasLeaves, same_leaves, told};
 
 /// Whether two values are equal in all of these leaves, or unequal in one of them. No choice is drawn.

@@ -2,3 +2,4 @@ pub mod Sized
 pub mod Laid
 pub mod Vectors
 pub mod Told
+pub mod OfLawBytes

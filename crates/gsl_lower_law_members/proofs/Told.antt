@@ -19,8 +19,8 @@ use Rattle.gsl_meaning.specs.Accesses.{told, told_meaning, told_scalar}
 use Rattle.gsl_lower_law.specs.Operands.{converted_value}
 use Rattle.gsl_lower_law.specs.Values.{IsOf}
 use Rattle.gsl_lower_law_constructors.proofs.Shares.{words_in}
-use Rattle.gsl_lower_law_places.specs.Components.{chosen, picks_of}
-use Rattle.gsl_lower_law_places.proofs.Reading.{component_converted, mapped_length}
+use Rattle.gsl_lower_law_bytes.specs.OfLawPlaces.{chosen, picks_of}
+use Rattle.gsl_lower_law_bytes.proofs.OfLawPlaces.{component_converted, mapped_length}
 
 map_words : (s : Scalar) (ws : List ℕ) → map (told_scalar s) (map Word ws) ≡ map Word (map (converted s) ws)
 map_words s [] = refl

@@ -9,9 +9,9 @@ use Rattle.gsl_valid.specs.Types.{Scalar, defined_as, lanes_in, lanes_with, scal
 use Rattle.gsl_machine.specs.Memory.{bytes_of, parts_as, size_of}
 use Rattle.gsl_machine.specs.State.{InBlock, State}
 use Rattle.gsl_owed.specs.Types.{has_size, lies}
-use Rattle.gsl_lower_law_places.specs.Leading.{StraysFrom}
-use Rattle.gsl_lower_law_places.specs.Storing.{IsVectorType}
-use Rattle.gsl_lower_law_picks.proofs.Along.{block_strays}
+use Rattle.gsl_lower_law_bytes.specs.OfLawPlaces.{StraysFrom}
+use Rattle.gsl_lower_law_bytes.specs.OfLawPlaces.{IsVectorType}
+use Rattle.gsl_lower_law_bytes.proofs.OfLawPicks.{block_strays}
 
 module _ (m : Module) where
   -- a scalar has one component

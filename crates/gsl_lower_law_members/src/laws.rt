@@ -24,9 +24,9 @@ ghost use Rattle.gsl_machine.specs.State.{InBlock, State};
 ghost use Rattle.gsl_owed.specs.Types.{lies};
 ghost use Rattle.gsl_lower_law.specs.Operands.{converted_value};
 ghost use Rattle.gsl_lower_law.specs.Values.{IsOf};
-ghost use Rattle.gsl_lower_law_places.specs.Components.{picks_of};
-ghost use Rattle.gsl_lower_law_places.specs.Leading.{StraysFrom};
-ghost use Rattle.gsl_lower_law_places.specs.Storing.{IsVectorType};
+ghost use Rattle.gsl_lower_law_bytes.specs.OfLawPlaces.{picks_of};
+ghost use Rattle.gsl_lower_law_bytes.specs.OfLawPlaces.{StraysFrom};
+ghost use Rattle.gsl_lower_law_bytes.specs.OfLawPlaces.{IsVectorType};
 ghost use Rattle.gsl_lower_law_members.specs.Parts.{IsRow, laid_as};
 ghost use Rattle.gsl_lower_law_members.specs.Sizes.{size_of};
 

@@ -1,3 +1,5 @@
 pub mod Steps
 pub mod Rows
 pub mod Opened
+pub mod OfLawZeros
+pub mod OfLawEntered

@@ -17,9 +17,9 @@ use Rattle.gsl_values.specs.Word.{word_of_bool}
 use Rattle.gsl_tree.specs.Operations.{binary_value, binary_words, is_signed_scalar, is_true, of_words}
 use Rattle.gsl_tree.specs.Shapes.{flag}
 use Rattle.gsl_tree.specs.Values.{components_in, of_components, same_value}
-use Rattle.gsl_machine.specs.Operations.{unary as one_operand}
-use Rattle.gsl_machine.specs.State.{Ids, State, Whole}
-use Rattle.gsl_spv.specs.Sections.{Sections}
+use Rattle.gsl_lower_law.specs.OfMachine.{unary as one_operand}
+use Rattle.gsl_lower_law.specs.OfMachine.{Ids, State, Whole}
+use Rattle.gsl_lower_law.specs.OfSpv.{Sections}
 use Rattle.gsl_lower_values.specs.Building.{given, Step, ◌>>=◌}
 use Rattle.gsl_lower_values.specs.Operators.{binary, each, joining}
 use Rattle.gsl_lower_values.specs.declared.operand.Operand.{Operand}

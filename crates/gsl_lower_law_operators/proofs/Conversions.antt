@@ -17,9 +17,9 @@ use Rattle.gsl_values.specs.Vectors.{binary_each}
 use Rattle.gsl_tree.specs.Operations.{binary_words, builtin_each, converted as converted_word, of_words}
 use Rattle.gsl_tree.specs.Shapes.{Shape}
 use Rattle.gsl_tree.specs.Values.{components_in, of_components}
-use Rattle.gsl_machine.specs.Operations.{binary as two_operands, select, unary as one_operand}
-use Rattle.gsl_machine.specs.State.{State, Whole, giving_value, on_whole}
-use Rattle.gsl_spv.specs.Sections.{Sections}
+use Rattle.gsl_lower_law.specs.OfMachine.{binary as two_operands, select, unary as one_operand}
+use Rattle.gsl_lower_law.specs.OfMachine.{State, Whole, giving_value, on_whole}
+use Rattle.gsl_lower_law.specs.OfSpv.{Sections}
 use Rattle.gsl_lower_values.specs.Building.{given, giving, Step, ◌>>=◌}
 use Rattle.gsl_lower_values.specs.Operators.{converted, converted_from, numbered, recast, tested}
 use Rattle.gsl_lower_values.specs.Types.{filled_constant, type_of}

@@ -14,9 +14,9 @@ use Rattle.gsl_values.specs.Vectors.{binary_each}
 use Rattle.gsl_tree.specs.Operations.{binary_words, is_signed_scalar, of_words, spread as spread_words}
 use Rattle.gsl_tree.specs.Shapes.{Shape}
 use Rattle.gsl_tree.specs.Values.{components_in, of_components}
-use Rattle.gsl_machine.specs.Operations.{binary as two_operands}
-use Rattle.gsl_machine.specs.State.{Ids, State}
-use Rattle.gsl_spv.specs.Sections.{Sections}
+use Rattle.gsl_lower_law.specs.OfMachine.{binary as two_operands}
+use Rattle.gsl_lower_law.specs.OfMachine.{Ids, State}
+use Rattle.gsl_lower_law.specs.OfSpv.{Sections}
 use Rattle.gsl_lower_values.specs.Building.{giving, ◌>>=◌}
 use Rattle.gsl_lower_values.specs.Operators.{binary_code, each, given_scalar, spread}
 use Rattle.gsl_lower_values.specs.Types.{type_of}

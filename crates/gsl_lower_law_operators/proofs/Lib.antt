@@ -6,3 +6,4 @@ pub mod Binaries
 pub mod Columns
 pub mod Conversions
 pub mod Straights
+pub mod OfLaw

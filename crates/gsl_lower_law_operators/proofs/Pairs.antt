@@ -9,12 +9,12 @@ use Rattle.gsl_values.specs.declared.op.BinaryOp.{BinaryOp}
 use Rattle.gsl_values.specs.declared.op.BinaryOp.TheVariants.{Add, Sub, Mul, Div, Mod, Shl, Shr, And, Or, Xor, Less, LessEq, Greater, GreaterEq, Equal, Unequal}
 use Rattle.gsl_values.specs.declared.value.Value.{Value}
 use Rattle.gsl_tree.specs.Operations.{is_signed_scalar}
-use Rattle.gsl_valid.specs.Ids.{result}
-use Rattle.gsl_valid.specs.Instruction.{read}
-use Rattle.gsl_valid.specs.Kinds.{Gives, kind}
-use Rattle.gsl_machine.specs.Operations.{binary as two_operands, Operator}
-use Rattle.gsl_machine.specs.State.{State, on, on_whole}
-use Rattle.gsl_machine.specs.Steps.{act, drawing, on_two}
+use Rattle.gsl_lower_law.specs.OfValid.{result}
+use Rattle.gsl_lower_law.specs.OfValid.{read}
+use Rattle.gsl_lower_law.specs.OfValid.{Gives, kind}
+use Rattle.gsl_lower_law.specs.OfMachine.{binary as two_operands, Operator}
+use Rattle.gsl_lower_law.specs.OfMachine.{State, on, on_whole}
+use Rattle.gsl_lower_law.specs.OfMachine.{act, drawing, on_two}
 use Rattle.gsl_lower_values.specs.Operators.{binary_code}
 use Rattle.gsl_lower_law.specs.Values.{Stands}
 use Rattle.gsl_lower_law.proofs.Giving.{Performs, with_id}

@@ -21,9 +21,9 @@ use Rattle.gsl_tree.specs.declared.expr.LogicOp.{LogicOp}
 use Rattle.gsl_tree.specs.declared.expr.LogicOp.TheVariants as logic
 use Rattle.gsl_tree.specs.declared.expr.StepOp.{StepOp}
 use Rattle.gsl_tree.specs.declared.expr.StepOp.TheVariants.{PreUp, PreDown, PostUp, PostDown}
-use Rattle.gsl_machine.specs.Operations.{binary as two_operands, select}
-use Rattle.gsl_machine.specs.State.{State}
-use Rattle.gsl_spv.specs.Sections.{Sections}
+use Rattle.gsl_lower_law.specs.OfMachine.{binary as two_operands, select}
+use Rattle.gsl_lower_law.specs.OfMachine.{State}
+use Rattle.gsl_lower_law.specs.OfSpv.{Sections}
 use Rattle.gsl_lower_values.specs.Building.{giving, ◌>>=◌}
 use Rattle.gsl_lower_values.specs.Operators.{logic_code, logical, selected, step_code, stepped}
 use Rattle.gsl_lower_values.specs.Types.{filled_constant, type_of}

@@ -12,8 +12,8 @@ ghost use Rattle.gsl_tree.specs.Operations.{binary_value, builtin_value, is_sign
 ghost use Rattle.gsl_tree.specs.Shapes.{Shape};
 ghost use Rattle.gsl_tree.specs.declared.expr.LogicOp.{LogicOp};
 ghost use Rattle.gsl_tree.specs.declared.expr.StepOp.{StepOp};
-ghost use Rattle.gsl_machine.specs.State.{State};
-ghost use Rattle.gsl_spv.specs.Sections.{Sections};
+ghost use Rattle.gsl_lower_law.specs.OfMachine.{State};
+ghost use Rattle.gsl_lower_law.specs.OfSpv.{Sections};
 ghost use Rattle.gsl_lower_values.specs.Operators.{binary, converted, logical, selected, stepped};
 ghost use Rattle.gsl_lower_values.specs.declared.operand.Operand.{Operand};
 ghost use Rattle.gsl_lower_law.specs.Computing.{Computes};

@@ -30,7 +30,7 @@ use Rattle.gsl_lower_holders.specs.declared.place.FlowPlace.{FlowPlace}
 use Rattle.gsl_lower_needs.specs.declared.need.Need.{Need}
 use Rattle.gsl_lower_follows.specs.Frames.{Name, Global, Interface, Stage, Param, Local, Holder, id_if, id_of}
 use Rattle.gsl_lower_frames.specs.Named.{HasId}
-use Rattle.gsl_lower_law_returns.specs.Calling.{is_own}
+use Rattle.gsl_lower_law_opening.specs.OfLawReturns.{is_own}
 use Rattle.gsl_lower_law_outside.specs.Outside.{HasOuter, IsOuter}
 use Rattle.gsl_lower_law_outside.proofs.Keeping.{there}
 

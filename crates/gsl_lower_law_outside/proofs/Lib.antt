@@ -5,3 +5,6 @@ pub mod Structs
 pub mod Program
 pub mod Variables
 pub mod Held
+pub mod OfLawOpening
+pub mod OfLawEntered
+pub mod OfLawZeros

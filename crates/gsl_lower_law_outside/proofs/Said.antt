@@ -15,7 +15,7 @@ use Rattle.gsl_machine.specs.Constants.{length_by, zeros, zeros_in}
 use Rattle.gsl_spv.specs.Declarations as d
 use Rattle.gsl_spv.specs.Declarations.{defining}
 use Rattle.gsl_lower_text.proofs.Constants.{At}
-use Rattle.gsl_lower_law_zeros.proofs.Said.{zeros_before, zeros_unfold}
+use Rattle.gsl_lower_law_opening.proofs.OfLawZeros.{zeros_before, zeros_unfold}
 
 module _ (m : Module) where
   -- an array's zeros are as many of its element's as the constant of its length says

@@ -40,7 +40,7 @@ use Rattle.gsl_lower_types.specs.Values.{array_of, arrayed, value_type}
 use Rattle.gsl_lower_types.proofs.Adding.{Adds, then_}
 use Rattle.gsl_lower_types.proofs.Finding.{came, never}
 use Rattle.gsl_lower_types.proofs.Steps.{value-Array, value-One, value-Runtime, value-Struct, value-Vector, value-Void}
-use Rattle.gsl_lower_law_zeros.proofs.Said.{scalar_zero, vector_zero}
+use Rattle.gsl_lower_law_opening.proofs.OfLawZeros.{scalar_zero, vector_zero}
 use Rattle.gsl_lower_law_outside.proofs.Keeping.{AllTold, HasZeros, Keeps, Told, aside_keeps, asks_add, declared_anew, extends_declare, given_keeps, interned, interns_add, same_after, same_made, there, told_more, told_of}
 use Rattle.gsl_lower_law_outside.proofs.Said.{array_plain, array_zero, length_said}
 

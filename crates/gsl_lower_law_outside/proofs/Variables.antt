@@ -44,7 +44,7 @@ use Rattle.gsl_lower_types.proofs.Adding.{blocks_add, program_adds, value_adds}
 use Rattle.gsl_lower_types.proofs.Finding.{came}
 use Rattle.gsl_lower_flow.specs.Programs.{built_type, built_types, compute_stages, declared, nothing_laid, place, stage_if, stages, uses, vertex_stages}
 use Rattle.gsl_lower_follows.specs.Frames.{Name, Global, Interface as Passed, Stage, Param, Local, Holder, id_if, id_of}
-use Rattle.gsl_lower_law_returns.specs.Calling.{is_shared}
+use Rattle.gsl_lower_law_opening.specs.OfLawReturns.{is_shared}
 use Rattle.gsl_lower_law_opening.specs.Opening.{AreNew}
 use Rattle.gsl_lower_law_opening.proofs.Rows.{none_new, one_new}
 use Rattle.gsl_lower_law_outside.specs.Outside.{HasOuter, IsOuter}

@@ -14,7 +14,7 @@ use Rattle.gsl_lower_expr.specs.Parts.{stage_number}
 use Rattle.gsl_lower_needs.specs.declared.need.Need.{Need}
 use Rattle.gsl_lower_flow.specs.Programs.{uses}
 use Rattle.gsl_lower_follows.specs.Frames.{Name, id_if, id_of}
-use Rattle.gsl_lower_law_returns.specs.Calling.{is_shared}
+use Rattle.gsl_lower_law_opening.specs.OfLawReturns.{is_shared}
 use Rattle.gsl_lower_law_opening.specs.Opening.{AreNew}
 
 -- An id is that of a variable outside functions which is no block.

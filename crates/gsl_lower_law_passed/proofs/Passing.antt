@@ -10,7 +10,7 @@ use Rattle.gsl_types.specs.declared.ty.Ty.{Ty}
 use Rattle.gsl_words.specs.declared.module.Module.{Module}
 use Rattle.gsl_values.specs.declared.value.Value.{Value}
 use Rattle.gsl_tree.specs.Around.{Around}
-use Rattle.gsl_tree.specs.Shapes.{shape_of}
+use Rattle.gsl_tree.specs.Shapes.{Shape, shape_of}
 use Rattle.gsl_tree.specs.Values.{is_value_of, zero_value}
 use Rattle.gsl_tree.specs.declared.program.Program.{Program}
 use Rattle.gsl_meaning.specs.Accesses.{Access, read as means_read}
@@ -41,7 +41,6 @@ use Rattle.gsl_lower_follows.proofs.Holding.{NowWaits, after_any, after_same, af
 use Rattle.gsl_lower_law_expr.proofs.Operands.{after_less, given_value}
 use Rattle.gsl_lower_law_functions.proofs.Passing.{Passed, still_held}
 use Rattle.gsl_lower_reaching.specs.Reaching.{HasReached, HasStrayed, IsTrail}
-use Rattle.gsl_lower_reaching.specs.Reaching.Start.{OfBlock}
 use Rattle.gsl_lower_reaching.specs.Trails.{IsInside, IsOutside, Trail}
 use Rattle.gsl_lower_reaching.proofs.Moving.{trail_after}
 use Rattle.gsl_lower_stores.specs.OfReads.{IsTested}
@@ -51,7 +50,8 @@ use Rattle.gsl_lower_stores.proofs.OfReads.{adds_reads}
 use Rattle.gsl_lower_stores.proofs.OfReads.{adds_probe, probe_in, probe_out}
 use Rattle.gsl_lower_stores.proofs.OfReads.{read_strays}
 use Rattle.gsl_lower_stores.proofs.OfReads.{taken}
-use Rattle.gsl_lower_law_passed.specs.Arguments.{AllServe, ComesBack, GoesIn, HasZeros, Serves}
+use Rattle.gsl_lower_law_gathered.proofs.Given.{any_strays, any_taken}
+use Rattle.gsl_lower_law_passed.specs.Arguments.{AllServe, ComesBack, GoesIn, HasZeros, KnowsWhole, Serves}
 use Rattle.gsl_lower_law_passed.proofs.Fresh.{AreIds, FreshBy, PartIf, PartIs, PickedIf, does_with, held_fresh}
 use Rattle.gsl_lower_law_passed.proofs.Items.{AreItems, IsItem, Item, back_after, meant_of, way_of, ways_of}
 
@@ -262,7 +262,24 @@ module _ (m : Module) (input : Input) (whole : Sections) (f : Frame m input whol
       abbrev holds : Access → Run ShaderPassed
       holds a = shader_run.told_by {A = ShaderPassed} (λ u. record { value = means_read p.structs x.ty a u; back = Some a })
 
-      module _ (same : e.ty ≡ t) (apart : shape_of e.ty ≡ None → c.start ≡ OfBlock → ⊥) where
+      module _ (same : e.ty ≡ t) (knows : shape_of e.ty ≡ None → KnowsWhole m input whole f p around e.ty) where
+        -- what is there is read, whatever its type
+        any_read : (a : Access) (l : Trail) → IsInside p.structs p.blocks true e.ty a l → (r : Reached) (b : Flow) (s : shader.State) (units : ℕ) (state : State) → Good m input whole f p around b s state → IsTrail m input whole f p around false c.start b state r l
+            → Does m input whole f p 0 units state (HasGiven m input whole f p around false e.ty b state) none_waits (Got (means_read p.structs e.ty a s) s units) (reads p.structs e.ty r b)
+        any_read a l inside r b s units state good is = by (shape_of e.ty) refl
+          where
+            by : (o : Option Shape) → shape_of e.ty ≡ o → Does m input whole f p 0 units state (HasGiven m input whole f p around false e.ty b state) none_waits (Got (means_read p.structs e.ty a s) s units) (reads p.structs e.ty r b)
+            by None none = let k = knows none in any_taken m input whole f p around k.valid k.written k.shaped are k.plain c.start true e.ty c.sound_place (λ composite. (knows composite).values) b s state r l good units a is inside
+            by (Some shape) of = taken m input whole f p around are c.start true e.ty c.sound_place b s state r a l good is inside units (λ none marked. absurd (let z : None ≡ Some shape = sym none ∙ of in cc))
+
+        any_astray : (l : Trail) → IsOutside p.structs p.blocks true e.ty l → (r : Reached) (b : Flow) (s : shader.State) (units : ℕ) (state : State) → Good m input whole f p around b s state → IsTrail m input whole f p around false c.start b state r l
+            → Does m input whole f p 0 units state (λ id later (one : Unit {0}) u last. ⊥) none_waits Strays (reads p.structs e.ty r b)
+        any_astray l outside r b s units state good is = by (shape_of e.ty) refl
+          where
+            by : (o : Option Shape) → shape_of e.ty ≡ o → Does m input whole f p 0 units state (λ id later (one : Unit {0}) u last. ⊥) none_waits Strays (reads p.structs e.ty r b)
+            by None none = let k = knows none in any_strays m input whole f p around k.valid k.written k.shaped are k.plain c.start true e.ty c.sound_place (λ composite. (knows composite).values) b s state r l good units (λ id later (one : Unit {0}) u last. ⊥) is outside
+            by (Some shape) of = read_strays m input whole f p around are c.start true e.ty b s state r l good is outside units (λ id later (one : Unit {0}) u last. ⊥) (λ none marked. absurd (let z : None ≡ Some shape = sym none ∙ of in cc))
+
         both_in : (a : Access) (l : Trail) → IsInside p.structs p.blocks true e.ty a l → (r : Reached) (b : Flow) (s : shader.State) (units : ℕ) (state : State) → Good m input whole f p around b s state → first ≤ b.place.used → IsTrail m input whole f p around false c.start b state r l
             → Does m input whole f p 0 units state (IsPassed false first waits t e x b state) none_waits (holds a s units) (passed_both p.structs waits e.ty r b)
         unfolding passed_both
@@ -270,7 +287,7 @@ module _ (m : Module) (input : Input) (whole : Sections) (f : Frame m input whol
             subst (λ ty. Does m input whole f p 0 units state (IsPassed false first waits t e x b state) none_waits (Got (record { value = means_read p.structs ty a s; back = Some a }) s units) ((reads p.structs e.ty r >>= coming_back waits r) b)) (sym c.meant)
             (does_then m input whole f p 0 units b state (HasGiven m input whole f p around false e.ty b state) none_waits (IsPassed false first waits t e x b state) none_waits (Got (means_read p.structs e.ty a s) s units) (λ v. shader_run.given {A = ShaderPassed} (record { value = v; back = Some a })) (reads p.structs e.ty r b) (coming_back waits r) good.inside
             (adds_reads m input whole p.structs e.ty r b) (adds_coming waits r)
-            (taken m input whole f p around are c.start true e.ty c.sound_place b s state r a l good is inside units apart)
+            (any_read a l inside r b s units state good is)
             (λ id b2 v w rest mid2 within2 more has less2.
             let got = given_value m input whole f p around mid2.ids id e.ty v c.real_place has.given in
             does_so m input whole f p around 0 rest mid2 (IsPassed false first waits t e x b2 mid2) (IsPassed false first waits t e x b state) (Got (record { value = v; back = Some a }) w rest) (coming_back waits r id b2)
@@ -285,7 +302,7 @@ module _ (m : Module) (input : Input) (whole : Sections) (f : Frame m input whol
         both_out l outside r b s units state good is =
             does_then m input whole f p 0 units b state (λ id later (one : Unit {0}) u last. ⊥) none_waits (λ pass later (q : ShaderPassed) u last. ⊥) none_waits Strays (λ (one : Unit {0}) u left. Strays) (reads p.structs e.ty r b) (coming_back waits r) good.inside
             (adds_reads m input whole p.structs e.ty r b) (adds_coming waits r)
-            (read_strays m input whole f p around are c.start true e.ty b s state r l good is outside units (λ id later (one : Unit {0}) u last. ⊥) apart)
+            (any_astray l outside r b s units state good is)
             (λ id b1 one u left mid within grown none less. absurd none)
             (λ id b1 u left mid within grown none less. absurd none)
 
@@ -297,12 +314,12 @@ module _ (m : Module) (input : Input) (whole : Sections) (f : Frame m input whol
     pub adds_one : (way : Direction) → Serves m input whole f p around way t e x → Adds (passing p.structs waits way t e)
     adds_one In g = adds_in g
     adds_one Out (c, z) = adds_then e.reach (passed_out p.structs waits t e.ty) c.leads.adds (adds_out c z)
-    adds_one InOut (c, same, apart) = adds_then e.reach (passed_both p.structs waits e.ty) c.leads.adds (adds_both c)
+    adds_one InOut (c, same, knows) = adds_then e.reach (passed_both p.structs waits e.ty) c.leads.adds (adds_both c)
 
     passes_one : (way : Direction) → Serves m input whole f p around way t e x → Passes way
     passes_one In g = passes_in g
     passes_one Out (c, z) = passes_out c z
-    passes_one InOut (c, same, apart) = passes_both c same apart
+    passes_one InOut (c, same, knows) = passes_both c same knows
 
   -- ---- later on
 

@@ -14,12 +14,16 @@ use Rattle.gsl_tree.specs.Values.{is_value_of, zero_value}
 use Rattle.gsl_tree.specs.declared.program.Program.{Program}
 use Rattle.gsl_meaning.specs.Expressions.{Meant}
 use Rattle.gsl_meaning.specs.Running.{given}
+use Rattle.gsl_valid.specs.Valid.{Valid}
 use Rattle.gsl_spv.specs.Sections.{Sections}
+use Rattle.gsl_typed_law.specs.Plain.{ArePlain}
+use Rattle.gsl_lower_text.specs.Written.{Written}
 use Rattle.gsl_lower_law.specs.Operands.{converted_value}
 use Rattle.gsl_lower_expr.specs.Calls.{zeros}
 use Rattle.gsl_lower_expr.specs.Parts.{Lower, scalar_of}
 use Rattle.gsl_lower_follows.specs.Frames.{Frame}
 use Rattle.gsl_lower_follows.specs.Giving.{GivesValue}
+use Rattle.gsl_lower_law_gathered.specs.Gathering.{AreShaped, HasValues}
 use Rattle.gsl_lower_law_stored.specs.Buffers.{KnowsBuffers}
 use Rattle.gsl_lower_reaching.specs.Reaching.{GivesPlace, Start}
 use Rattle.gsl_lower_reaching.specs.Reaching.Start.{OfBlock}
@@ -49,11 +53,19 @@ module _ (m : Module) (input : Input) (whole : Sections) (f : Frame m input whol
     pub typed : is_value_of p.structs t (zero_value p.structs t) ≡ true
     pub gives : GivesValue m input whole f p around false t (zeros t) (given (zero_value p.structs t))
 
-  -- An argument serves a parameter that is passed so. A struct or an array that is read where it leads is in no block.
+  -- What is known of a module, and of the type of a struct or an array, for it to be read whole, in blocks too.
+  pub record KnowsWhole (t : Ty) : Type 0 where
+    pub valid : Valid m
+    pub written : Written m whole
+    pub shaped : AreShaped m input whole f p around
+    pub plain : ArePlain p.structs
+    pub values : HasValues m p.structs f.place t
+
+  -- An argument serves a parameter that is passed so.
   abbrev pub Serves : Direction → Ty → Lower → Meant → Type 0
   Serves In t e x = GoesIn t e x
   Serves Out t e x = ComesBack t e x × HasZeros t
-  Serves InOut t e x = (c : ComesBack t e x) × (e.ty ≡ t) × (shape_of e.ty ≡ None → c.start ≡ OfBlock → ⊥)
+  Serves InOut t e x = (c : ComesBack t e x) × (e.ty ≡ t) × (shape_of e.ty ≡ None → KnowsWhole e.ty)
 
   -- Arguments serve parameters, in their order.
   abbrev pub AllServe : List (Direction × Ty) → List Lower → List Meant → Type 0

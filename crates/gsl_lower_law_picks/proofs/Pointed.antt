@@ -33,7 +33,7 @@ use Rattle.gsl_lower_law.proofs.Joining.{does_then, given_does, grows_then}
 use Rattle.gsl_lower_law.proofs.Picking.{one_word}
 use Rattle.gsl_lower_law.proofs.Plain.{IsType, type_does}
 use Rattle.gsl_lower_law.proofs.Straying.{strays_before, strays_then}
-use Rattle.gsl_lower_law_constructors.proofs.Shares.{words_in}
+use Rattle.gsl_lower_law_places.proofs.OfLawConstructors.{words_in}
 use Rattle.gsl_lower_law_places.specs.Components.{AreWithin, Chooses, HoldsComponents, Picks, chosen, picks_of}
 use Rattle.gsl_lower_law_places.specs.Leading.{HoldsValue, LeadsTo, NumberEach, Numbers, StraysFrom}
 use Rattle.gsl_lower_law_places.specs.Storing.{AreStored, Stores, goes_to, with_components}

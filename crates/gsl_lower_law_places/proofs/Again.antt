@@ -15,8 +15,8 @@ use Rattle.gsl_valid.specs.Kinds.{shape_of}
 use Rattle.gsl_valid.specs.Types.{defined_as}
 use Rattle.gsl_instr.specs.declared.enumerant.decoration.TheConstants as decoration
 use Rattle.gsl_views.specs.Buffers.{bytes_at, is_at, with_bytes}
-use Rattle.gsl_machine.specs.Memory.{bytes_if, bytes_of, into, into_block, into_variable, is_push, part_as, parts_as, with_bytes_if}
-use Rattle.gsl_machine.specs.State.{Ids, InBlock, InVariable, Outcome, Pointer, State, Strayed, on}
+use Rattle.gsl_lower_law_constructors.specs.OfMachine.{bytes_if, bytes_of, into, into_block, into_variable, is_push, part_as, parts_as, with_bytes_if}
+use Rattle.gsl_lower_law_constructors.specs.OfMachine.{Ids, InBlock, InVariable, Outcome, Pointer, State, Strayed, on}
 use Rattle.gsl_lower_law_places.specs.Leading.{LeadsTo, through}
 use Rattle.gsl_lower_law_places.specs.Storing.{buffers_with}
 use Rattle.gsl_lower_law_places.proofs.Lists.{bytes_put, bytes_twice}

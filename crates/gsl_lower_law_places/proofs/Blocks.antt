@@ -11,9 +11,9 @@ use Rattle.gsl_values.specs.declared.value.Value.{Value}
 use Rattle.gsl_values.specs.declared.value.Value.TheVariants.{Word}
 use Rattle.gsl_tree.specs.Values.{components_in, of_components}
 use Rattle.gsl_views.specs.Buffers.{put_words}
-use Rattle.gsl_machine.specs.Memory.{bytes_of, into_block, part_as, parts_as, with_block, words_at}
-use Rattle.gsl_machine.specs.State.{InBlock, State, Strayed, on}
-use Rattle.gsl_lower_law.proofs.Components.{components_of}
+use Rattle.gsl_lower_law_constructors.specs.OfMachine.{bytes_of, into_block, part_as, parts_as, with_block, words_at}
+use Rattle.gsl_lower_law_constructors.specs.OfMachine.{InBlock, State, Strayed, on}
+use Rattle.gsl_lower_law_constructors.proofs.OfLaw.{components_of}
 use Rattle.gsl_lower_law_places.specs.Components.{HoldsComponents}
 use Rattle.gsl_lower_law_places.specs.Leading.{HoldsValue, LeadsTo}
 use Rattle.gsl_lower_law_places.specs.Storing.{IsVectorType, Stores, buffers_with}

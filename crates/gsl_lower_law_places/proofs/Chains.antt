@@ -7,8 +7,8 @@ use Rattle.gsl_types.specs.declared.ty.Scalar.TheVariants.{Int}
 use Rattle.gsl_words.specs.declared.module.Module.{Module}
 use Rattle.gsl_values.specs.declared.value.Value.TheVariants.{Word, outs-Word}
 use Rattle.gsl_tree.specs.Values.{word_in, word_layer}
-use Rattle.gsl_machine.specs.Memory.{along, into}
-use Rattle.gsl_machine.specs.State.{Going, Held, Ids, Outcome, Pointer, Points, State, Whole, giving, on_pointer, on_whole}
+use Rattle.gsl_lower_law_constructors.specs.OfMachine.{along, into}
+use Rattle.gsl_lower_law_constructors.specs.OfMachine.{Going, Held, Ids, Outcome, Pointer, Points, State, Whole, giving, on_pointer, on_whole}
 use Rattle.gsl_spv.specs.Declarations as d
 use Rattle.gsl_spv.specs.Sections.{Sections}
 use Rattle.gsl_spv.specs.declared.plain.PlainType.TheVariants as plain
@@ -18,12 +18,12 @@ use Rattle.gsl_lower_values.specs.Types.{scalar_constant}
 use Rattle.gsl_lower_places.specs.Reading.{index, indexes, pointer, pointer_type}
 use Rattle.gsl_lower_places.specs.declared.reached.Part.{Part}
 use Rattle.gsl_lower_places.specs.declared.reached.Part.TheVariants.{Fixed, By}
-use Rattle.gsl_lower_law.specs.Computing.{Computes, Does, Grows}
-use Rattle.gsl_lower_law.specs.Values.{Keeps, Stands}
-use Rattle.gsl_lower_law.proofs.Constants.{scalar_stands}
-use Rattle.gsl_lower_law.proofs.Giving.{Yields, giving_grows, yielding_does}
-use Rattle.gsl_lower_law.proofs.Joining.{does_then, given_does, grows_then}
-use Rattle.gsl_lower_law.proofs.Plain.{Any, intern_does}
+use Rattle.gsl_lower_law_constructors.specs.OfLaw.{Computes, Does, Grows}
+use Rattle.gsl_lower_law_constructors.specs.OfLaw.{Keeps, Stands}
+use Rattle.gsl_lower_law_constructors.proofs.OfLaw.{scalar_stands}
+use Rattle.gsl_lower_law_constructors.proofs.OfLaw.{Yields, giving_grows, yielding_does}
+use Rattle.gsl_lower_law_constructors.proofs.OfLaw.{does_then, given_does, grows_then}
+use Rattle.gsl_lower_law_constructors.proofs.OfLaw.{Any, intern_does}
 use Rattle.gsl_lower_law_places.specs.Leading.{LeadsTo, NumberEach, Numbers, through}
 
 -- ids stand for words

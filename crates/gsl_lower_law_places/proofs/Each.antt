@@ -10,7 +10,7 @@ use Rattle.gsl_values.specs.declared.value.Value.{Value}
 use Rattle.gsl_values.specs.declared.value.Value.TheVariants.{Word}
 use Rattle.gsl_tree.specs.Operations.{converted as converted_word}
 use Rattle.gsl_tree.specs.Values.{components_in}
-use Rattle.gsl_machine.specs.State.{Pointer, Points, State}
+use Rattle.gsl_lower_law_constructors.specs.OfMachine.{Pointer, Points, State}
 use Rattle.gsl_spv.specs.Sections.{Sections}
 use Rattle.gsl_spv.proofs.Extending.{extends_same}
 use Rattle.gsl_lower_values.specs.Building.{Step, given}
@@ -20,12 +20,12 @@ use Rattle.gsl_lower_places.specs.Reached.{stored_shape}
 use Rattle.gsl_lower_places.specs.Writing.{each_from, one_at, put_at}
 use Rattle.gsl_lower_places.specs.declared.reached.Part.{Part}
 use Rattle.gsl_lower_places.specs.declared.reached.Part.TheVariants.{Fixed}
-use Rattle.gsl_lower_law.specs.Computing.{Acts, Grows, drawing}
-use Rattle.gsl_lower_law.specs.Operands.{converted_value}
-use Rattle.gsl_lower_law.specs.Values.{AreWords, IsOf, Stands}
-use Rattle.gsl_lower_law.proofs.Joining.{acts_then, grows_then}
-use Rattle.gsl_lower_law.proofs.Picking.{picked_computes}
-use Rattle.gsl_lower_law.proofs.Typed.{typed_grows}
+use Rattle.gsl_lower_law_constructors.specs.OfLaw.{Acts, Grows, drawing}
+use Rattle.gsl_lower_law_constructors.specs.OfLaw.{converted_value}
+use Rattle.gsl_lower_law_constructors.specs.OfLaw.{AreWords, IsOf, Stands}
+use Rattle.gsl_lower_law_constructors.proofs.OfLaw.{acts_then, grows_then}
+use Rattle.gsl_lower_law_constructors.proofs.OfLaw.{picked_computes}
+use Rattle.gsl_lower_law_constructors.proofs.OfLaw.{typed_grows}
 use Rattle.gsl_lower_law_constructors.proofs.Shares.{words_in}
 use Rattle.gsl_lower_law_places.specs.Leading.{LeadsTo, NumberEach}
 use Rattle.gsl_lower_law_places.specs.Storing.{Stores}

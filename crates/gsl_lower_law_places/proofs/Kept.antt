@@ -13,8 +13,8 @@ use Rattle.gsl_values.specs.declared.value.Value.TheVariants.{Word, Many}
 use Rattle.gsl_tree.specs.Operations.{converted as converted_word, member_value, value_at, with_value_at}
 use Rattle.gsl_tree.specs.Shapes.{Shape}
 use Rattle.gsl_tree.specs.Values.{components_in, is_word_of, of_components, parts_in}
-use Rattle.gsl_machine.specs.Memory.{with_variable}
-use Rattle.gsl_machine.specs.State.{Ids, InVariable, Pointer, Points, State, on}
+use Rattle.gsl_lower_law_constructors.specs.OfMachine.{with_variable}
+use Rattle.gsl_lower_law_constructors.specs.OfMachine.{Ids, InVariable, Pointer, Points, State, on}
 use Rattle.gsl_spv.specs.Sections.{Sections}
 use Rattle.gsl_spv.proofs.Extending.{extends_same}
 use Rattle.gsl_lower_values.specs.Building.{given, ◌>>=◌}
@@ -25,12 +25,12 @@ use Rattle.gsl_lower_places.specs.Writing.{each_from, one_at, put_at, put_by, pu
 use Rattle.gsl_lower_places.specs.declared.reached.Base.TheVariants as base
 use Rattle.gsl_lower_places.specs.declared.reached.Part.{Part}
 use Rattle.gsl_lower_places.specs.declared.reached.Picked.{Picked}
-use Rattle.gsl_lower_law.specs.Computing.{Acts, Left}
-use Rattle.gsl_lower_law.specs.Operands.{converted_value}
-use Rattle.gsl_lower_law.specs.Values.{AreWords, IsOf, Keeps, Stands}
-use Rattle.gsl_lower_law.proofs.Components.{components_of}
-use Rattle.gsl_lower_law.proofs.Joining.{acts_then, given_does}
-use Rattle.gsl_lower_law.proofs.Picking.{one_word}
+use Rattle.gsl_lower_law_constructors.specs.OfLaw.{Acts, Left}
+use Rattle.gsl_lower_law_constructors.specs.OfLaw.{converted_value}
+use Rattle.gsl_lower_law_constructors.specs.OfLaw.{AreWords, IsOf, Keeps, Stands}
+use Rattle.gsl_lower_law_constructors.proofs.OfLaw.{components_of}
+use Rattle.gsl_lower_law_constructors.proofs.OfLaw.{acts_then, given_does}
+use Rattle.gsl_lower_law_constructors.proofs.OfLaw.{one_word}
 use Rattle.gsl_lower_law_constructors.proofs.Shares.{words_in}
 use Rattle.gsl_lower_law_places.specs.Components.{AreWithin, Chooses, Picks}
 use Rattle.gsl_lower_law_places.specs.Leading.{LeadsTo, NumberEach, Numbers}

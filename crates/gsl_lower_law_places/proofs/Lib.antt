@@ -10,3 +10,6 @@ pub mod Each
 pub mod Kept
 pub mod Blocks
 pub mod Outside
+pub mod OfLawConstructors
+pub mod OfLaw
+pub mod OfLawOperators

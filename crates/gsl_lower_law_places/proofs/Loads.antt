@@ -7,8 +7,8 @@ use Rattle.gsl_words.specs.declared.module.Module.{Module}
 use Rattle.gsl_values.specs.declared.value.Value.{Value}
 use Rattle.gsl_tree.specs.Operations.{value_at}
 use Rattle.gsl_tree.specs.Shapes.{Shape}
-use Rattle.gsl_machine.specs.Memory.{loading}
-use Rattle.gsl_machine.specs.State.{Pointer, Points, State, giving_value, on_pointer}
+use Rattle.gsl_lower_law_constructors.specs.OfMachine.{loading}
+use Rattle.gsl_lower_law_constructors.specs.OfMachine.{Pointer, Points, State, giving_value, on_pointer}
 use Rattle.gsl_spv.specs.Sections.{Sections}
 use Rattle.gsl_lower_values.specs.Building.{Step, giving, ◌>>=◌}
 use Rattle.gsl_lower_values.specs.Constructors.{operand}
@@ -17,14 +17,14 @@ use Rattle.gsl_lower_values.specs.Types.{type_of}
 use Rattle.gsl_lower_places.specs.Reached.{stored_shape}
 use Rattle.gsl_lower_places.specs.Reading.{extracted, extracted_shape, loaded, number_in, pointer}
 use Rattle.gsl_lower_places.specs.declared.reached.Part.{Part}
-use Rattle.gsl_lower_law.specs.Computing.{Computes, Grows}
-use Rattle.gsl_lower_law.specs.Operands.{converted_value}
-use Rattle.gsl_lower_law.specs.Values.{IsOf, Stands}
-use Rattle.gsl_lower_law.proofs.Giving.{Performs, giving_does, giving_grows}
-use Rattle.gsl_lower_law.proofs.Joining.{does_then, given_does, grows_then}
-use Rattle.gsl_lower_law.proofs.Picking.{takes}
-use Rattle.gsl_lower_law.proofs.Plain.{IsType, type_does}
-use Rattle.gsl_lower_law_operators.proofs.Conversions.{converted_computes}
+use Rattle.gsl_lower_law_constructors.specs.OfLaw.{Computes, Grows}
+use Rattle.gsl_lower_law_constructors.specs.OfLaw.{converted_value}
+use Rattle.gsl_lower_law_constructors.specs.OfLaw.{IsOf, Stands}
+use Rattle.gsl_lower_law_constructors.proofs.OfLaw.{Performs, giving_does, giving_grows}
+use Rattle.gsl_lower_law_constructors.proofs.OfLaw.{does_then, given_does, grows_then}
+use Rattle.gsl_lower_law_constructors.proofs.OfLaw.{takes}
+use Rattle.gsl_lower_law_constructors.proofs.OfLaw.{IsType, type_does}
+use Rattle.gsl_lower_law_constructors.proofs.OfLawOperators.{converted_computes}
 use Rattle.gsl_lower_law_constructors.proofs.Shares.{converted_grows}
 use Rattle.gsl_lower_law_places.specs.Leading.{HoldsValue, LeadsTo, NumberEach}
 use Rattle.gsl_lower_law_places.proofs.Chains.{pointer_does, pointer_grows, still_number}

@@ -6,8 +6,8 @@ use Rattle.gsl_instr.specs.declared.op.TheConstants as op
 use Rattle.gsl_words.specs.declared.module.Module.{Module}
 use Rattle.gsl_values.specs.declared.value.Value.{Value}
 use Rattle.gsl_tree.specs.Shapes.{Shape}
-use Rattle.gsl_machine.specs.Memory.{along}
-use Rattle.gsl_machine.specs.State.{Going, Pointer, Points, State, Strayed, giving, on_pointer}
+use Rattle.gsl_lower_law_constructors.specs.OfMachine.{along}
+use Rattle.gsl_lower_law_constructors.specs.OfMachine.{Going, Pointer, Points, State, Strayed, giving, on_pointer}
 use Rattle.gsl_spv.specs.Sections.{Sections}
 use Rattle.gsl_lower_values.specs.Building.{Step, giving as put_giving, putting, ◌>>=◌}
 use Rattle.gsl_lower_values.specs.Constructors.{operand}
@@ -17,15 +17,15 @@ use Rattle.gsl_lower_places.specs.Reached.{stored_shape}
 use Rattle.gsl_lower_places.specs.Reading.{indexes, loaded, pointer, pointer_type}
 use Rattle.gsl_lower_places.specs.Writing.{in_class, put_at}
 use Rattle.gsl_lower_places.specs.declared.reached.Part.{Part}
-use Rattle.gsl_lower_law.specs.Computing.{Grows, drawing}
-use Rattle.gsl_lower_law.specs.Operands.{converted_value}
-use Rattle.gsl_lower_law.specs.Straying.{Strays}
-use Rattle.gsl_lower_law.specs.Values.{IsOf, Stands}
-use Rattle.gsl_lower_law.proofs.Adding.{extends_put}
-use Rattle.gsl_lower_law.proofs.Giving.{giving_grows}
-use Rattle.gsl_lower_law.proofs.Joining.{grows_then}
-use Rattle.gsl_lower_law.proofs.Plain.{Any, IsType, type_does}
-use Rattle.gsl_lower_law.proofs.Straying.{giving_strays, strays_before, strays_then}
+use Rattle.gsl_lower_law_constructors.specs.OfLaw.{Grows, drawing}
+use Rattle.gsl_lower_law_constructors.specs.OfLaw.{converted_value}
+use Rattle.gsl_lower_law_constructors.specs.OfLaw.{Strays}
+use Rattle.gsl_lower_law_constructors.specs.OfLaw.{IsOf, Stands}
+use Rattle.gsl_lower_law_constructors.proofs.OfLaw.{extends_put}
+use Rattle.gsl_lower_law_constructors.proofs.OfLaw.{giving_grows}
+use Rattle.gsl_lower_law_constructors.proofs.OfLaw.{grows_then}
+use Rattle.gsl_lower_law_constructors.proofs.OfLaw.{Any, IsType, type_does}
+use Rattle.gsl_lower_law_constructors.proofs.OfLaw.{giving_strays, strays_before, strays_then}
 use Rattle.gsl_lower_law_constructors.proofs.Shares.{converted_grows}
 use Rattle.gsl_lower_law_places.specs.Leading.{NumberEach, StraysFrom}
 use Rattle.gsl_lower_law_places.proofs.Chains.{StandForWords, along_through, chain_grows, indexes_do, pointer_grows, pointer_type_does, still_number, still_words}

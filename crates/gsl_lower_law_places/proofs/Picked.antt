@@ -8,17 +8,17 @@ use Rattle.gsl_values.specs.declared.value.Value.{Value}
 use Rattle.gsl_tree.specs.Operations.{converted as converted_word}
 use Rattle.gsl_tree.specs.Shapes.{Shape}
 use Rattle.gsl_tree.specs.Values.{components_in}
-use Rattle.gsl_machine.specs.State.{State}
+use Rattle.gsl_lower_law_constructors.specs.OfMachine.{State}
 use Rattle.gsl_spv.specs.Sections.{Sections}
 use Rattle.gsl_lower_values.specs.Building.{Step, ◌>>=◌}
 use Rattle.gsl_lower_values.specs.Constructors.{operand, picked}
 use Rattle.gsl_lower_values.specs.declared.operand.Operand.{Operand}
-use Rattle.gsl_lower_law.specs.Computing.{Computes, Grows}
-use Rattle.gsl_lower_law.specs.Operands.{converted_value, picked_value}
-use Rattle.gsl_lower_law.specs.Values.{IsOf, Stands}
-use Rattle.gsl_lower_law.proofs.Components.{components_of}
-use Rattle.gsl_lower_law.proofs.Joining.{does_then}
-use Rattle.gsl_lower_law.proofs.Picking.{AreBelow, picked_computes}
+use Rattle.gsl_lower_law_constructors.specs.OfLaw.{Computes, Grows}
+use Rattle.gsl_lower_law_constructors.specs.OfLaw.{converted_value, picked_value}
+use Rattle.gsl_lower_law_constructors.specs.OfLaw.{IsOf, Stands}
+use Rattle.gsl_lower_law_constructors.proofs.OfLaw.{components_of}
+use Rattle.gsl_lower_law_constructors.proofs.OfLaw.{does_then}
+use Rattle.gsl_lower_law_constructors.proofs.OfLaw.{AreBelow, picked_computes}
 use Rattle.gsl_lower_law_constructors.proofs.Shares.{where_all_stand, zeros_are, zeros_of}
 
 -- the words of a converted value

@@ -15,9 +15,9 @@ use Rattle.gsl_values.specs.declared.value.Value.TheVariants.{Word, outs-Many, o
 use Rattle.gsl_tree.specs.Operations.{converted as converted_word, value_at}
 use Rattle.gsl_tree.specs.Shapes.{Shape}
 use Rattle.gsl_tree.specs.Values.{components_in, is_word_of, of_components, parts_in, parts_layer, word_in, word_layer}
-use Rattle.gsl_machine.specs.Memory.{into}
-use Rattle.gsl_machine.specs.State.{Ids, Outcome, Pointer, Points, State, on_whole}
-use Rattle.gsl_machine.specs.Steps.{picking}
+use Rattle.gsl_lower_law_constructors.specs.OfMachine.{into}
+use Rattle.gsl_lower_law_constructors.specs.OfMachine.{Ids, Outcome, Pointer, Points, State, on_whole}
+use Rattle.gsl_lower_law_constructors.specs.OfMachine.{picking}
 use Rattle.gsl_spv.specs.Sections.{Sections}
 use Rattle.gsl_lower_values.specs.Building.{Step, giving, ◌>>=◌}
 use Rattle.gsl_lower_values.specs.Constructors.{operand, picked}
@@ -28,14 +28,14 @@ use Rattle.gsl_lower_places.specs.declared.reached.Base.TheVariants as base
 use Rattle.gsl_lower_places.specs.declared.reached.Part.{Part}
 use Rattle.gsl_lower_places.specs.declared.reached.Part.TheVariants.{Fixed, By}
 use Rattle.gsl_lower_places.specs.declared.reached.Picked.{Picked}
-use Rattle.gsl_lower_law.specs.Computing.{Computes, Grows}
-use Rattle.gsl_lower_law.specs.Operands.{converted_value, picked_value}
-use Rattle.gsl_lower_law.specs.Values.{AreWords, IsOf, Keeps, Stands}
-use Rattle.gsl_lower_law.proofs.Components.{components_of}
-use Rattle.gsl_lower_law.proofs.Giving.{Performs, giving_does, giving_grows}
-use Rattle.gsl_lower_law.proofs.Joining.{does_then, grows_then}
-use Rattle.gsl_lower_law.proofs.Picking.{AreBelow, picked_computes}
-use Rattle.gsl_lower_law.proofs.Plain.{IsType, type_does}
+use Rattle.gsl_lower_law_constructors.specs.OfLaw.{Computes, Grows}
+use Rattle.gsl_lower_law_constructors.specs.OfLaw.{converted_value, picked_value}
+use Rattle.gsl_lower_law_constructors.specs.OfLaw.{AreWords, IsOf, Keeps, Stands}
+use Rattle.gsl_lower_law_constructors.proofs.OfLaw.{components_of}
+use Rattle.gsl_lower_law_constructors.proofs.OfLaw.{Performs, giving_does, giving_grows}
+use Rattle.gsl_lower_law_constructors.proofs.OfLaw.{does_then, grows_then}
+use Rattle.gsl_lower_law_constructors.proofs.OfLaw.{AreBelow, picked_computes}
+use Rattle.gsl_lower_law_constructors.proofs.OfLaw.{IsType, type_does}
 use Rattle.gsl_lower_law_constructors.proofs.Shares.{words_in}
 use Rattle.gsl_lower_law_places.specs.Components.{AreWithin, Chooses, HoldsComponents, Picks, chosen, picks_of}
 use Rattle.gsl_lower_law_places.specs.Leading.{LeadsTo, NumberEach, Numbers, through}

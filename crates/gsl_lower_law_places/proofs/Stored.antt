@@ -7,8 +7,8 @@ use Rattle.gsl_instr.specs.declared.op.TheConstants as op
 use Rattle.gsl_words.specs.declared.module.Module.{Module}
 use Rattle.gsl_values.specs.declared.value.Value.{Value}
 use Rattle.gsl_tree.specs.Shapes.{Shape}
-use Rattle.gsl_machine.specs.Memory.{storing}
-use Rattle.gsl_machine.specs.State.{Going, Ids, Pointer, Points, State, on_pointer, on_whole}
+use Rattle.gsl_lower_law_constructors.specs.OfMachine.{storing}
+use Rattle.gsl_lower_law_constructors.specs.OfMachine.{Going, Ids, Pointer, Points, State, on_pointer, on_whole}
 use Rattle.gsl_spv.specs.Sections.{Sections}
 use Rattle.gsl_lower_values.specs.Building.{Step, putting, ◌>>=◌}
 use Rattle.gsl_lower_values.specs.Constructors.{operand}
@@ -17,15 +17,15 @@ use Rattle.gsl_lower_places.specs.Reached.{stored_shape}
 use Rattle.gsl_lower_places.specs.Reading.{pointer}
 use Rattle.gsl_lower_places.specs.Writing.{in_class, put_at}
 use Rattle.gsl_lower_places.specs.declared.reached.Part.{Part}
-use Rattle.gsl_lower_law.specs.Computing.{Acts, Computes, Grows, Left, drawing}
-use Rattle.gsl_lower_law.specs.Operands.{converted_value}
-use Rattle.gsl_lower_law.specs.Values.{IsOf, Stands}
-use Rattle.gsl_lower_law.proofs.Adding.{extends_put}
-use Rattle.gsl_lower_law.proofs.Joining.{acts_then, grows_then}
-use Rattle.gsl_lower_law.proofs.Plain.{IsType, type_does}
-use Rattle.gsl_lower_law.proofs.Putting.{putting_acts}
+use Rattle.gsl_lower_law_constructors.specs.OfLaw.{Acts, Computes, Grows, Left, drawing}
+use Rattle.gsl_lower_law_constructors.specs.OfLaw.{converted_value}
+use Rattle.gsl_lower_law_constructors.specs.OfLaw.{IsOf, Stands}
+use Rattle.gsl_lower_law_constructors.proofs.OfLaw.{extends_put}
+use Rattle.gsl_lower_law_constructors.proofs.OfLaw.{acts_then, grows_then}
+use Rattle.gsl_lower_law_constructors.proofs.OfLaw.{IsType, type_does}
+use Rattle.gsl_lower_law_constructors.proofs.OfLaw.{putting_acts}
 use Rattle.gsl_lower_law_constructors.proofs.Shares.{converted_grows}
-use Rattle.gsl_lower_law_operators.proofs.Conversions.{converted_computes}
+use Rattle.gsl_lower_law_constructors.proofs.OfLawOperators.{converted_computes}
 use Rattle.gsl_lower_law_places.specs.Leading.{LeadsTo, NumberEach}
 use Rattle.gsl_lower_law_places.specs.Storing.{Stores}
 use Rattle.gsl_lower_law_places.proofs.Chains.{pointer_does, pointer_grows, still_number}

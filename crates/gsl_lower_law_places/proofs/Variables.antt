@@ -9,9 +9,9 @@ use Rattle.gsl_values.specs.declared.value.Value.TheVariants.{Word, outs-Many}
 use Rattle.gsl_tree.specs.Operations.{member_value, value_at}
 use Rattle.gsl_tree.specs.Shapes.{Shape}
 use Rattle.gsl_tree.specs.Values.{components_in, of_components, parts_in, parts_layer}
-use Rattle.gsl_machine.specs.Memory.{into_variable}
-use Rattle.gsl_machine.specs.State.{InVariable, State, Strayed, on}
-use Rattle.gsl_lower_law.specs.Values.{IsOf}
+use Rattle.gsl_lower_law_constructors.specs.OfMachine.{into_variable}
+use Rattle.gsl_lower_law_constructors.specs.OfMachine.{InVariable, State, Strayed, on}
+use Rattle.gsl_lower_law_constructors.specs.OfLaw.{IsOf}
 use Rattle.gsl_lower_law_constructors.proofs.Shares.{words_in}
 use Rattle.gsl_lower_law_places.specs.Components.{HoldsComponents}
 use Rattle.gsl_lower_law_places.specs.Leading.{HoldsValue, LeadsTo}

@@ -6,7 +6,7 @@ use Rattle.gsl_words.specs.declared.module.Module.{Module}
 use Rattle.gsl_values.specs.declared.value.Value.{Value}
 use Rattle.gsl_values.specs.declared.value.Value.TheVariants.{Word}
 use Rattle.gsl_tree.specs.Values.{components_in, of_components}
-use Rattle.gsl_machine.specs.State.{Ids, Pointer, State}
+use Rattle.gsl_lower_law_constructors.specs.OfMachine.{Ids, Pointer, State}
 use Rattle.gsl_lower_places.specs.declared.reached.Part.{Part}
 use Rattle.gsl_lower_places.specs.declared.reached.Picked.{Picked}
 use Rattle.gsl_lower_law_places.specs.Leading.{HoldsValue, LeadsTo, Numbers}

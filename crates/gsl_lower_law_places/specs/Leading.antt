@@ -4,11 +4,11 @@ use Rattle.gsl_base.specs.declared.input.Input.{Input}
 use Rattle.gsl_words.specs.declared.module.Module.{Module}
 use Rattle.gsl_values.specs.declared.value.Value.{Value}
 use Rattle.gsl_values.specs.declared.value.Value.TheVariants.{Word}
-use Rattle.gsl_machine.specs.Memory.{into, loading}
-use Rattle.gsl_machine.specs.State.{Ids, Outcome, Pointer, State, Strayed}
+use Rattle.gsl_lower_law_constructors.specs.OfMachine.{into, loading}
+use Rattle.gsl_lower_law_constructors.specs.OfMachine.{Ids, Outcome, Pointer, State, Strayed}
 use Rattle.gsl_lower_places.specs.declared.reached.Part.{Part}
 use Rattle.gsl_lower_places.specs.declared.reached.Part.TheVariants.{Fixed, By}
-use Rattle.gsl_lower_law.specs.Values.{Stands}
+use Rattle.gsl_lower_law_constructors.specs.OfLaw.{Stands}
 
 -- The number of a part is this word.
 abbrev pub Numbers : Ids → Part → ℕ → Type 0

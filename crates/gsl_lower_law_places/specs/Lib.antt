@@ -1,3 +1,4 @@
 pub mod Leading
 pub mod Components
 pub mod Storing
+pub mod OfLaw

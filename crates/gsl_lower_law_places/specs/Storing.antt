@@ -10,8 +10,8 @@ use Rattle.gsl_valid.specs.Decorations.{number_on}
 use Rattle.gsl_valid.specs.Kinds.{OfVector, shape_of}
 use Rattle.gsl_valid.specs.Placed.{Placed}
 use Rattle.gsl_valid.specs.Types.{defined_as, lanes_of}
-use Rattle.gsl_machine.specs.Memory.{size_of, storing, with_bytes_if}
-use Rattle.gsl_machine.specs.State.{Ids, Outcome, Pointer, State}
+use Rattle.gsl_lower_law_constructors.specs.OfMachine.{size_of, storing, with_bytes_if}
+use Rattle.gsl_lower_law_constructors.specs.OfMachine.{Ids, Outcome, Pointer, State}
 
 -- A value that is stored where a pointer leads leaves these variables and buffers, whatever ids stand for and is still to come.
 abbrev pub Stores : Module → Input → State → Pointer → Value → List Value → List Buffer → Type 0

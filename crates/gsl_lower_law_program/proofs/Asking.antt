@@ -29,7 +29,7 @@ use Rattle.gsl_lower_used.specs.Lowered.{AlongAllLowered, AlongLowered, Througho
 use Rattle.gsl_lower_used.proofs.Within.{body_along, inner_all, inner_along, parts_all, parts_throughout, up_to_all}
 use Rattle.gsl_lower_follows.specs.Frames.{Frame}
 use Rattle.gsl_lower_law_shader.specs.Depths.{AreAsked, AreAskedOf, AsksBelow, AsksBelowFor, MayCall}
-use Rattle.gsl_lower_law_shader.specs.Asked.{AreAskedElseOf, AsksElse, AsksElseFor, IsReadElse}
+use Rattle.gsl_lower_law_shader.specs.Asked.{AreAskedElseOf, AsksElse, AsksElseFor}
 use Rattle.gsl_lower_law_program.proofs.Sounds.{AreKnown, IsAssigned, IsKnown, sound_in}
 
 -- ---- numbers in lists
@@ -176,11 +176,8 @@ module _ (m : Module) (input : Input) (whole : Sections) (p : Program) (place : 
   abbrev Wanted : Expr → Type 0
   Wanted = AsksBelow m input whole p place stages rank below depth f params locals
 
-  abbrev ElseRead : Expr → Type 0
-  ElseRead e = IsReadElse m input whole p place stages depth f params locals e × ThroughoutLowered p.prototypes Else e
-
   one_asked : (e : Expr) (form : ExprKind-F ExprKind Expr) → AllIn May (calls_form May form) → IsAssigned p form → AsksElseFor m input whole p place stages depth f params locals e form → AsksBelowFor m input whole p place stages rank below depth f params locals e form
-  one_asked e (ExprKind-F.Assign a b) all assigned ask = (assigned, ask.0, ask.1)
+  one_asked e (ExprKind-F.Assign a b) all assigned ask = (assigned, ask)
   one_asked e (ExprKind-F.Call number args) all assigned ask = (all number (in_back (flat (map calls_in args)) (number ∷ []) number (or_left (nat_eq number number) false (eq-eqb number number refl))), ask)
   one_asked e form all assigned ask = ask
 
@@ -195,9 +192,9 @@ module _ (m : Module) (input : Input) (whole : Sections) (p : Program) (place : 
     all_asked _ ThroughoutAllLowered.none all known = ThroughoutAllLowered.none
     all_asked _ (ThroughoutAllLowered.more e es ask asks) all (ThroughoutAll.more _ _ known behind) = ThroughoutAllLowered.more e es (asked e ask all.0 known) (all_asked es asks all.1 behind)
 
-  exprs_asked : (es : List Expr) → AllOf May calls_in es → AllByRecursion (Throughout (IsKnown p)) es → AllByRecursion ElseRead es → AllByRecursion (AreAsked m input whole p place stages rank below depth f params locals) es
+  exprs_asked : (es : List Expr) → AllOf May calls_in es → AllByRecursion (Throughout (IsKnown p)) es → AllByRecursion (ThroughoutLowered p.prototypes Else) es → AllByRecursion (AreAsked m input whole p place stages rank below depth f params locals) es
   exprs_asked [] all known asks = tt
-  exprs_asked (e ∷ es) all known asks = (record { sound = sound_in p e known.0; read = asks.0.0; asks = asked e asks.0.1 all.0 known.0 }, exprs_asked es all.1 known.1 asks.1)
+  exprs_asked (e ∷ es) all known asks = (record { sound = sound_in p e known.0; asks = asked e asks.0 all.0 known.0 }, exprs_asked es all.1 known.1 asks.1)
 
   abbrev Elsewhere : Exits → Stmt → Type 0
   Elsewhere = AreAskedElseOf m input whole p place stages depth f params locals

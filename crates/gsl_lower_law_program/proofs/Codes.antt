@@ -18,7 +18,7 @@ use Rattle.gsl_lower_frames.specs.Starting.{local_variables}
 use Rattle.gsl_lower_law_entered.specs.Modules.{Declared, declares, variable_of}
 use Rattle.gsl_lower_law_inner.specs.Inner.{IsInner}
 use Rattle.gsl_lower_law_inner.proofs.Declaring.{goes_on, no_variables}
-use Rattle.gsl_lower_law_opening.specs.Opening.{Taken, ids_taken, takes}
+use Rattle.gsl_lower_law_outside.specs.OfLawOpening.{Taken, ids_taken, takes}
 
 -- ---- lists
 

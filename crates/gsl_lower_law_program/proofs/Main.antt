@@ -18,7 +18,7 @@ use Rattle.gsl_tree.specs.declared.program.Program.{Program}
 use Rattle.gsl_tree.specs.declared.unit.Function.{Function}
 use Rattle.gsl_tree.specs.declared.unit.Prototype.{Prototype}
 use Rattle.gsl_meaning.specs.Shader as shader
-use Rattle.gsl_meaning.specs.Shader.{begins as shader_begins, entered as shader_entered, most_calls}
+use Rattle.gsl_meaning.specs.Shader.{begins as shader_begins, most_calls}
 use Rattle.gsl_meaning.specs.State as shader_state
 use Rattle.gsl_valid.specs.Kinds.{Variable, variable_is}
 use Rattle.gsl_valid.specs.Types.{defined_as}
@@ -47,9 +47,11 @@ use Rattle.gsl_lower_flow.specs.Reaching.{head_of, is_lowered, is_reached, main_
 use Rattle.gsl_link_calls.specs.Calls.{reaches}
 use Rattle.gsl_lower_used.specs.Lowered.{AlongAllLowered, up_to_jump}
 use Rattle.gsl_lower_follows.specs.Frames.{AreTyped, Frame, Global, Good, HasType, Holder, Inside, Interface, Local, Name, Param, Stage, coming, id_of, type_named, value_of}
+use Rattle.gsl_lower_follows.specs.Reached.{Reached}
 use Rattle.gsl_lower_follows.specs.Stretching.{Stretch}
 use Rattle.gsl_lower_follows.proofs.Behind.{faults_behind}
 use Rattle.gsl_lower_follows.proofs.Placing.{coming_is, placed_join, placed_length}
+use Rattle.gsl_lower_follows.proofs.Reached.{reached_start, reached_then}
 use Rattle.gsl_lower_follows.proofs.Stretches.{lasts_behind, stretch_of, stretch_then}
 use Rattle.gsl_lower_frames.specs.Calling.{AreKnown, ArePassed, IsParameter}
 use Rattle.gsl_lower_frames.specs.Named.{HasId, number_at, number_in, seat_in}
@@ -356,6 +358,7 @@ module _ (target : Target) (p : Program) (program : IsProgram p) (nests : MayNes
         outside = λ number none. refl;
       };
       typed = typed_begun;
+      reached = reached_then m input (length opened) there later (subst (Reached m input) starts (reached_start m input valid alike.types alike.fits)) runs;
     }
 
     -- ---- main

@@ -24,7 +24,7 @@ use Rattle.gsl_lower_law_returns.specs.Calling.{is_own}
 use Rattle.gsl_lower_law_entered.specs.Modules.{AreShared, Declared, IsPlaced, variable_of}
 use Rattle.gsl_lower_law_entered.proofs.Framed.{id_shared}
 use Rattle.gsl_lower_law_entered.proofs.Given.{map_there, mapped}
-use Rattle.gsl_lower_law_opening.specs.Opening.{AreNew, HasOpened, ids_declared, ids_taken}
+use Rattle.gsl_lower_law_outside.specs.OfLawOpening.{AreNew, HasOpened, ids_declared, ids_taken}
 use Rattle.gsl_lower_law_outside.specs.Outside.{HasOuter}
 use Rattle.gsl_lower_law_outside.proofs.Held.{outer_held}
 

@@ -32,9 +32,9 @@ use Rattle.gsl_lower_law_inner.specs.Inner.{AllPut, PutsInner, PutsTo}
 use Rattle.gsl_lower_law_inner.proofs.Calls.{calls_inner, puts_zeros}
 use Rattle.gsl_lower_law_inner.proofs.Flows.{puts_given, puts_here, puts_then}
 use Rattle.gsl_lower_law_inner.proofs.Statements.{row_inner}
-use Rattle.gsl_lower_law_opening.specs.Opening.{HasOpened}
-use Rattle.gsl_lower_law_opening.proofs.Opened.{opened}
-use Rattle.gsl_lower_law_opening.proofs.Steps.{same_flow, same_given}
+use Rattle.gsl_lower_law_outside.specs.OfLawOpening.{HasOpened}
+use Rattle.gsl_lower_law_outside.proofs.OfLawOpening.{opened}
+use Rattle.gsl_lower_law_outside.proofs.OfLawOpening.{same_flow, same_given}
 use Rattle.gsl_lower_law_program.proofs.Codes.{code_of, opening_of}
 
 -- ---- inner code

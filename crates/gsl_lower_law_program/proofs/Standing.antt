@@ -22,6 +22,7 @@ use Rattle.gsl_lower_follows.specs.Frames.{Frame}
 use Rattle.gsl_lower_law_entered.specs.Modules.{IsFrame}
 use Rattle.gsl_lower_law_zeros.proofs.Said.{nulls_kept}
 use Rattle.gsl_lower_law_shader.specs.Depths.{AllStand, CallsDo, MayCall, Stands}
+use Rattle.gsl_lower_law_reached.proofs.Typed.{good_typed}
 use Rattle.gsl_lower_law_shader.specs.Typed.{KnowsTypes}
 use Rattle.gsl_lower_law_shader.proofs.Ranked.{ranked_do}
 use Rattle.gsl_lower_law_linked.specs.Nesting.{MayNest}
@@ -66,6 +67,12 @@ module _ (target : Target) (p : Program) (program : IsProgram p) (nests : MayNes
       vectors = λ t composite id is. h.told.vectors t id (known t id is);
       nulls = nulls_kept m flow.sections g.own valid (finished_written flow.sections main p.local_size) of_module.lasting;
       zeros = λ t composite is id found. h.told.zeros t id (known t id found) is.known is.plain;
+      wholes = λ params locals. record {
+        valid = valid;
+        written = finished_written flow.sections main p.local_size;
+        shaped = record { typed = λ state b s good. good_typed m input flow.sections g p (around_body (program_lists p) params locals) b s state good };
+        zeros_are = λ t composite sound plain id found. h.told.zeros t id (known t id found) sound plain;
+      };
     }
       where
         known : (t : Ty) (id : ℕ) → find_type t g.place.composites ≡ Some id → find_type t h.place.composites ≡ Some id

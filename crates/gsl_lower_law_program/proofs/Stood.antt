@@ -40,8 +40,8 @@ use Rattle.gsl_lower_frames.proofs.Starts.{variables_same}
 use Rattle.gsl_lower_law_loops.proofs.Opening.{opens}
 use Rattle.gsl_lower_law_entered.specs.Modules.{AreShared, Declared, Opens}
 use Rattle.gsl_lower_law_entered.proofs.Given.{map_there}
-use Rattle.gsl_lower_law_opening.specs.Opening.{HasOpened, Taken, takes}
-use Rattle.gsl_lower_law_opening.proofs.Steps.{same_flow}
+use Rattle.gsl_lower_law_outside.specs.OfLawOpening.{HasOpened, Taken, takes}
+use Rattle.gsl_lower_law_outside.proofs.OfLawOpening.{same_flow}
 use Rattle.gsl_lower_law_outside.specs.Known.{AreTold}
 use Rattle.gsl_lower_law_outside.specs.Outside.{HasOuter}
 use Rattle.gsl_lower_law_outside.proofs.Program.{declared_told}

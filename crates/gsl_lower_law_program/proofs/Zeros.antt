@@ -25,8 +25,8 @@ use Rattle.gsl_lower_types.proofs.Finding.{came}
 use Rattle.gsl_lower_law_entered.specs.Modules.{Declared}
 use Rattle.gsl_lower_law_zeros.proofs.Given.{zero_is, zero_of}
 use Rattle.gsl_lower_law_zeros.proofs.Said.{null_begins, scalar_zero, vector_zero}
-use Rattle.gsl_lower_law_opening.specs.Opening.{AllHaveZeros, HasZeros}
-use Rattle.gsl_lower_law_opening.proofs.Steps.{same_flow, same_given, step_opens}
+use Rattle.gsl_lower_law_outside.specs.OfLawOpening.{AllHaveZeros, HasZeros}
+use Rattle.gsl_lower_law_outside.proofs.OfLawOpening.{same_flow, same_given, step_opens}
 use Rattle.gsl_lower_law_outside.specs.Known.{AreTold}
 use Rattle.gsl_lower_law_outside.proofs.Keeping.{interned, interns_add, same_after, same_made, there}
 

@@ -1,5 +1,5 @@
 -- Arguments of well typed calls, and what these give.
-use Rattle.std.proofs.Common.{◌≡◌, ◌≢◌, refl, sym, ap, ◌∙◌, subst, inl, inr, ◌⊎◌, ℕ, Bool, true, false, IsTrue, List, [], ◌∷◌, length, map, slice_get, Option, Some}
+use Rattle.std.proofs.Common.{◌≡◌, ◌≢◌, refl, sym, ap, ◌∙◌, subst, inl, inr, ◌⊎◌, ℕ, Bool, true, false, IsTrue, List, [], ◌∷◌, length, map, slice_get, Option, Some, None}
 use Rattle.std.specs.Prelude.{unwrap_or}
 use Rattle.std.specs.List.{AllByRecursion}
 use Rattle.gsl_base.specs.declared.input.Input.{Input}
@@ -47,10 +47,12 @@ use Rattle.gsl_lower_law_names.proofs.Reading.{value_as_it_is}
 use Rattle.gsl_lower_law_returns.specs.Calling.{AreAlike}
 use Rattle.gsl_lower_law_entered.specs.Modules.{IsFrame}
 use Rattle.gsl_lower_law_passed.specs.OfLawFunctions.{FunctionDoes}
-use Rattle.gsl_lower_law_passed.specs.Arguments.{AllServe, ComesBack, GoesIn, HasZeros, Serves}
+use Rattle.gsl_lower_law_passed.specs.OfLawGathered.{HasValues}
+use Rattle.gsl_lower_law_passed.specs.Arguments.{AllServe, ComesBack, GoesIn, HasZeros, KnowsWhole, Serves}
 use Rattle.gsl_lower_law_passed.proofs.Calls.{call_passes}
 use Rattle.gsl_lower_law_zeros.proofs.Given.{zeros_given}
 use Rattle.gsl_lower_reaching.specs.Reaching.{GivesPlace}
+use Rattle.gsl_lower_used.specs.Lowered.{passed as passed_args}
 use Rattle.gsl_lower_law_evaluated.specs.Evaluating.{AllEvaluated, HasValue, IsEvaluated, IsReadWhole, IsTyped, KnowsWhereStored, lowered_in, meant_in}
 use Rattle.gsl_lower_law_evaluated.proofs.Facts.{at_place, plain_real, shaped_real}
 use Rattle.gsl_lower_law_evaluated.proofs.Whole.{call_has_value}
@@ -120,6 +122,9 @@ module _ (m : Module) (input : Input) (whole : Sections) (f : Frame m input whol
   abbrev Is : Expr → Type 0
   Is = IsEvaluated m input whole f p params locals call stage calls
 
+  abbrev Read : Expr → Type 0
+  Read = IsReadWhole m input whole f p params locals call stage calls
+
   zero_is : (t : Ty) → IsVariableType p.structs t → is_value_of p.structs t (zero_value p.structs t) ≡ true
   zero_is t is = zero_typed p.structs types.program.structs (declared_plain p.structs types.program.declared) t is.known is.plain
 
@@ -161,31 +166,48 @@ module _ (m : Module) (input : Input) (whole : Sections) (f : Frame m input whol
   zeros_serve : (t : Ty) → IsVariableType p.structs t → HasZeros m input whole f p around t
   zeros_serve t is = record { typed = zero_is t is; gives = zeros_given m input whole f p around t knows.nulls (λ composite. knows.zeros t composite is) is.known (zero_is t is) }
 
-  serves_one : (way : Direction) (t : Ty) (e : Expr) → IsVariableType p.structs t → IsArgument around way t e → IsPassedBy m input whole f p params locals call stage calls way e → Is e → Serves m input whole f p around way t (low e) (means e)
+  -- a struct or an array of the type of a parameter can be read whole
+  known_whole : (t u : Ty) → IsVariableType p.structs t → u ≡ t → shape_of u ≡ None → KnowsWhole m input whole f p around u
+  known_whole t u is same none =
+      let known = knows.wholes params locals in
+      record {
+        valid = known.valid;
+        written = known.written;
+        shaped = known.shaped;
+        plain = declared_plain p.structs types.program.declared;
+        values = subst (HasValues m p.structs f.place) (sym same) (record { plain = is.plain; zeros_are = λ id found. known.zeros_are t (sym (ap shape_of same) ∙ none) is.known is.plain id found });
+      }
+
+  serves_one : (way : Direction) (t : Ty) (e : Expr) → IsVariableType p.structs t → IsArgument around way t e → IsPassedBy m input whole f p params locals call stage calls way e → Read e → Is e → Serves m input whole f p around way t (low e) (means e)
   unfolding comes_back
-  serves_one In t e is fits passed x = goes_in t e is fits x passed
-  serves_one Out t e is fits passed x = (comes_back t e is (back_of p t (type_of e) is fits.0) fits.1 passed x, zeros_serve t is)
-  serves_one InOut t e is fits passed x = (comes_back t e is (back_of p t (type_of e) is (inl fits.0)) fits.1 passed.0 x, x.typed ∙ fits.0, λ none so. passed.1 (x.start_blocked so) (sym (ap shape_of x.typed) ∙ none))
+  serves_one In t e is fits passed reads x = goes_in t e is fits x reads
+  serves_one Out t e is fits passed reads x = (comes_back t e is (back_of p t (type_of e) is fits.0) fits.1 passed x, zeros_serve t is)
+  serves_one InOut t e is fits passed reads x =
+      let same : (low e).ty ≡ t = x.typed ∙ fits.0 in (
+        comes_back t e is (back_of p t (type_of e) is (inl fits.0)) fits.1 passed x,
+        same,
+        λ none. known_whole t (low e).ty is same none,
+      )
 
   -- ---- all of them
 
-  all_serve : (ps : List (Direction × Ty)) (es : List Expr) → AllByRecursion (λ (param : Direction × Ty). IsVariableType p.structs param.1) ps → AreArguments around ps es → ArePassed m input whole f p params locals call stage calls ps es → AllEvaluated m input whole f p params locals call stage calls es
+  all_serve : (ps : List (Direction × Ty)) (es : List Expr) → AllByRecursion (λ (param : Direction × Ty). IsVariableType p.structs param.1) ps → AreArguments around ps es → ArePassed m input whole f p params locals call stage calls ps es → AllByRecursion Read (passed_args es ps) → AllEvaluated m input whole f p params locals call stage calls es
       → AllServe m input whole f p around ps (map low es) (map means es)
-  all_serve [] [] are fit passed xs = tt
-  all_serve [] (e ∷ es) are fit passed xs = absurd fit
-  all_serve (param ∷ ps) [] are fit passed xs = absurd fit
-  all_serve (param ∷ ps) (e ∷ es) are fit passed xs = (serves_one param.0 param.1 e are.0 fit.0 passed.0 xs.0, all_serve ps es are.1 fit.1 passed.1 xs.1)
+  all_serve [] [] are fit passed reads xs = tt
+  all_serve [] (e ∷ es) are fit passed reads xs = absurd fit
+  all_serve (param ∷ ps) [] are fit passed reads xs = absurd fit
+  all_serve (param ∷ ps) (e ∷ es) are fit passed reads xs = (serves_one param.0 param.1 e are.0 fit.0 passed.0 reads.0 xs.0, all_serve ps es are.1 fit.1 passed.1 reads.1 xs.1)
 
   -- ---- a call
 
   pub call_evaluates : (place : FlowPlace) (stages : List (Option Value)) (globals : Around) (e : Expr) (number function : ℕ) (args : List Expr) → form_of e ≡ ExprKind-F.Call number args → IsNode around e → IsFrame m input whole place stages f → AreAlike around globals → slice_get place.functions number ≡ Some function
-      → ArePassed m input whole f p params locals call stage calls (params_of (slice_get p.prototypes number)) args → ((head : Prototype) → slice_get p.prototypes number ≡ Some head → FunctionDoes m input whole p place stages globals function head.params head.result (calls number)) → AllEvaluated m input whole f p params locals call stage calls args → HasValue m input whole f p params locals call stage calls e
-  call_evaluates place stages globals e number function args form node frame alike there passed does xs =
+      → ArePassed m input whole f p params locals call stage calls (params_of (slice_get p.prototypes number)) args → AllByRecursion Read (passed_args args (params_of (slice_get p.prototypes number))) → ((head : Prototype) → slice_get p.prototypes number ≡ Some head → FunctionDoes m input whole p place stages globals function head.params head.result (calls number)) → AllEvaluated m input whole f p params locals call stage calls args → HasValue m input whole f p params locals call stage calls e
+  call_evaluates place stages globals e number function args form node frame alike there passed reads does xs =
       let is : IsCall around number args (type_of e) = subst (λ x. HasType around x (type_of e)) form node.type in
       let head = is.0 in
       let params_are : params_of (slice_get p.prototypes number) ≡ head.params = ap params_of is.1 in
       let served : AllServe m input whole f p around (params_of (slice_get p.prototypes number)) (map low args) (map means args) =
-      subst (λ ps. AllServe m input whole f p around ps (map low args) (map means args)) (sym params_are) (all_serve head.params args (at_place (IsPrototype p.structs) p.prototypes number head types.program.prototypes is.1).params is.3 (subst (λ ps. ArePassed m input whole f p params locals call stage calls ps args) params_are passed) xs) in
+      subst (λ ps. AllServe m input whole f p around ps (map low args) (map means args)) (sym params_are) (all_serve head.params args (at_place (IsPrototype p.structs) p.prototypes number head types.program.prototypes is.1).params is.3 (subst (λ ps. ArePassed m input whole f p params locals call stage calls ps args) params_are passed) (subst (λ ps. AllByRecursion Read (passed_args args ps)) params_are reads) xs) in
       call_has_value m input whole f p params locals call stage calls e number args types knows.vectors form
       (call_passes m input whole f p around globals place stages setting number function (map low args) (map means args) (type_of e) types.program.structs refl frame there alike served
       (subst (λ ps. FunctionDoes m input whole p place stages globals function ps (type_of e) (calls number)) (sym params_are) (subst (λ t. FunctionDoes m input whole p place stages globals function head.params t (calls number)) is.2 (does head is.1))))

@@ -9,7 +9,7 @@ use Rattle.gsl_values.specs.declared.value.Value.{Value}
 use Rattle.gsl_tree.specs.Around.{Around}
 use Rattle.gsl_tree.specs.Expressions.{IsExpr, IsNode}
 use Rattle.gsl_tree.specs.Statements.{IsBody, IsStep}
-use Rattle.gsl_tree.specs.Trees.{Along, AlongAll, Exits, Placed, Throughout, ThroughoutAll, exprs_of, form_of, outside, with_exits}
+use Rattle.gsl_tree.specs.Trees.{Along, AlongAll, Exits, Placed, exprs_of, form_of, outside, with_exits}
 use Rattle.gsl_tree.specs.WellTyped.{around_body, program_lists}
 use Rattle.gsl_tree.specs.declared.expr.Expr.{Expr}
 use Rattle.gsl_tree.specs.declared.expr.ExprKind.{ExprKind}
@@ -19,11 +19,12 @@ use Rattle.gsl_tree.specs.declared.stmt.Stmt.{Stmt, out-Stmt}
 use Rattle.gsl_meaning.specs.Shader.{calls}
 use Rattle.gsl_spv.specs.Sections.{Sections}
 use Rattle.gsl_lower_holders.specs.declared.place.FlowPlace.{FlowPlace}
-use Rattle.gsl_lower_used.specs.Lowered.{AlongAllLowered, AlongLowered, ThroughoutAllLowered, ThroughoutLowered, lowered_inner, lowered_parts, up_to_jump}
-use Rattle.gsl_lower_used.proofs.Within.{body_along, inner_along, parts_throughout}
+use Rattle.gsl_lower_used.specs.Lowered.{AlongAllLowered, AlongLowered, lowered_inner, lowered_parts, up_to_jump}
+use Rattle.gsl_lower_used.proofs.Within.{body_along, inner_along}
 use Rattle.gsl_lower_follows.specs.Frames.{Frame}
 use Rattle.gsl_lower_law_entered.specs.Modules.{IsFrame}
-use Rattle.gsl_lower_law_evaluated.specs.Evaluating.{Asks, AsksFor, IsTyped}
+use Rattle.gsl_lower_law_evaluated.specs.Evaluating.{Asks, AsksFor, IsReadWhole, IsTyped}
+use Rattle.gsl_lower_law_evaluated.proofs.Unread.{asked_throughout, given_asks}
 use Rattle.gsl_lower_law_shader.specs.Typed.{AsksOf, AsksThroughout, KnowsTypes}
 use Rattle.gsl_lower_law_shader.specs.Depths.{AreAsked, AreAskedOf, AsksBelow, AsksBelowFor, CallsDo, call_of, globals_of, stage_of}
 use Rattle.gsl_lower_law_shader.proofs.Arguments.{call_evaluates}
@@ -39,26 +40,22 @@ module _ (m : Module) (input : Input) (whole : Sections) (p : Program) (place : 
   abbrev Given : Expr → Type 0
   Given = AsksBelow m input whole p place stages rank below depth f params locals
 
-  one_asked : (e : Expr) (form : ExprKind-F ExprKind Expr) → form_of e ≡ form → IsNode around e → AsksBelowFor m input whole p place stages rank below depth f params locals e form
+  abbrev Read : Expr → Type 0
+  Read = IsReadWhole m input whole f p params locals (call_of p) (stage_of p input) (calls p input depth)
+
+  one_asked : (e : Expr) (form : ExprKind-F ExprKind Expr) → form_of e ≡ form → IsNode around e → AsksBelowFor m input whole p place stages rank below depth f params locals e form → AllByRecursion Read (lowered_parts p.prototypes form)
       → AsksFor m input whole f p params locals (call_of p) (stage_of p input) (calls p input depth) e form
-  one_asked e (ExprKind-F.Call number args) is node may = λ xs.
-      call_evaluates m input whole f p params locals (stage_of p input) (calls p input depth) types knows place stages (globals_of p) e number may.0.function args is node of_module (record { globals = refl; interfaces = refl }) may.0.known may.1
+  one_asked e (ExprKind-F.Call number args) is node may reads = λ xs.
+      call_evaluates m input whole f p params locals (stage_of p input) (calls p input depth) types knows place stages (globals_of p) e number may.0.function args is node of_module (record { globals = refl; interfaces = refl }) may.0.known may.1 reads
       (λ head named. lower number may.0.less head may.0.function named may.0.known) xs
-  one_asked e form is node asks = asks
-
-  mutual
-    asked : (e : Expr) → ThroughoutLowered p.prototypes Given e → Throughout (IsNode around) e → ThroughoutLowered p.prototypes Wanted e
-    asked _ (ThroughoutLowered.whole e ask asks) (Throughout.whole _ node parts) =
-        ThroughoutLowered.whole e (one_asked e (form_of e) refl node ask) (all_asked (lowered_parts p.prototypes (form_of e)) asks (parts_throughout p.prototypes (IsNode around) (form_of e) parts))
-
-    all_asked : (es : List Expr) → ThroughoutAllLowered p.prototypes Given es → ThroughoutAll (IsNode around) es → ThroughoutAllLowered p.prototypes Wanted es
-    all_asked _ ThroughoutAllLowered.none nodes = ThroughoutAllLowered.none
-    all_asked _ (ThroughoutAllLowered.more e es ask asks) (ThroughoutAll.more _ _ is rest) = ThroughoutAllLowered.more e es (asked e ask is) (all_asked es asks rest)
+  one_asked e form is node asks reads = given_asks m input whole f p params locals (call_of p) (stage_of p input) (calls p input depth) types knows.vectors (knows.wholes params locals) e form asks reads
 
   exprs_asked : (es : List Expr) → AllByRecursion (IsExpr around) es → AllByRecursion (AreAsked m input whole p place stages rank below depth f params locals) es
       → AllByRecursion (AsksThroughout m input whole f p params locals (call_of p) (stage_of p input) (calls p input depth)) es
   exprs_asked [] are asks = tt
-  exprs_asked (e ∷ es) are asks = (record { sound = asks.0.sound; read = asks.0.read; asks = asked e asks.0.asks are.0 }, exprs_asked es are.1 asks.1)
+  exprs_asked (e ∷ es) are asks =
+      let all = asked_throughout m input whole f p params locals (call_of p) (stage_of p input) (calls p input depth) types knows.vectors (knows.wholes params locals) Given (λ e node ask reads. one_asked e (form_of e) refl node ask reads) e are.0 asks.0.sound asks.0.asks in
+      (record { sound = asks.0.sound; read = all.1; asks = all.0 }, exprs_asked es are.1 asks.1)
 
   module _ (result : Ty) where
     abbrev Wants : Exits → Stmt → Type 0

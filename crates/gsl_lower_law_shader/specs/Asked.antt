@@ -21,7 +21,8 @@ use Rattle.gsl_lower_holders.specs.declared.place.FlowPlace.{FlowPlace}
 use Rattle.gsl_lower_used.specs.Lowered.{AlongAllLowered, ThroughoutLowered, up_to_jump}
 use Rattle.gsl_lower_follows.specs.Frames.{Frame}
 use Rattle.gsl_lower_law_entered.specs.Modules.{IsFrame}
-use Rattle.gsl_lower_law_evaluated.specs.Evaluating.{AsksFor, IsReadWhole, KnowsWhereStored}
+use Rattle.gsl_lower_law_evaluated.specs.Beside.{AsksBesideFor}
+use Rattle.gsl_lower_law_evaluated.specs.Evaluating.{KnowsWhereStored}
 use Rattle.gsl_lower_law_shader.specs.Depths.{ArePassed, call_of, stage_of}
 
 module _ (m : Module) (input : Input) (whole : Sections) (p : Program) (place : FlowPlace) (stages : List (Option Value)) where
@@ -29,18 +30,14 @@ module _ (m : Module) (input : Input) (whole : Sections) (p : Program) (place : 
     -- Of calls it is asked only how their arguments are passed, and of assignments nothing of their types.
     abbrev pub AsksElseFor : Expr → ExprKind-F ExprKind Expr → Type 0
     AsksElseFor e (ExprKind-F.Call number args) = ArePassed m input whole f p params locals (call_of p) (stage_of p input) (calls p input depth) (params_of (slice_get p.prototypes number)) args
-    AsksElseFor e (ExprKind-F.Assign a b) = KnowsWhereStored m input whole f p params locals (call_of p) (stage_of p input) (calls p input depth) a × IsReadWhole m input whole f p params locals (call_of p) (stage_of p input) (calls p input depth) b
-    AsksElseFor e form = AsksFor m input whole f p params locals (call_of p) (stage_of p input) (calls p input depth) e form
+    AsksElseFor e (ExprKind-F.Assign a b) = KnowsWhereStored m input whole f p params locals (call_of p) (stage_of p input) (calls p input depth) a
+    AsksElseFor e form = AsksBesideFor m input whole f p params locals (call_of p) (stage_of p input) (calls p input depth) e form
 
     abbrev pub AsksElse : Expr → Type 0
     AsksElse e = AsksElseFor e (form_of e)
 
-    -- A struct or an array in a block gives its value.
-    abbrev pub IsReadElse : Expr → Type 0
-    IsReadElse = IsReadWhole m input whole f p params locals (call_of p) (stage_of p input) (calls p input depth)
-
     abbrev pub AreAskedElseOf : Exits → Stmt → Type 0
-    AreAskedElseOf exits s = AllByRecursion (λ (e : Expr). IsReadElse e × ThroughoutLowered p.prototypes AsksElse e) (exprs_of (out-Stmt s))
+    AreAskedElseOf exits s = AllByRecursion (ThroughoutLowered p.prototypes AsksElse) (exprs_of (out-Stmt s))
 
   -- What is asked is so of all that is lowered in each of these functions of the program, in each frame of it.
   abbrev pub AllAsked : (Function → Bool) → Type 0

@@ -1,5 +1,5 @@
 -- The functions of a program where they stand in a module, and what their calls do at a depth (GLSL 4.50, 6.1).
-use Rattle.std.specs.Prelude.{◌≡◌, ◌≢◌, ℕ, ◌<◌, true, List, [], ◌∷◌, map, length, slice_get, Option, Some, None}
+use Rattle.std.specs.Prelude.{◌≡◌, ℕ, ◌<◌, List, [], ◌∷◌, map, length, slice_get, Option, Some}
 use Rattle.std.specs.List.{AllByRecursion}
 use Rattle.gsl_base.specs.declared.input.Input.{Input}
 use Rattle.gsl_types.specs.Known.{IsSound}
@@ -9,8 +9,6 @@ use Rattle.gsl_types.specs.declared.ty.Ty.{Ty}
 use Rattle.gsl_words.specs.declared.module.Module.{Module}
 use Rattle.gsl_values.specs.declared.value.Value.{Value}
 use Rattle.gsl_tree.specs.Around.{Around}
-use Rattle.gsl_tree.specs.Paths.{in_block}
-use Rattle.gsl_tree.specs.Shapes.{shape_of}
 use Rattle.gsl_tree.specs.Statements.{IsBody}
 use Rattle.gsl_tree.specs.Trees.{Exits, Throughout, exprs_of, form_of, outside, type_of, with_exits}
 use Rattle.gsl_tree.specs.Weights.{params_of}
@@ -39,7 +37,8 @@ use Rattle.gsl_lower_follows.specs.Frames.{Frame}
 use Rattle.gsl_lower_law_entered.specs.Modules.{IsFrame, IsFunction}
 use Rattle.gsl_lower_law_passed.specs.OfLawFunctions.{bodied}
 use Rattle.gsl_lower_law_passed.specs.OfLawFunctions.{FunctionDoes, IsLowered}
-use Rattle.gsl_lower_law_evaluated.specs.Evaluating.{AsksFor, IsReadWhole, IsTyped, KnowsWhereStored, lowered_in}
+use Rattle.gsl_lower_law_evaluated.specs.Beside.{AsksBesideFor}
+use Rattle.gsl_lower_law_evaluated.specs.Evaluating.{IsTyped, KnowsWhereStored, lowered_in}
 use Rattle.gsl_lower_law_shader.specs.Typed.{KnowsTypes}
 
 -- what calls are lowered to in a program
@@ -62,16 +61,12 @@ body_of p f result = bodied (in_turn (statements_of p f)) (any_leaves (map (λ (
 abbrev pub globals_of : Program → Around
 globals_of p = around_body (program_lists p) [] []
 
--- An expression stands for no struct and no array in a block.
-abbrev pub IsNoWhole : Expr → Type 0
-IsNoWhole e = in_block e ≡ true → shape_of (type_of e) ≢ None
-
 module _ (m : Module) (input : Input) (whole : Sections) (f : Frame m input whole) (p : Program) (params : List (Direction × Ty)) (locals : List Ty) (call : ℕ → List Lower → Ty → Emit ℕ) (stage : StageVar → Value) (calls : Calls) where
-  -- What is asked of an argument by the way in which it is passed: a struct or an array in a block gives its value where that goes in; where one comes back into a block its buffers are known; and none does both.
+  -- What is asked of an argument by the way in which it is passed: where one comes back into a block the buffers of that are known.
   abbrev pub IsPassedBy : Direction → Expr → Type 0
-  IsPassedBy In e = IsReadWhole m input whole f p params locals call stage calls e
+  IsPassedBy In e = Unit {0}
   IsPassedBy Out e = KnowsWhereStored m input whole f p params locals call stage calls e
-  IsPassedBy InOut e = KnowsWhereStored m input whole f p params locals call stage calls e × IsNoWhole e
+  IsPassedBy InOut e = KnowsWhereStored m input whole f p params locals call stage calls e
 
   -- so of the arguments of a call, in their order
   abbrev pub ArePassed : List (Direction × Ty) → List Expr → Type 0
@@ -98,14 +93,13 @@ module _ (m : Module) (input : Input) (whole : Sections) (p : Program) (place : 
     -- What is asked of an expression: of a call that the module has its function, which ranks lower, and of its arguments as they are passed; of all others what is asked of them anywhere.
     abbrev pub AsksBelowFor : Expr → ExprKind-F ExprKind Expr → Type 0
     AsksBelowFor e (ExprKind-F.Call number args) = MayCall rank below number × ArePassed m input whole f p params locals (call_of p) (stage_of p input) (calls p input depth) (params_of (slice_get p.prototypes number)) args
-    AsksBelowFor e form = AsksFor m input whole f p params locals (call_of p) (stage_of p input) (calls p input depth) e form
+    AsksBelowFor e form = AsksBesideFor m input whole f p params locals (call_of p) (stage_of p input) (calls p input depth) e form
 
     abbrev pub AsksBelow : Expr → Type 0
     AsksBelow e = AsksBelowFor e (form_of e)
 
-    -- In an expression all types are those of the program, what is asked of its parts that are lowered is so, and where it is a struct or an array in a block it gives its value.
+    -- In an expression all types are those of the program, and what is asked of its parts that are lowered is so.
     pub record AreAsked (e : Expr) : Type 0 where
-      pub read : IsReadWhole m input whole f p params locals (call_of p) (stage_of p input) (calls p input depth) e
       pub sound : Throughout (λ (part : Expr). IsSound (length p.structs) (type_of part)) e
       pub asks : ThroughoutLowered p.prototypes AsksBelow e
 

@@ -20,6 +20,7 @@ use Rattle.gsl_lower_holders.specs.Flow.{Emit}
 use Rattle.gsl_lower_expr.specs.Parts.{Lower}
 use Rattle.gsl_lower_used.specs.Lowered.{ThroughoutLowered}
 use Rattle.gsl_lower_follows.specs.Frames.{Frame}
+use Rattle.gsl_lower_law_evaluated.specs.Beside.{KnowsWholes}
 use Rattle.gsl_lower_law_evaluated.specs.Evaluating.{Asks, IsReadWhole, NoVectors}
 use Rattle.gsl_lower_law_zeros.specs.Nulls.{KnowsZeros, Nulls}
 
@@ -34,8 +35,9 @@ module _ (m : Module) (input : Input) (whole : Sections) (f : Frame m input whol
   abbrev pub AsksOf : Exits → Stmt → Type 0
   AsksOf exits s = AllByRecursion AsksThroughout (exprs_of (out-Stmt s))
 
--- What a function knows of arrays and structs in the module: none is a vector there, and the zeros of those that variables may have are those of the program.
+-- What a function knows of arrays and structs in the module: none is a vector there, the zeros of those that variables may have are those of the program, and those of blocks can be read whole.
 pub record KnowsTypes (m : Module) (input : Input) (whole : Sections) (f : Frame m input whole) (p : Program) : Type 0 where
   pub vectors : NoVectors m input whole f
   pub nulls : Nulls m whole f.own
   pub zeros : (t : Ty) → shape_of t ≡ None → IsVariableType p.structs t → KnowsZeros m p.structs t f.place
+  pub wholes : (params : List (Direction × Ty)) (locals : List Ty) → KnowsWholes m input whole f p params locals

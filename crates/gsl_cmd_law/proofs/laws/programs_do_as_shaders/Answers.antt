@@ -1,5 +1,0 @@
-use Rattle.gsl_cmd_law.proofs.Doing.{do_as_shaders}
-use Rattle.gsl_cmd_law.proofs.laws.programs_do_as_shaders.Goals as goal
-
-pub returns : goal.returns
-returns c = do_as_shaders

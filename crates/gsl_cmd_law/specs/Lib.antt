@@ -1,3 +1,0 @@
-pub mod Exactly
-pub mod Sizes
-pub mod Reading

@@ -1,0 +1,12 @@
+pub mod Initialised
+pub mod Alike
+pub mod Exactly
+pub mod Types
+pub mod Apart
+pub mod Stages
+pub mod There
+pub mod Asked
+pub mod Blocks
+pub mod Doing
+pub mod Ending
+pub mod OfLawLinked

@@ -1,0 +1,2 @@
+pub mod OfMachine
+pub mod OfLaw
