@@ -1,5 +1,5 @@
 -- What compiling sources answers, from what its parts answered.
-use Rattle.std.proofs.Common.{◌≡◌, ◌<◌, ◌^◌, ◌⊎◌, inl, inr, ℕ, length, arith, ap, ◌∙◌, List, Result, Ok, Err, Option, Some, None, IfOk, IfSome, IfNone, refl, sym, subst}
+use Rattle.std.proofs.Common.{◌≡◌, ◌<◌, ◌≤◌, ◌^◌, inl, inr, ℕ, length, arith, ap, ◌∙◌, List, Result, Ok, Err, Option, Some, None, IfOk, IfSome, IfNone, refl, sym, subst}
 use Rattle.gsl_base.specs.Checked.{Refuses}
 use Rattle.gsl_base.specs.declared.fault.Refusal.{Refusal}
 use Rattle.gsl_base.specs.declared.fault.Refusal.TheVariants as refusal
@@ -21,10 +21,13 @@ use Rattle.gsl_cmd.specs.Lowering.{module_of}
 use Rattle.gsl_valid.specs.Portable.{Portable}
 use Rattle.gsl_valid.specs.Valid.{Valid}
 use Rattle.gsl_cmd.specs.Carries.{Carries}
-use Rattle.gsl_cmd.specs.Verdict.{Accepts, AreOfForm, Compiles, FaultWhere, HasModule, IsOfForm, IsPromised, Makes, MakesLinked, linked_of}
+use Rattle.gsl_cmd.specs.Meant.{KeepsMeaning}
+use Rattle.gsl_cmd.specs.declared.compiling.TheConstants.{MAX_SOURCES}
+use Rattle.gsl_cmd.specs.Verdict.{Accepts, AreOfForm, AreOther, Compiles, FaultWhere, HasModule, IsOfForm, IsPromised, Makes, MakesLinked, linked_of}
 use Rattle.gsl_cmd.specs.Weight.{IsSmall}
 use Rattle.gsl_cmd.proofs.Counts.{statements_light}
 use Rattle.gsl_cmd.proofs.Carried.{program_carries}
+use Rattle.gsl_cmd.proofs.Meant.{other_keeps}
 use Rattle.gsl_cmd.proofs.Sizes.{module_small}
 use Rattle.gsl_cmd.proofs.PortableModule.{module_portable}
 use Rattle.gsl_cmd.proofs.Unique.{one_formed, same_linked}
@@ -55,6 +58,14 @@ module _ (target : Target) (stage : Stage) (sources : List (List ℕ)) where
   its_own : (m : Module) → Accepts target stage sources m → (p : Program) → AreOfForm target stage sources p → m ≡ module_of p
   its_own m accepts p own = has_own accepts.linked m p (subst (λ linked. IsOfForm target stage linked p) (same_linked (sym own.read ∙ accepts.read)) own.formed) accepts.has
 
+  -- where they give another program it keeps the meaning of that
+  has_meaning : (linked : Linked) (m : Module) → length sources ≤ MAX_SOURCES → linked_of stage sources ≡ Ok linked → ((p : Program) → IsOfForm target stage linked p → ⊥) → HasModule target stage linked m → KeepsMeaning m linked
+  has_meaning linked m few read none (inl (p, formed, same)) = absurd (none p formed)
+  has_meaning linked m few read none (inr other) = other_keeps target stage sources linked m few read other
+
+  its_meaning : (m : Module) → Accepts target stage sources m → length sources ≤ MAX_SOURCES → (linked : Linked) → AreOther target stage sources linked → KeepsMeaning m linked
+  its_meaning m accepts few linked other = has_meaning linked m few other.read other.unformed (subst (λ l. HasModule target stage l m) (same_linked (sym accepts.read ∙ other.read)) accepts.has)
+
   -- it is as is promised
   pub promised : (m : Module) → Accepts target stage sources m → IsPromised target stage sources m
   promised m accepts = record {
@@ -62,6 +73,7 @@ module _ (target : Target) (stage : Stage) (sources : List (List ℕ)) where
     carries = λ p own. subst (λ (x : Module). Carries x p) (sym (its_own m accepts p own)) (program_carries p own.formed.spelled.fits);
     small = λ p own. subst (λ (x : Module). IsSmall x p) (sym (its_own m accepts p own)) (module_small p own.formed.spelled.fits);
     portable = λ p own. subst Portable (sym (its_own m accepts p own)) (module_portable p own.formed.spelled.fits);
+    meant = its_meaning m accepts;
   }
 
   -- the file of their module is this

@@ -46,4 +46,6 @@ pub mod Among
 pub mod Lookups
 pub mod Carried
 pub mod All
+pub mod Linking
+pub mod Meant
 pub mod Compiled

@@ -1,4 +1,5 @@
 pub mod Lowering
+pub mod Meant
 pub mod Verdict
 pub mod Texts
 pub mod Targets

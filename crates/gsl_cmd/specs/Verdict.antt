@@ -1,5 +1,5 @@
 -- What the rules say of the sources of a stage: they give one module, or they have one first fault.
-use Rattle.std.specs.Prelude.{◌≡◌, ◌⊎◌, ℕ, ◌+◌, List, [], ◌∷◌, ◌++◌, length, Option, Some, None, Result, Ok, Err, nat_lt, if◌then◌else◌}
+use Rattle.std.specs.Prelude.{◌≡◌, ◌⊎◌, ℕ, ◌+◌, ◌≤◌, List, [], ◌∷◌, ◌++◌, length, Option, Some, None, Result, Ok, Err, nat_lt, if◌then◌else◌}
 use Rattle.gsl_base.specs.declared.stage.Stage.{Stage}
 use Rattle.gsl_base.specs.declared.stage.Stage.TheVariants.{Compute}
 use Rattle.gsl_base.specs.declared.fault.Code.{Code}
@@ -23,11 +23,12 @@ use Rattle.gsl_words.specs.declared.module.Module.{Module}
 use Rattle.gsl_words.specs.declared.target.Target.{Target}
 use Rattle.gsl_words.specs.declared.target.Target.TheVariants.{V10}
 use Rattle.gsl_words.specs.Bytes.{bytes_of}
-use Rattle.gsl_cmd.specs.declared.compiling.TheConstants.{MAX_SOURCE_BYTES}
+use Rattle.gsl_cmd.specs.declared.compiling.TheConstants.{MAX_SOURCE_BYTES, MAX_SOURCES}
 use Rattle.gsl_form.specs.declared.program.Program.{Program}
 use Rattle.gsl_form.specs.Trees.{Spells}
 use Rattle.gsl_cmd.specs.Lowering.{module_of}
 use Rattle.gsl_cmd.specs.Carries.{Carries}
+use Rattle.gsl_cmd.specs.Meant.{KeepsMeaning}
 use Rattle.gsl_cmd.specs.Weight.{IsSmall}
 use Rattle.gsl_valid.specs.Portable.{Portable}
 use Rattle.gsl_valid.specs.Valid.{Valid}
@@ -144,13 +145,19 @@ Makes target stage sources (Ok m) = Accepts target stage sources m
 Makes target stage sources (Err (refusal.Source fault)) = FirstFault target stage sources fault
 Makes target stage sources (Err refusal.Memory) = Unit {0}
 
--- What is promised of the module of sources: it is valid; and where they give a program of the form it carries the program, is small for it
--- and is one that other consumers take.
+-- The sources give this program, which is not of the form.
+pub record AreOther (target : Target) (stage : Stage) (sources : List (List ℕ)) (linked : Linked) : Type 0 where
+  pub read : linked_of stage sources ≡ Ok linked
+  pub unformed : (p : Program) → IsOfForm target stage linked p → ⊥
+
+-- What is promised of the module of sources: it is valid; where they give a program of the form it carries the program, is small for it
+-- and is one that other consumers take; and where they give any other program, as many sources as may be, it keeps the meaning of the program.
 pub record IsPromised (target : Target) (stage : Stage) (sources : List (List ℕ)) (m : Module) : Type 0 where
   pub valid : Valid m
   pub carries : (p : Program) → AreOfForm target stage sources p → Carries m p
   pub small : (p : Program) → AreOfForm target stage sources p → IsSmall m p
   pub portable : (p : Program) → AreOfForm target stage sources p → Portable m
+  pub meant : length sources ≤ MAX_SOURCES → (linked : Linked) → AreOther target stage sources linked → KeepsMeaning m linked
 
 -- What compiling the sources answers: the file of their module, which is as is promised; or their first fault.
 abbrev pub Compiles : Target → Stage → List (List ℕ) → Result (List ℕ) Refusal → Type 0

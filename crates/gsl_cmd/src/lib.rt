@@ -8,6 +8,7 @@
 //! says what that comes to.
 #![tactic(auto)]
 
+mod agreeing;
 mod checking;
 mod code;
 mod command;
@@ -22,6 +23,10 @@ mod stop;
 mod text;
 mod validity;
 
+pub use agreeing::{
+    compiled_modules_do_as_shaders, lowered_modules_do_as_shaders, programs_of_sources_are_linked,
+    runs_list_what_shaders_give,
+};
 pub use command::{glsl_main, read_sources};
 pub use compiling::{MAX_SOURCE_BYTES, MAX_SOURCES, compile, compile_for, linked};
 pub use gsl_manifest::{
